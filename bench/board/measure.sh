@@ -104,7 +104,7 @@ board_echoes() { # WORK
     if lwip_sources "$work"; then
         board_lwip "$work"
     else
-        echo "lwIP's sources can't be had by apt-get: its rows are left out"
+        echo "lwIP's sources aren't available by apt-get: its rows are skipped"
     fi
 }
 

@@ -15,7 +15,7 @@ ether_row() { # WORK NAME PROGRAM
     local work=$1 name=$2 program=$3 said file row="| $2 |"
     rm -f "$work"/counts.*
     said=$(valgrind --tool=callgrind "--callgrind-out-file=$work/counts" "$work/$program" 2> "$work/valgrind.log")
-    [[ " $said" != *" 0 "*" 0"* ]] || { echo "$name doesn't answer all" >&2; return 1; }
+    [[ " $said" != *" 0 "*" 0"* ]] || { echo "$name doesn't reply to all" >&2; return 1; }
     for file in $(ls "$work"/counts.* | sort -t. -k2n); do
         row+=" $(awk '/^summary:|^totals:/ {total = $2} END {printf "%d", total / 200}' "$file" |
             sed ':a;s/\B[0-9]\{3\}\>/,&/;ta') |"
@@ -33,7 +33,7 @@ measure_ether() { # WORK
     ether_row "$work" "the bare stack" bare
     ether_program "$work" host -DETHER "$bench/board/bench.c" "$work/lib/libbsdudp.a"
     ether_row "$work" "the host" host
-    lwip_sources "$work" || { echo "lwIP's sources can't be had by apt-get: its rows are left out"; return 0; }
+    lwip_sources "$work" || { echo "lwIP's sources aren't available by apt-get: its rows are skipped"; return 0; }
     core=$LWIP/src/core
     for file in def inet_chksum init ip mem memp netif pbuf stats timeouts udp \
         ipv4/{ip4,ip4_addr,ip4_frag,icmp,etharp} ../netif/ethernet; do

@@ -8,7 +8,7 @@ measure_packets() { # WORK
         build_lwip "$1" lwip "${lwip_best[@]}"
         more=(-DPACKETS_LWIP "$1/liblwip.so")
     else
-        echo "lwIP's sources can't be had by apt-get: lwIP is left out"
+        echo "lwIP's sources aren't available by apt-get: lwIP is skipped"
     fi
     build_bench "$1" packets bench_c "${more[@]}"
     print_tables "$1" packets

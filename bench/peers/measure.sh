@@ -24,7 +24,7 @@ lwip_best=("${lwip_fast[@]}" -DPEERS_SUM -DPEERS_POOLS)
 # its heap, which is its best build.
 measure_peers() { # WORK
     if ! lwip_sources "$1"; then
-        echo "skipped: lwIP's sources can't be had by apt-get"
+        echo "skipped: lwIP's sources aren't available by apt-get"
         return
     fi
     build_lwip "$1" lwip_O2 -O2

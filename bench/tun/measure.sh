@@ -27,7 +27,7 @@ measure_tun() { # WORK
         build_lwip_echo "$1" lwip_O3 -O3 -march=x86-64-v2 -flto -DLWIP_NOASSERT -DPEERS_SUM
         hosts+=("lwIP -O2=$1/lwip_O2" "lwIP -O3 -flto, no asserts, a sum by SSE2=$1/lwip_O3")
     else
-        echo "lwIP's sources can't be had by apt-get: lwIP is left out"
+        echo "lwIP's sources aren't available by apt-get: lwIP is skipped"
     fi
     "${CC:-gcc}" "${flags[@]}" -o "$1/bench" "$bench/tun/bench.c"
     "$1/bench" "${hosts[@]}"

@@ -110,7 +110,7 @@ def arp():
     check(it.neighbours == [bsdudp.Neighbour(ip_of(2), mac_of(2), KEPT, 0)], f"neighbours: {it.neighbours}")
     # a request for another address gets no reply, and its sender isn't learnt
     it.receive(asks(3, ip_of(2)))
-    check(given(it) == [] and len(it.neighbours) == 1, "a request for another host was answered, or taught something")
+    check(given(it) == [] and len(it.neighbours) == 1, "a request for another host got a reply, or changed the table")
     # an ARP packet for another host changes only known entries (RFC 826, "Packet Reception")
     other = ARP(op=2, hwsrc=mac_of(4), psrc=ip_of(4), hwdst=mac_of(9), pdst=ip_of(9))
     it.receive(Ether(dst=ALL, src=mac_of(4)) / other)
@@ -119,7 +119,7 @@ def arp():
     check(it.neighbours[0].mac == mac_of(9), "a neighbour's new hardware address wasn't learnt")
     # a probe (RFC 5227) has no sender address, and gets a reply
     it.receive(Ether(dst=ALL, src=mac_of(5)) / ARP(op=1, hwsrc=mac_of(5), psrc="0.0.0.0", hwdst=NOBODY, pdst=OWN_IP))
-    check([Ether(frame)[ARP].op for frame in given(it)] == [2], "a probe isn't answered")
+    check([Ether(frame)[ARP].op for frame in given(it)] == [2], "a probe gets no reply")
     check(len(it.neighbours) == 1, "a probe was learnt")
     # another host claims the address
     it.receive(Ether(dst=ALL, src=mac_of(6)) / ARP(op=1, hwsrc=mac_of(6), psrc=OWN_IP, hwdst=NOBODY, pdst=OWN_IP))
@@ -143,9 +143,9 @@ def claims():
     it.receive(Ether(dst=OWN_MAC, src=mac_of(6)) / claim)
     try:
         check(not it.uses_address, "an address that another host has is used")
-        raise AssertionError("another host's claim isn't told")
+        raise AssertionError("another host's claim isn't reported")
     except OSError as fault:
-        check(fault.errno == errno.EADDRINUSE, f"another host's claim is told as {fault}")
+        check(fault.errno == errno.EADDRINUSE, f"another host's claim is reported as {fault}")
     it.tick(100)
     it.receive(asks(2))
     check(given(it) == [], "a host without an address sends")
@@ -230,7 +230,7 @@ def ping():
     ]
     for frame in silent:
         it.receive(frame)
-        check(given(it) == [], f"this was answered: {frame.summary()}")
+        check(given(it) == [], f"this got a reply: {frame.summary()}")
 
 
 def unreachable():
@@ -244,13 +244,13 @@ def unreachable():
         wanted = bytes(Ether(dst=mac_of(2), src=OWN_MAC) / answer)
         check(given(it) == [wanted], f"port unreachable for {length} bytes isn't scapy's")
     it.receive(Ether(dst=ALL, src=mac_of(2)) / IP(src=ip_of(2), dst="10.0.255.255") / UDP(sport=5, dport=CLOSED))
-    check(given(it) == [], "a broadcast was answered with port unreachable")
+    check(given(it) == [], "a broadcast got a port unreachable")
     it.tick()
     answered = 0
     for _ in range(UNREACHABLE_A_TICK + 2):
         it.receive(from_near(2, UDP(sport=5, dport=CLOSED)))
         answered += len(given(it))
-    check(answered == UNREACHABLE_A_TICK and it.tallies.limited == 2, f"{answered} were told in one tick")
+    check(answered == UNREACHABLE_A_TICK and it.tallies.limited == 2, f"{answered} were sent in one tick")
 
 
 def reported():
@@ -291,20 +291,20 @@ def truncations():
     for name, frame in whole.items():
         for cut in range(len(frame)):
             it.receive(frame[:cut])
-            check(given(it) == [], f"an {name} cut to {cut} bytes was answered")
+            check(given(it) == [], f"an {name} cut to {cut} bytes got a reply")
     check([n.ip for n in it.neighbours] == [ip_of(2)], "a cut ARP packet taught something")
     for cut in range(28):
         message = bytes(ICMP(type=8, id=1, seq=2) / bytes(range(20)))[:cut]
         it.receive(from_near(2, message, proto=1))
-        check(given(it) == [], f"an ICMP message cut to {cut} bytes was answered")
+        check(given(it) == [], f"an ICMP message cut to {cut} bytes got a reply")
         # with a corrected checksum, a message with a whole head is a shorter request
         it.receive(from_near(2, ICMP(type=8, id=1, seq=2) / bytes(range(cut))))
-        check(len(given(it)) == 1, f"an echo request of {cut} bytes wasn't answered")
+        check(len(given(it)) == 1, f"an echo request of {cut} bytes got no reply")
     for at in range(14, 22):
         frame = bytearray(whole["request"])
         frame[at] ^= 0x55
         it.receive(bytes(frame))
-        check(given(it) == [] and len(it.neighbours) == 1, f"ARP with another byte {at} was answered or learnt")
+        check(given(it) == [] and len(it.neighbours) == 1, f"ARP with another byte {at} got a reply or was learnt")
 
 
 def hundred():
@@ -312,7 +312,7 @@ def hundred():
     it, socket = host()
     everyone = range(2, 102)
     knows(it, *everyone)
-    check([n.ip for n in it.neighbours] == [ip_of(n) for n in everyone[-TABLE:]], "not the 32 that were heard last")
+    check([n.ip for n in it.neighbours] == [ip_of(n) for n in everyone[-TABLE:]], "not the 32 most recent ones")
     rng = random.Random(3)
     order = list(everyone) * 3
     rng.shuffle(order)
@@ -321,7 +321,7 @@ def hundred():
         data = rng.randbytes(rng.randrange(1400))
         frames = echoed(it, socket, n, data)
         if not is_known:
-            check(frames == [own_request(n)], f"forgotten neighbour {n} isn't asked for")
+            check(frames == [own_request(n)], f"forgotten neighbour {n} isn't requested")
             it.receive(replies(n))
             frames = given(it)
         check(len(frames) == 1 and carries(frames[0], n, data), f"the echo to neighbour {n} is wrong")

@@ -31,7 +31,7 @@ IP_MTU_DISCOVER = 10
 def has(tool, what):
     if shutil.which(tool):
         return True
-    print(f"ethernet: no {tool}: {what} is left out")
+    print(f"ethernet: no {tool}: {what} is skipped")
     return False
 
 
@@ -98,7 +98,7 @@ def known(relay):
         said = run("arping", "-c", "2", "-w", str(WAIT), "-I", "lin0", HOST)
         check("Received 2 response" in said, f"arping: {said.strip().splitlines()[-1]}")
         said = run("arping", "-D", "-c", "1", "-w", str(WAIT), "-I", "lin0", HOST)
-        check("Received 1 response" in said, "a probe of the host's address isn't answered")
+        check("Received 1 response" in said, "a probe of the host's address gets no reply")
     del relay
 
 
@@ -122,7 +122,7 @@ def datagrams(relay):
         except TimeoutError:
             pass
     del relay
-    raise Fault("Linux isn't told that no socket has a port")
+    raise Fault("Linux gets no port unreachable")
 
 
 def moved(relay):
@@ -141,7 +141,7 @@ def moved(relay):
             break
         time.sleep(0.05)
     to = gave[0][:6].hex(":") if gave else "nowhere"
-    check(to == LINUX_MAC, f"the host sends to {to}, and not to the hardware address that it heard last")
+    check(to == LINUX_MAC, f"the host sends to {to}, and not to the latest hardware address")
     relay.loses = lambda frame: False
     if has("arping", "an announcement"):
         run("arping", "-c", "1", "-U", "-I", "lin0", "10.0.0.2")
@@ -254,7 +254,7 @@ def bridged(program):
         # a broadcast reaches both, and each echoes it
         it.sendto(b"both", ("10.0.0.255", ECHO))
         came = {it.recvfrom(100)[1][0] for _ in words}
-        check(came == set(words), f"a broadcast was answered by {sorted(came)}")
+        check(came == set(words), f"a broadcast got replies from {sorted(came)}")
         near = run("ip", "neigh", "show", "dev", "br0")
         check(all(mac in near for mac in words.values()), "Linux doesn't know both hosts")
 

@@ -130,7 +130,7 @@ def by_pcap(program, name, room):
     written = played(program, source, room, source.with_suffix(".stdout").read_text(encoding="ascii"))
     wanted = echoes(source)
     if not wanted or list(datagrams(packets(written))) != wanted:
-        raise Wrong(f"pcap answers {name}.pcap otherwise")
+        raise Wrong(f"pcap replies otherwise to {name}.pcap")
     read_by_tshark(written, len(wanted))
     return [packet for _, packet in packets(written)]
 
@@ -165,7 +165,7 @@ def by_links(program, room, wanted):
         write(source, link, [(1, frame) for frame in frames])
         read_by_link(source, len(heard))
         if [packet for _, packet in packets(played(program, source, room, counted))] != wanted:
-            raise Wrong(f"pcap answers {source.name} otherwise than ethernet.pcap")
+            raise Wrong(f"pcap replies otherwise to {source.name} than to ethernet.pcap")
     source = pathlib.Path(room, "other.pcap")
     write(source, 105, [(1, heard[0])])  # IEEE 802.11
     refused = subprocess.run([program, source, "/dev/null", "10.0.0.1", "10.0.0.255"], capture_output=True, check=False)
@@ -207,9 +207,9 @@ def by_tun_echo(program, name, wanted):
                 while (came := link.recvfrom(65536))[1][2] == socket.PACKET_OUTGOING or came[0][9] != 17:
                     pass
                 if came[0] != one:
-                    raise Wrong(f"tun_echo answers {name}.pcap otherwise than pcap")
+                    raise Wrong(f"tun_echo replies otherwise to {name}.pcap than pcap")
         except TimeoutError:
-            raise Wrong(f"tun_echo doesn't answer all of {name}.pcap") from None
+            raise Wrong(f"tun_echo doesn't reply to all of {name}.pcap") from None
         finally:
             host.send_signal(signal.SIGTERM)
 

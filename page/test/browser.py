@@ -36,7 +36,7 @@ START, END = 120, 1200
 
 
 def give_up(_number, _frame):
-    raise RuntimeError("Chromium doesn't answer")
+    raise RuntimeError("Chromium doesn't reply")
 
 
 class Browser:

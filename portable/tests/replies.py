@@ -60,7 +60,7 @@ def differences(scripts, got, wanted):
         return next(at for at, (here, there) in enumerate(pairs, 1) if here != there or not here)
 
     told = zip(scripts, got, wanted)
-    return [f"{name}: line {line_of(it, want)} is answered otherwise" for (name, *_), it, want in told if it != want]
+    return [f"{name}: line {line_of(it, want)} has another reply" for (name, *_), it, want in told if it != want]
 
 
 class Random(argparse.Action):
@@ -83,7 +83,7 @@ def add_random(parser):
 def main():
     parser = command_line.parser(__doc__)
     add_random(parser)
-    words = command_line.with_command(parser, "DRIVER", "a driver with its words, and others behind a word + each")
+    words = command_line.with_command(parser, "DRIVER", "a driver with its arguments, and others, each after a +")
     drivers = [list(it) for same, it in itertools.groupby(words.command, lambda word: word != "+") if same]
     scripts, wanted = chosen(*words.random)
     with concurrent.futures.ThreadPoolExecutor(len(drivers)) as pool:

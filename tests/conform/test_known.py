@@ -61,7 +61,7 @@ def test_peer(name, deviates, peers):
     if not (peers / name).exists():
         said = (peers / "said").read_text(encoding="utf-8")
         assert "doesn't compile" not in said, said
-        pytest.skip(f"its source can't be had by apt-get here: {said.strip()}")
+        pytest.skip(f"its source isn't available by apt-get here: {said.strip()}")
     deviates(name, "--", peers / name)
 
 

@@ -10,8 +10,8 @@
 //     n0 -------------- n1
 //        point-to-point
 //
-// The lines that differ are marked: they install the stack. It prints what comes and goes, and the
-// counters of both nodes.
+// The lines that differ are marked: they install the stack. It prints the packets sent and
+// received, and the counters of both nodes.
 
 #include "ns3/applications-module.h"
 #include "ns3/bsdudp-module.h"
@@ -43,7 +43,7 @@ main(int argc, char* argv[])
     pointToPoint.SetChannelAttribute("Delay", StringValue("2ms"));
     NetDeviceContainer devices = pointToPoint.Install(nodes);
 
-    // in the place of InternetStackHelper and Ipv4AddressHelper::Assign
+    // instead of InternetStackHelper and Ipv4AddressHelper::Assign
     Ipv4AddressHelper address("10.1.1.0", "255.255.255.0");
     BsdudpStackContainer stacks = BsdudpHelper().Install(nodes, devices, address);
 

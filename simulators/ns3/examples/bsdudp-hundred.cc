@@ -4,9 +4,9 @@
  * SPDX-License-Identifier: BSD-2-Clause
  */
 
-// A hundred nodes on one channel that loses packets: each sends datagrams, which are cut into
-// fragments, to the node half way round. It prints how many came and what a loss of this kind
-// leaves: of a datagram of k packets (1 - loss)^k.
+// A hundred nodes on one channel that loses packets: each sends datagrams, which are fragmented, to
+// the node half way round. It prints how many arrived and the expected share: (1 - loss)^k for a
+// datagram of k packets.
 //
 // The devices are ns3::SimpleNetDevice with PointToPointMode, so that no ARP is needed: every node
 // receives every packet, and counts those for others in ip.cantforward.

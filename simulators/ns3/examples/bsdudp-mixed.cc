@@ -4,13 +4,13 @@
  * SPDX-License-Identifier: BSD-2-Clause
  */
 
-// bsdudp beside ns-3's own stack, both ways: each node asks the other one for echoes.
+// bsdudp and ns-3's own stack, in both directions: each node sends echo requests to the other one.
 //
 //      10.1.1.1          10.1.1.2
 //     n0 ---------------- n1
 //     bsdudp              ns-3's own
 //
-// One Ipv4AddressHelper gives both their addresses. Each packet that bsdudp drops is told with its
+// One Ipv4AddressHelper assigns both addresses. Each packet that bsdudp drops is printed with its
 // cause: try --loss=0.1 --size=4000.
 
 #include "ns3/applications-module.h"
@@ -27,7 +27,7 @@ using namespace ns3;
 namespace
 {
 
-/// How many echoes came back to each node.
+/// How many echoes each node received.
 uint32_t g_back[2] = {0, 0};
 
 void

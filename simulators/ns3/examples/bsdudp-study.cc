@@ -4,9 +4,9 @@
  * SPDX-License-Identifier: BSD-2-Clause
  */
 
-// A study: how many datagrams come through, by their length and by the loss of packets, over bsdudp
-// and over ns-3's own stack, beside the law (1 - loss)^k for a datagram of k packets. It prints a
-// table, of which bsdudp-study.py makes a plot:
+// A study: how many datagrams arrive, by their length and by the loss of packets, with bsdudp and
+// with ns-3's own stack, compared with the law (1 - loss)^k for a datagram of k packets. It prints
+// a table that bsdudp-study.py plots:
 //
 //     ./bsdudp-study > study.csv && python3 bsdudp-study.py study.csv study.png
 
@@ -25,7 +25,7 @@ using namespace ns3;
 namespace
 {
 
-/// How many datagrams of a length come from one node to another.
+/// How many datagrams of a length arrive from one node at another.
 uint64_t
 Receive(bool ours, uint32_t size, double loss, uint32_t count, uint32_t seed)
 {

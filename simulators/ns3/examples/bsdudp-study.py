@@ -1,6 +1,6 @@
 #!/usr/bin/env python3
-"""Plots the table that bsdudp-study prints: a mark for each measured share of datagrams that came through, and a line
-for the law."""
+"""Plots the table that bsdudp-study prints: a mark for each measured share of datagrams that arrived, and a line for
+the law."""
 import argparse
 import csv
 

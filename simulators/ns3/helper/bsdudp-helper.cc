@@ -17,8 +17,8 @@ namespace ns3
 namespace
 {
 
-/// The mask of an Ipv4AddressHelper, which has no call for it: two networks that follow one another
-/// are as far apart as each has addresses.
+/// The mask of an Ipv4AddressHelper, which has no call for it: the distance between two consecutive
+/// networks is the number of addresses in each.
 Ipv4Mask
 GetMask(Ipv4AddressHelper addresses)
 {

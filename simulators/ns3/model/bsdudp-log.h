@@ -17,7 +17,7 @@ namespace ns3
  */
 LogComponent& GetBsdudpLog();
 
-/// The name that ns-3's macros for logging go by.
+/// The name that ns-3's macros for logging use.
 [[maybe_unused]] static LogComponent& g_log = GetBsdudpLog();
 
 } // namespace ns3

@@ -16,7 +16,7 @@ namespace ns3
 /**
  * \ingroup bsdudp
  *
- * \brief A node's UdpSocketFactory: applications that create sockets by it get sockets of its
+ * \brief A node's UdpSocketFactory: applications that create sockets with it get sockets of its
  * BsdudpStack.
  */
 class BsdudpSocketFactory : public UdpSocketFactory
@@ -34,9 +34,8 @@ class BsdudpSocketFactory : public UdpSocketFactory
 /**
  * \ingroup bsdudp
  *
- * \brief Takes the place of the factory of TCP, which the stack doesn't have: an application that
- * creates a TCP socket (BulkSendApplication) ends the program with a message, not with a null
- * pointer.
+ * \brief Replaces the factory of TCP, which the stack doesn't have: an application that creates a
+ * TCP socket (BulkSendApplication) ends the program with a message, not with a null pointer.
  */
 class BsdudpNoTcp : public TcpSocketFactory
 {
@@ -53,7 +52,8 @@ class BsdudpNoTcp : public TcpSocketFactory
 /**
  * \ingroup bsdudp
  *
- * \brief Stands for the factory of raw sockets, which the stack hasn't, in the same way (V4Ping).
+ * \brief Replaces the factory of raw sockets, which the stack doesn't have, in the same way
+ * (V4Ping).
  */
 class BsdudpNoRaw : public Ipv4RawSocketFactory
 {

@@ -23,10 +23,10 @@ NS_OBJECT_ENSURE_REGISTERED(BsdudpSocket);
 namespace
 {
 
-/// What a queue holds, which nothing changes.
+/// The size of a queue, which is fixed.
 constexpr uint32_t QUEUE_BYTES = 41600;
 
-/// The library's address of an IPv4 address, which each caller has asked IsMatchingType.
+/// The library's address for an IPv4 address. Each caller has checked it with IsMatchingType.
 bsdudp_addr
 ToLibrary(const Address& address)
 {
@@ -214,7 +214,7 @@ BsdudpSocket::ShutdownSend()
 int
 BsdudpSocket::ShutdownRecv()
 {
-    // as in 4.4BSD, what waits is lost
+    // as in 4.4BSD, waiting datagrams are lost
     m_shutdownRecv = true;
     Flush();
     return Note(0);

@@ -21,7 +21,7 @@ namespace ns3
  *
  * \brief A UDP socket of a BsdudpStack.
  *
- * It behaves like a socket of 4.4BSD where ns-3's own is more lenient: a second Bind() and a
+ * It follows 4.4BSD in cases where ns-3's own sockets are more lenient: a second Bind() and a
  * SendTo() on a connected socket fail, the longest datagram has 9,216 bytes, and if a datagram is
  * longer than the buffer, the rest is lost. A queue holds 41,600 bytes.
  *
@@ -43,8 +43,8 @@ namespace ns3
  * socket; it never receives anything and takes no descriptor. For any other address the call fails
  * with ERROR_AFNOSUPPORT.
  *
- * Time to live and type of service are always 64 and 0, whatever the socket or a tag says, and
- * there is no multicast. The attributes of UdpSocket are accepted and change nothing.
+ * Time to live and type of service are always 64 and 0, regardless of the socket or a tag, and
+ * there is no multicast. The attributes of UdpSocket are accepted and have no effect.
  */
 class BsdudpSocket : public UdpSocket
 {
@@ -118,10 +118,10 @@ class BsdudpSocket : public UdpSocket
     void Open(Ptr<BsdudpStack> stack);
 
     /**
-     * \brief Notes a datagram that came by the stack's last call, if there is one.
-     * \param packet the ns-3 packet in which its data are, null if there is none
+     * \brief Records a datagram that the stack's last call delivered, if there is one.
+     * \param packet the ns-3 packet that contains its data, or null
      * \param start the offset at which they begin in it
-     * \return whether one came that can be read
+     * \return whether a datagram arrived that can be read
      */
     bool NoteArrival(Ptr<const Packet> packet, uint32_t start);
 
@@ -136,7 +136,7 @@ class BsdudpSocket : public UdpSocket
 
     /**
      * \brief Stores the error of a result of the library.
-     * \param answer the result
+     * \param answer the library's result
      * \return 0, or -1 if the call failed: GetErrno() returns the error
      */
     int Note(int answer) const;

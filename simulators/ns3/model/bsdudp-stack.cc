@@ -36,14 +36,14 @@ GetBsdudpLog()
 namespace
 {
 
-/// The MTUs that the library takes.
+/// The MTUs that the library accepts.
 constexpr uint16_t LEAST_MTU = 68;
 constexpr uint16_t GREATEST_MTU = BSDUDP_TX_ROOM;
 
 /// The bytes of a UDP header.
 constexpr uint32_t UDP_LENGTH = 8;
 
-/// The number of a counter; BSDUDP_COUNTERS if there is none of this name.
+/// The number of a counter; BSDUDP_COUNTERS if no counter has this name.
 uint32_t
 FindCounter(const std::string& name)
 {
@@ -55,7 +55,7 @@ FindCounter(const std::string& name)
     return i;
 }
 
-/// Bytes that a call is given or gives. They're read before anything else is called.
+/// A buffer for the bytes of a call. They're read before the next call.
 std::vector<uint8_t>&
 GetRoom(std::size_t length)
 {
@@ -293,8 +293,8 @@ BsdudpStack::Send(int fd, const bsdudp_addr* to, Ptr<Packet> packet)
     {
         Transmit(it);
     }
-    // as by ns-3's own loopback device, so that two sockets of a node don't call each other deeper
-    // and deeper
+    // as in ns-3's own loopback device, so that two sockets of a node don't call each other
+    // recursively
     for (const auto& socket : readers)
     {
         Simulator::ScheduleNow(&BsdudpSocket::Wake, socket);
@@ -365,7 +365,7 @@ void
 BsdudpStack::Transmit(Ptr<Packet> packet)
 {
     m_txTrace(packet);
-    // the device may change a packet that it takes
+    // the device may change a packet that it accepts
     if (!m_device->Send(packet, m_device->GetBroadcast(), Ipv4L3Protocol::PROT_NUMBER))
     {
         NS_LOG_INFO("the device refused a packet of " << packet->GetSize() << " bytes");
@@ -386,7 +386,7 @@ BsdudpStack::Receive(Ptr<NetDevice> device,
     const uint32_t length = std::min<uint32_t>(packet->GetSize(), BSDUDP_PACKET);
     std::vector<uint8_t>& room = GetRoom(length);
     packet->CopyData(room.data(), length);
-    // a header that the library refuses may say anything: then no counter of fragments goes up
+    // a header that the library refuses may have any fields: then no counter of fragments increases
     if (length < BsdudpHeader::LENGTH)
     {
         std::fill_n(room.begin() + length, BsdudpHeader::LENGTH - length, 0);
@@ -488,7 +488,7 @@ BsdudpStack::Settle(Ptr<const Packet> packet, const Before& before)
         const Counts counts = ReadCounts();
         for (uint32_t i = 0; i < COUNTERS; i++)
         {
-            // those that are given up aren't this packet's
+            // expired ones don't belong to this packet
             if (counts[i] != before.counts[i] && bsdudp_counter_cause(i) != nullptr &&
                 i != reclaimed)
             {
@@ -524,7 +524,7 @@ BsdudpStack::ScheduleTick()
         return;
     }
     // at a multiple of the tick since the start: a datagram waits as long as if ticks never paused,
-    // since one that finds nothing unfinished changes nothing
+    // because a tick without unfinished datagrams changes nothing
     const int64_t tick = m_tick.GetTimeStep();
     const int64_t passed = (Simulator::Now() - m_start).GetTimeStep() % tick;
     m_tickEvent = Simulator::Schedule(TimeStep(tick - passed), &BsdudpStack::Tick, this);

@@ -42,13 +42,13 @@ class Socket;
  *
  * \brief A stack of libbsdudp on one device of a node.
  *
- * It takes the IPv4 packets that the device receives and gives the device those that leave.
+ * It receives the IPv4 packets of the device and passes the device those that leave.
  * Sockets come from CreateSocket(), which the node's UdpSocketFactory calls. Ticks are events only
  * while fragments of a datagram wait for others, so that a simulation ends by itself.
  *
- * What a packet or a call does here is what libbsdudp does. The bytes on the link and those that a
- * socket reads are always the library's. An ns-3 packet carries them only if it has exactly these
- * bytes, and so brings its tags along.
+ * Packets and calls have the effects of libbsdudp. The bytes on the link and those that a socket
+ * reads are always the library's. An ns-3 packet carries them, with its tags, only if it has
+ * exactly these bytes.
  */
 class BsdudpStack : public Object
 {
@@ -72,7 +72,8 @@ class BsdudpStack : public Object
      * \brief Why a device can't have a stack.
      *
      * Links whose devices need ARP (CSMA, Wi-Fi) aren't supported: a stack has IPv4 packets and no
-     * Ethernet frames. Neither are MTUs that the library doesn't take, and a device without a node.
+     * Ethernet frames. Neither are MTUs that the library doesn't accept, and a device without a
+     * node.
      *
      * \param device the device
      * \return the reason in words, empty if it can
@@ -191,7 +192,7 @@ class BsdudpStack : public Object
     };
 
     /**
-     * \brief Sends a datagram and gives the device what leaves.
+     * \brief Sends a datagram and passes its packets to the device.
      * \param fd the descriptor of the socket
      * \param to where to, null for the peer
      * \param packet the data
@@ -200,13 +201,13 @@ class BsdudpStack : public Object
     int Send(int fd, const bsdudp_addr* to, Ptr<Packet> packet);
 
     /**
-     * \brief A packet came: the node's handler of IPv4.
+     * \brief A packet arrived: the node's handler of IPv4.
      * \param device the device
      * \param packet the packet, from its IPv4 header on
      * \param protocol IPv4
      * \param from the sender's link address
-     * \param to the link address that it went to
-     * \param type for whom the frame was
+     * \param to the link address of its destination
+     * \param type the kind of its destination
      */
     void Receive(Ptr<NetDevice> device,
                  Ptr<const Packet> packet,
@@ -215,7 +216,7 @@ class BsdudpStack : public Object
                  const Address& to,
                  NetDevice::PacketType type);
 
-    /// Half a second passed, or whatever the attribute Tick says.
+    /// The time of the attribute Tick passed, half a second by default.
     void Tick();
 
     /// Schedules the next tick if a datagram waits for fragments and none is scheduled.
@@ -231,7 +232,7 @@ class BsdudpStack : public Object
     static bool HasBytes(Ptr<const Packet> packet, const uint8_t* bytes, uint32_t length);
 
     /**
-     * \brief Makes the ns-3 packet of a packet that leaves.
+     * \brief Makes the ns-3 packet for a packet that leaves.
      * \param datagram the data with their UDP header; it's used up if the packet is all of it
      * \param bytes the packet's bytes
      * \param length how many there are
@@ -248,16 +249,16 @@ class BsdudpStack : public Object
     std::vector<Ptr<Packet>> TakePackets(Ptr<const Packet> packet);
 
     /**
-     * \brief Gives a packet to the device. On links without ARP each goes to the broadcast address
-     * of the link, as ns-3's own Ipv4Interface does it.
+     * \brief Passes a packet to the device. On links without ARP each goes to the broadcast address
+     * of the link, as in ns-3's own Ipv4Interface.
      * \param packet the packet
      */
     void Transmit(Ptr<Packet> packet);
 
     /**
-     * \brief Notes which sockets got a datagram by the last call.
-     * \param packet what Delivered reports
-     * \param datagram the ns-3 packet in which the datagram's data are, null if there is none
+     * \brief Records which sockets received a datagram in the last call.
+     * \param packet the packet for Delivered
+     * \param datagram the ns-3 packet that contains the datagram's data, or null
      * \param start the offset at which they begin in it
      * \return these sockets
      */
@@ -265,7 +266,7 @@ class BsdudpStack : public Object
     NoteArrivals(Ptr<const Packet> packet, Ptr<const Packet> datagram, uint32_t start);
 
     /**
-     * \brief Reads the counters if someone wants to know what is dropped.
+     * \brief Reads the counters if a trace of drops is connected.
      * \return the counters
      */
     Before ReadBefore() const;
@@ -295,7 +296,7 @@ class BsdudpStack : public Object
      */
     void Drop(Ptr<const Packet> packet, uint32_t counter);
 
-    /// The library's stack. Questions change nothing, but take a pointer to it.
+    /// The library's stack. Queries don't change it, but need a pointer to it.
     mutable bsdudp m_stack = BSDUDP_NONE;
     Ptr<Node> m_node;                            ///< the node
     Ptr<NetDevice> m_device;                     ///< its device

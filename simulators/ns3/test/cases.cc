@@ -4,9 +4,9 @@
  * SPDX-License-Identifier: BSD-2-Clause
  */
 
-// The tests of libns3-bsdudp, with ns-3's own stack as the judge where both do the same work.
-// Without an argument all of them run: each fault is a line on standard error, and the status is 1
-// if there is one. --refuse=NAME does what ends a program by a message.
+// The tests of libns3-bsdudp. If ns-3's own stack can do the same work, it's the reference. Without
+// an argument all of them run: each fault is a line on standard error, and the status is 1 if there
+// is one. --refuse=NAME makes an error that ends a program with a message.
 
 #include "pair.h"
 
@@ -18,7 +18,7 @@ using namespace ns3;
 namespace
 {
 
-/// What ends the program with a message.
+/// The errors that end the program with a message.
 void
 Refuse(const std::string& name)
 {

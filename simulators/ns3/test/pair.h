@@ -25,7 +25,7 @@ namespace ns3
 /// How many faults there were.
 inline int g_faults = 0;
 
-/// Says a fault if something isn't so.
+/// Reports a fault if a condition is false.
 inline void
 Check(bool holds, const std::string& what)
 {
@@ -36,7 +36,7 @@ Check(bool holds, const std::string& what)
     }
 }
 
-/// Says a fault if two values differ.
+/// Reports a fault if two values differ.
 template <typename A, typename B>
 void
 Same(const A& is, const B& wanted, const std::string& what)
@@ -46,7 +46,7 @@ Same(const A& is, const B& wanted, const std::string& what)
     Check(is == wanted, text.str());
 }
 
-/// Who of two nodes has bsdudp; the other one has ns-3's own stack.
+/// Which of two nodes has bsdudp. The other one has ns-3's own stack.
 enum Who
 {
     NONE = 0,
@@ -57,7 +57,7 @@ enum Who
 
 inline const char* const WHO[] = {"none", "client", "server", "both"};
 
-/// Two nodes on a point-to-point link that loses.
+/// Two nodes on a point-to-point link that loses packets.
 struct Pair
 {
     NodeContainer nodes;         ///< the client and the server
@@ -79,7 +79,7 @@ struct Pair
             auto errors = CreateObject<RateErrorModel>();
             errors->SetUnit(RateErrorModel::ERROR_UNIT_PACKET);
             errors->SetRate(loss);
-            errors->AssignStreams(100 + i); // the same losses, whoever has which stack
+            errors->AssignStreams(100 + i); // the same losses with either stack
             devices.Get(i)->SetAttribute("ReceiveErrorModel", PointerValue(errors));
             if ((who >> i & 1) == 0)
             {
@@ -95,7 +95,7 @@ struct Pair
         }
     }
 
-    /// Runs until nothing is left to do, which has to be soon after the last datagram.
+    /// Runs until no event is left, which must be soon after the last datagram.
     void Run(double last, const std::string& what)
     {
         Simulator::Schedule(Seconds(last + 40), [what] {
@@ -118,7 +118,7 @@ struct Pair
     }
 };
 
-/// The bytes that are sent: each place has its own.
+/// The bytes that are sent: they differ at each offset.
 inline std::vector<uint8_t>
 Pattern(uint32_t size)
 {
@@ -153,7 +153,7 @@ At(const char* address, uint16_t port)
     return InetSocketAddress(Ipv4Address(address), port);
 }
 
-/// What the trace sources of a stack told.
+/// The reports of a stack's trace sources.
 struct Traced
 {
     uint32_t tx = 0;                       ///< packets that left
@@ -194,13 +194,13 @@ struct Traced
 /// Datagrams of all lengths at which something changes, by ns-3's echo server and client.
 void CheckTable();
 
-/// The other applications of ns-3 that go by UdpSocketFactory.
+/// The other applications of ns-3 that use UdpSocketFactory.
 void CheckApplications();
 
-/// Sockets: each refusal by its SocketErrno, what one reads, tags, and two of one node.
+/// Sockets: each error with its SocketErrno, reads, tags, and two sockets of one node.
 void CheckSockets();
 
-/// Stacks: trace sources, floods, and a device that takes no more packets.
+/// Stacks: trace sources, floods, and a device that accepts no more packets.
 void CheckStacks();
 
 } // namespace ns3

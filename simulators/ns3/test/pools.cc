@@ -5,13 +5,13 @@
  */
 
 // Which pool does a scenario need? Nodes on one channel that loses packets send datagrams of random
-// lengths to each other, by ns-3's own stack and then by bsdudp with pools of several sizes. Two
+// lengths to each other, with ns-3's own stack and then with bsdudp and pools of several sizes. Two
 // runs are alike if each node received the same datagrams. `default` is the pool that BsdudpHelper
 // chooses.
 //
-// A packet is lost or not by its own bytes, whenever it arrives. A draw for each packet would lose
-// others in each run: once a datagram lacks fragments for 30 s, ns-3's own stack sends an ICMP
-// error, and bsdudp doesn't.
+// The bytes of a packet decide whether it's lost. A random number for each packet loses different
+// ones in each run: when a datagram lacks fragments for 30 s, ns-3's own stack sends an ICMP error,
+// and bsdudp doesn't.
 
 #include "ns3/bsdudp-module.h"
 #include "ns3/core-module.h"
@@ -35,7 +35,7 @@ struct Datagram
     std::vector<uint8_t> bytes;
 };
 
-/// What each node received: how many datagrams, and a sum over all their bytes.
+/// The datagrams that each node received: their number, and a sum of all their bytes.
 using Received = std::vector<std::pair<uint64_t, uint64_t>>;
 
 /// The stacks of a run: ns-3's own, bsdudp as it's installed, or bsdudp with this pool.
@@ -83,7 +83,7 @@ class LossByBytes : public ErrorModel
     uint32_t m_salt;
 };
 
-/// The bytes of a datagram, which no other one has.
+/// The bytes of a datagram, which differ from those of all others.
 std::vector<uint8_t>
 MakeBytes(uint32_t number, uint32_t length)
 {
@@ -189,7 +189,7 @@ main(int argc, char* argv[])
     cmd.AddValue("loss", "The one loss to try, 0 to 1; by default five are tried", only);
     cmd.AddValue("seeds", "How many runs of each loss", seeds);
     cmd.Parse(argc, argv);
-    // Each node hears every packet: ns-3's own would forward those for others, and never end.
+    // Each node receives every packet: ns-3's own stack forwards those for others without end.
     Config::SetDefault("ns3::Ipv4::IpForward", BooleanValue(false));
     GlobalValue::Bind("ChecksumEnabled", BooleanValue(true));
     std::cout << "loss";

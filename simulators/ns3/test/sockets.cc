@@ -14,7 +14,7 @@ namespace ns3
 namespace
 {
 
-/// What a call answers, and the error that it leaves.
+/// The result of a call, and its error.
 void
 Answers(int answer, int wanted, Ptr<Socket> socket, Socket::SocketErrno error, const char* what)
 {
@@ -22,7 +22,7 @@ Answers(int answer, int wanted, Ptr<Socket> socket, Socket::SocketErrno error, c
     Same(socket->GetErrno(), error, std::string(what) + " leaves");
 }
 
-/// Each refusal of a socket by its SocketErrno.
+/// Each error of a socket with its SocketErrno.
 void
 CheckRefusals()
 {
@@ -106,7 +106,7 @@ CheckRefusals()
     pair.Run(1, "refusals");
 }
 
-/// What a socket does that hears.
+/// Tests a socket that receives.
 void
 CheckReading()
 {
@@ -208,7 +208,7 @@ CheckLoopback()
     uint32_t rounds = 0;
     uint32_t depth = 0;
     uint32_t deepest = 0;
-    // each answers the other at once: ten thousand calls, none inside another
+    // each replies to the other at once: ten thousand calls, none inside another
     auto answer = [&](Ptr<Socket> socket) {
         deepest = std::max(deepest, ++depth);
         Address from;
@@ -245,7 +245,7 @@ CheckLoopback()
     pair.Run(3, "loopback");
 }
 
-/// Two sockets with one port, by the attribute: both hear a broadcast, and a third one may not
+/// Two sockets with one port, by the attribute: both receive a broadcast, and a third one can't
 /// bind.
 void
 CheckReusePort()

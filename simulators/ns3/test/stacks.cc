@@ -12,7 +12,7 @@ namespace ns3
 namespace
 {
 
-/// Trace sources: what comes, goes, is dropped, is delivered, and waits.
+/// Trace sources: packets received, sent, dropped, delivered, and waiting.
 void
 CheckTraces()
 {
@@ -23,7 +23,7 @@ CheckTraces()
     auto reader = Open(pair.nodes.Get(1));
     sender->Bind();
     reader->Bind(At("0.0.0.0", 7));
-    // a packet of these bytes, as a stranger could send it
+    // a packet of these bytes, from another host
     auto inject = [&pair](std::vector<uint8_t> bytes) {
         pair.devices.Get(0)->Send(Create<Packet>(bytes.data(), bytes.size()),
                                   pair.devices.Get(0)->GetBroadcast(),
@@ -37,8 +37,8 @@ CheckTraces()
         inject({0x45, 0, 0, 28, 0, 1, 0, 0, 64, 17, 1, 2, 10, 0, 0, 9, 10, 0, 0, 2});
     });
     Simulator::Schedule(Seconds(0.8), [inject] {
-        // the first eight bytes of a datagram that goes on, from 10.0.0.9; the sum was worked
-        // by hand
+        // the first eight bytes of a longer datagram from 10.0.0.9; the sum was worked out by
+        // hand
         inject({0x45, 0, 0,  28, 0, 1, 0x20, 0, 64, 17, 0x46, 0xc6, 10, 0,
                 0,    9, 10, 0,  0, 2, 0,    9, 0,  7,  0,    16,   0,  0});
     });
@@ -71,7 +71,7 @@ CheckTraces()
     Same(server.drops.size(), wanted.size(), "causes of Drop");
 }
 
-/// A flood that nobody reads empties the pool; then all goes on as before.
+/// A flood that isn't read empties the pool. Afterwards the stack works as before.
 void
 CheckFlood()
 {
@@ -118,7 +118,7 @@ CheckPoor()
     pair.Run(1, "a send that finds no buffers");
 }
 
-/// Packets that the device doesn't take, since its queue is full.
+/// Packets that the device rejects because its queue is full.
 void
 CheckFullDevice()
 {
@@ -136,7 +136,7 @@ CheckFullDevice()
         }
     });
     pair.Run(2, "a full device");
-    // one is on its way and a hundred wait: the length of ns-3's queue
+    // one is being sent and a hundred wait: the length of ns-3's queue
     Same(client.drops["device"], 49U, "Drop of the device");
     Same(client.tx, 150U, "Tx of a full device");
 }

@@ -16,7 +16,7 @@ namespace ns3
 namespace
 {
 
-/// What came through.
+/// The numbers of datagrams that arrived.
 struct Count
 {
     uint32_t requests = 0; ///< to the server
@@ -68,7 +68,7 @@ Echo(Who who, uint32_t size, double loss, uint32_t count)
     return got;
 }
 
-/// The other applications of ns-3 that go by UdpSocketFactory: how many bytes or datagrams come.
+/// The other applications of ns-3 that use UdpSocketFactory: how many bytes or datagrams arrive.
 std::array<uint64_t, 4>
 RunApplications(Who who)
 {
@@ -111,7 +111,7 @@ RunApplications(Who who)
         apps.Stop(Seconds(4));
         port++;
     }
-    pair.Run(1001, std::string("applications, ") + WHO[who]); // OnOff leaves an event of that time
+    pair.Run(1001, std::string("applications, ") + WHO[who]); // OnOff leaves an event at that time
     got[0] = DynamicCast<UdpServer>(servers.Get(0))->GetReceived();
     got[1] = DynamicCast<UdpServer>(tracedServers.Get(0))->GetReceived();
     Same(DynamicCast<UdpServer>(servers.Get(0))->GetLost(), 0U, "datagrams that UdpServer misses");
@@ -135,7 +135,7 @@ CheckTable()
                 Count wanted = own;
                 if (size > 9216)
                 {
-                    wanted = {who == SERVER ? own.requests : 0, 0, 0}; // a send of it is refused
+                    wanted = {who == SERVER ? own.requests : 0, 0, 0}; // bsdudp refuses this send
                 }
                 std::ostringstream what;
                 what << "bsdudp at " << WHO[who] << ", " << size << " bytes, loss " << loss;
