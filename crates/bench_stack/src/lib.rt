@@ -19,7 +19,7 @@ const MOST: usize = 9216;
 /// 10.0.0.1 and 10.0.0.2.
 const SENDER: u32 = 0x0a00_0001;
 
-const HEARER: u32 = 0x0a00_0002;
+const RECEIVER: u32 = 0x0a00_0002;
 
 /// How many mbufs a stack has unless its caller sets them.
 const MBUFS: u32 = 512;
@@ -68,7 +68,7 @@ fn carry(from: &mut Stack, to: &mut Stack, packet: &mut Packet, packets: usize) 
 }
 
 /// Whether a datagram of `len` bytes waits in a socket; it's read into `room`.
-fn heard(stack: &mut Stack, socket: u32, len: usize, room: &mut [u8]) -> bool {
+fn has_received(stack: &mut Stack, socket: u32, len: usize, room: &mut [u8]) -> bool {
     match stack.recvfrom(socket, room) {
         Ok((_, read)) => read == len,
         Err(_) => false,
@@ -77,12 +77,12 @@ fn heard(stack: &mut Stack, socket: u32, len: usize, room: &mut [u8]) -> bool {
 
 /// Sends from the first socket, carries, and receives in the socket `at` places after the first, `times` times. Returns
 /// how often all bytes arrived.
-fn exchange(sender: &mut Stack, hearer: &mut Stack, at: u8, bytes: &[u8], times: u32) -> u32
+fn exchange(sender: &mut Stack, receiver: &mut Stack, at: u8, bytes: &[u8], times: u32) -> u32
     ensures { result ≤ times }
 {
     let socket = SOCKET + u32::from(at);
     let to = Addr {
-        ip: HEARER,
+        ip: RECEIVER,
         port: PORT + u16::from(at),
     };
     let mut packet = [0; MAX_MTU as usize];
@@ -91,8 +91,8 @@ fn exchange(sender: &mut Stack, hearer: &mut Stack, at: u8, bytes: &[u8], times:
     let mut well = 0;
     'turns: for _ in 0..times {
         let sent = sender.sendto(SOCKET, Some(to), bytes);
-        carry(sender, hearer, &mut packet, packets);
-        if sent.is_ok() && heard(hearer, socket, bytes.len(), &mut room) {
+        carry(sender, receiver, &mut packet, packets);
+        if sent.is_ok() && has_received(receiver, socket, bytes.len(), &mut room) {
             well += 1;
         }
     }
@@ -117,13 +117,13 @@ pub extern "C" fn bsdudp_send_and_receive(
     let Some(mut sender) = listening(alloc, SENDER, mbufs, sockets) else {
         return 0;
     };
-    let Some(mut hearer) = listening(alloc, HEARER, mbufs, sockets) else {
+    let Some(mut receiver) = listening(alloc, RECEIVER, mbufs, sockets) else {
         let _ = sender.end();
         return 0;
     };
-    let well = exchange(&mut sender, &mut hearer, at, bytes, times);
+    let well = exchange(&mut sender, &mut receiver, at, bytes, times);
     let _ = sender.end();
-    let _ = hearer.end();
+    let _ = receiver.end();
     well
 }
 
@@ -144,7 +144,7 @@ pub extern "C" fn bsdudp_send_to_itself(alloc: Global, bytes: &[u8], times: u32)
     let mut well = 0;
     'turns: for _ in 0..times {
         let sent = stack.sendto(SOCKET, Some(to), bytes);
-        if sent.is_ok() && heard(&mut stack, SOCKET, bytes.len(), &mut room) {
+        if sent.is_ok() && has_received(&mut stack, SOCKET, bytes.len(), &mut room) {
             well += 1;
         }
     }

@@ -36,21 +36,21 @@ pub record HasTicked (answer : ℤ) (event : Event) (s n : StackView) : Type 0 w
 
 -- `bind`, `connect`, `close` and `setsockopt`: the result is 0, or the error
 pub record AnswersCall (event : Event) (answer : ℤ) (s n : StackView) : Type 0 where
-  pub told : Result (Unit {0}) Errno
-  pub is : answer ≡ done_code told
-  pub step : StepsTo event (done_reply told) s n
+  pub reported : Result (Unit {0}) Errno
+  pub is : answer ≡ done_code reported
+  pub step : StepsTo event (done_reply reported) s n
 
 -- `socket`: the result is the descriptor, or the error
 pub record IsOpened (answer : ℤ) (s n : StackView) : Type 0 where
-  pub told : Result ℕ Errno
-  pub is : answer ≡ counted_code told
-  pub step : StepsTo Open (opened_reply told) s n
+  pub reported : Result ℕ Errno
+  pub is : answer ≡ counted_code reported
+  pub step : StepsTo Open (opened_reply reported) s n
 
 -- `sendto` and `send`: the result is the number of bytes sent, or the error
 pub record AnswersSend (event : Event) (answer : ℤ) (s n : StackView) : Type 0 where
-  pub told : Result ℕ Errno
-  pub is : answer ≡ counted_code told
-  pub step : StepsTo event (sent_reply told) s n
+  pub reported : Result ℕ Errno
+  pub is : answer ≡ counted_code reported
+  pub step : StepsTo event (sent_reply reported) s n
 
 -- the sender is written if a datagram was received, and otherwise unchanged
 abbrev pub sender_after : Result (Addr × ℕ) Errno → CAddr → CAddr
@@ -60,13 +60,13 @@ sender_after (Err errno) old = old
 -- `recvfrom`: the result is the number of bytes written to the front of the buffer, or the error; the rest of the
 -- buffer is unchanged
 pub record IsReceived (fd : ℕ) (answer : ℤ) (before room : List ℕ) (old from : CAddr) (s n : StackView) : Type 0 where
-  pub told : Result (Addr × ℕ) Errno
-  pub is : answer ≡ received_code told
-  pub sender : from ≡ sender_after told old
-  pub fits : FitsRoom told room
-  pub same : OnErr told (room ≡ before)
-  pub rest : IfOk told (λ got. drop got.1 room ≡ drop got.1 before)
-  pub step : StepsTo (Receive fd (length before)) (received_reply told room) s n
+  pub reported : Result (Addr × ℕ) Errno
+  pub is : answer ≡ received_code reported
+  pub sender : from ≡ sender_after reported old
+  pub fits : FitsRoom reported room
+  pub same : OnErr reported (room ≡ before)
+  pub rest : IfOk reported (λ got. drop got.1 room ≡ drop got.1 before)
+  pub step : StepsTo (Receive fd (length before)) (received_reply reported room) s n
 
 -- `rx`: the result is 0, or -EMSGSIZE if the packet is too long, and then nothing changes
 pub record AnswersArrival (packet : List ℕ) (answer : ℤ) (s n : StackView) : Type 0 where
@@ -76,12 +76,12 @@ pub record AnswersArrival (packet : List ℕ) (answer : ℤ) (s n : StackView) :
 -- a packet for the link is at the front of the buffer, or the output queue is empty; the rest of the buffer is
 -- unchanged
 pub record GivesPacket (before room : List ℕ) (answer : ℤ) (s n : StackView) : Type 0 where
-  pub told : Option ℕ
-  pub is : answer ≡ given_code told
-  pub fits : IfSome told (λ len. len ≤ length room)
-  pub same : IfNone told (room ≡ before)
-  pub rest : IfSome told (λ len. drop len room ≡ drop len before)
-  pub step : StepsTo Transmit (given_reply told room) s n
+  pub reported : Option ℕ
+  pub is : answer ≡ given_code reported
+  pub fits : IfSome reported (λ len. len ≤ length room)
+  pub same : IfNone reported (room ≡ before)
+  pub rest : IfSome reported (λ len. drop len room ≡ drop len before)
+  pub step : StepsTo Transmit (given_reply reported room) s n
 
 -- `tx`: the result is the packet's length, 0 if the output queue is empty, or -EMSGSIZE if the buffer is shorter than
 -- the MTU, and then nothing changes

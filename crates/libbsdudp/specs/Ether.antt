@@ -23,7 +23,7 @@ use Rattle.libbsdudp.specs.declared.link_plain.CNeighbour.{CNeighbour}
 use Rattle.libbsdudp.specs.declared.link_plain.CTallies.{CTallies}
 use Rattle.libbsdudp.specs.declared.plain.CConfig.{CConfig}
 use Rattle.libbsdudp.specs.Answers.{no_stack, bad_length, invalid, given_code, refusal_code}
-use Rattle.libbsdudp.specs.LinkPlain.{plain_link, neighbour_told, tallies_told}
+use Rattle.libbsdudp.specs.LinkPlain.{plain_link, c_neighbour, c_tallies}
 use Rattle.libbsdudp.specs.Plain.{config_of}
 
 -- EOPNOTSUPP, 45
@@ -57,16 +57,16 @@ AnswersLink (Some l) answer after idle call = (n : LinkState) × (after ≡ Some
 
 -- `receive`: the result is 0, or -EMSGSIZE if the frame is longer than one with the longest packet, and then nothing
 -- changes
-pub record HasHeard (frame : List ℕ) (answer : ℤ) (h n : HostView) : Type 0 where
+pub record Arrives (frame : List ℕ) (answer : ℤ) (h n : HostView) : Type 0 where
   pub long : ETHER_HEADER + IP_MAX_PACKET < length frame → (answer ≡ bad_length) × (n ≡ h)
-  pub hears : length frame ≤ ETHER_HEADER + IP_MAX_PACKET → (answer ≡ pos 0) × TakesFrame frame (host_of h) (host_of n)
+  pub takes : length frame ≤ ETHER_HEADER + IP_MAX_PACKET → (answer ≡ pos 0) × TakesFrame frame (host_of h) (host_of n)
 
 -- a frame is at the front of the buffer, or no frame is queued
 pub record GivesFrame (room : List ℕ) (answer : ℤ) (h n : HostView) : Type 0 where
-  pub told : Option ℕ
-  pub is : answer ≡ given_code told
-  pub fits : IfSome told (λ len. len ≤ length room)
-  pub step : (room_front told room, host_of n) ≡ gives (host_of h)
+  pub reported : Option ℕ
+  pub is : answer ≡ given_code reported
+  pub fits : IfSome reported (λ len. len ≤ length room)
+  pub step : (room_front reported room, host_of n) ≡ gives (host_of h)
 
 -- `transmit`: the result is the frame's length, 0 if no frame is queued, or -EMSGSIZE if the buffer is too short, or
 -- the stack's packets are too long for an Ethernet, and then nothing changes
@@ -84,11 +84,11 @@ fault_code (Err errno) = refusal_code errno
 
 -- `last_error`: what other hosts reported about a socket's datagrams, which the link then clears; the stack is
 -- unchanged
-pub record TellsError (fd : ℕ) (answer : ℤ) (h n : HostView) : Type 0 where
-  pub told : Result (Option NetFault) Errno
-  pub is : answer ≡ fault_code told
+pub record ReportsError (fd : ℕ) (answer : ℤ) (h n : HostView) : Type 0 where
+  pub reported : Result (Option NetFault) Errno
+  pub is : answer ≡ fault_code reported
   pub same : n.stack ≡ h.stack
-  pub step : (told, host_of n) ≡ last_error fd (host_of h)
+  pub step : (reported, host_of n) ≡ last_error fd (host_of h)
 
 -- `tick`: the result is 0
 pub record HasAged (answer : ℤ) (l n : LinkState) : Type 0 where
@@ -106,20 +106,20 @@ address_code Probing = pos 0
 address_code InUse = pos 1
 address_code Conflict = negsuc 47
 
-pub record TellsAddress (answer : ℤ) (l : LinkState) : Type 0 where
+pub record ReportsAddress (answer : ℤ) (l : LinkState) : Type 0 where
   pub is : answer ≡ address_code (address_state l.claim)
 
 -- the counters
-pub record TellsTallies (answer : ℤ) (tallies : CTallies) (l : LinkState) : Type 0 where
+pub record ReportsTallies (answer : ℤ) (tallies : CTallies) (l : LinkState) : Type 0 where
   pub is : answer ≡ pos 0
-  pub told : tallies ≡ tallies_told l.tallies
+  pub reported : tallies ≡ c_tallies l.tallies
 
 -- a neighbour is written, or the result is -EINVAL if there is none at this index
 abbrev pub IsNeighbour : Option Neighbour → ℤ → CNeighbour → CNeighbour → Type 0
-IsNeighbour (Some n) answer old new = (answer ≡ pos 0) × (new ≡ neighbour_told n)
+IsNeighbour (Some n) answer old new = (answer ≡ pos 0) × (new ≡ c_neighbour n)
 IsNeighbour None answer old new = (answer ≡ invalid) × (new ≡ old)
 
-pub record TellsNeighbour (i : ℕ) (answer : ℤ) (old new : CNeighbour) (l : LinkState) : Type 0 where
+pub record ReportsNeighbour (i : ℕ) (answer : ℤ) (old new : CNeighbour) (l : LinkState) : Type 0 where
   pub is : IsNeighbour (slice_get l.neighbours i) answer old new
 
 -- ---- booting and ending a link

@@ -2,7 +2,7 @@ pub mod Held
 pub mod Answers
 pub mod Plain
 pub mod Calls
-pub mod Told
+pub mod Queries
 pub mod Life
 pub mod LinkHeld
 pub mod LinkPlain

@@ -27,10 +27,10 @@ Boots config (Err BadConfig) = HasSizes (config_of config) × ¬ IsConfig (confi
 Boots config (Err Memory) = IsConfig (config_of config)
 
 pub record HasBooted (config : CConfig) (answer : ℤ) (after : Option StackView) : Type 0 where
-  pub told : Result StackView BootFault
-  pub boots : Boots config told
-  pub is : answer ≡ boot_code told
-  pub leaves : after ≡ booted_stack told
+  pub reported : Result StackView BootFault
+  pub boots : Boots config reported
+  pub is : answer ≡ boot_code reported
+  pub leaves : after ≡ booted_stack reported
 
 -- A stack is booted into a handle without one. If the handle has a stack, that stack is unchanged, and the result is
 -- -ENXIO.

@@ -24,8 +24,8 @@ plain_link l =
     }
 
 -- 0 for a hardware address that isn't known
-abbrev pub neighbour_told : Neighbour → CNeighbour
-neighbour_told n =
+abbrev pub c_neighbour : Neighbour → CNeighbour
+c_neighbour n =
     let mac : Mac = unwrap_or n.mac NO_MAC in
     record {
       ip = n.ip;
@@ -36,8 +36,8 @@ neighbour_told n =
       known = flag_number (is_some n.mac);
     }
 
-abbrev pub tallies_told : Tallies → CTallies
-tallies_told t = record {
+abbrev pub c_tallies : Tallies → CTallies
+c_tallies t = record {
   ignored = t.ignored;
   martians = t.martians;
   bad_arp = t.bad_arp;

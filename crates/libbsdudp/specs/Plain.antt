@@ -32,8 +32,8 @@ addr_of a = record { ip = a.ip; port = a.port }
 abbrev pub whom : Addr → CAddr
 whom a = record { ip = a.ip; port = a.port }
 
-abbrev pub usage_told : Mbstat → CMbstat
-usage_told m =
+abbrev pub c_usage : Mbstat → CMbstat
+c_usage m =
     record {
       free_mbufs = m.free_mbufs;
       mbufs = m.mbufs;
@@ -48,8 +48,8 @@ abbrev pub flag_number : Bool → ℕ
 flag_number b = if b then 1 else 0
 
 -- 0 for a field that is unset
-abbrev pub name_told : SocketName → CName
-name_told n =
+abbrev pub c_name : SocketName → CName
+c_name n =
     let peer : Addr = unwrap_or n.peer (record { ip = 0; port = 0 }) in
     record {
       local_ip = unwrap_or n.local 0;
@@ -60,11 +60,11 @@ name_told n =
       reuse_port = flag_number n.reuse_port;
     }
 
-abbrev pub next_told : NextDatagram → CNext
-next_told n = record { ip = n.sender.ip; port = n.sender.port; len = n.len; waiting = n.waiting }
+abbrev pub c_next : NextDatagram → CNext
+c_next n = record { ip = n.sender.ip; port = n.sender.port; len = n.len; waiting = n.waiting }
 
-abbrev pub unfinished_told : UnfinishedDatagram → CUnfinished
-unfinished_told d =
+abbrev pub c_unfinished : UnfinishedDatagram → CUnfinished
+c_unfinished d =
     record {
       source = d.key.source;
       destination = d.key.destination;
@@ -75,5 +75,5 @@ unfinished_told d =
       ticks = d.ticks;
     }
 
-abbrev pub range_told : HeldRange → CRange
-range_told r = record { offset = r.offset; len = r.len; more = flag_number r.more }
+abbrev pub c_range : HeldRange → CRange
+c_range r = record { offset = r.offset; len = r.len; more = flag_number r.more }

@@ -1,5 +1,5 @@
 //! The queries of a stack, with the arguments and results as C has them.
-ghost use Rattle.libbsdudp.specs.Told.{TellsCounter, TellsName, TellsNext, TellsOutput, TellsPacket, TellsRange, TellsReadable, TellsUnfinished, TellsUsage, TellsWaiting};
+ghost use Rattle.libbsdudp.specs.Queries.{ReportsCounter, ReportsName, ReportsNext, ReportsOutput, ReportsPacket, ReportsRange, ReportsReadable, ReportsUnfinished, ReportsUsage, ReportsWaiting};
 
 use crate::errors::{INVALID, count, refused};
 use crate::plain::{CMbstat, CName, CNext, CRange, CUnfinished};
@@ -8,11 +8,11 @@ use net_stack::Stack;
 
 /// Reads the addresses of a socket, and its options.
 pub(crate) fn name(stack: &Stack, fd: u32, name: &mut CName) -> i32
-    ensures { TellsName fd result name.old name.new stack.now }
+    ensures { ReportsName fd result name.old name.new stack.now }
 {
     match stack.socket_name(fd) {
-        Ok(told) => {
-            *name = CName::of(told);
+        Ok(reported) => {
+            *name = CName::of(reported);
             0
         }
         Err(errno) => refused(errno),
@@ -21,11 +21,11 @@ pub(crate) fn name(stack: &Stack, fd: u32, name: &mut CName) -> i32
 
 /// Reads the sender and the length of the oldest queued datagram.
 pub(crate) fn next(stack: &Stack, fd: u32, next: &mut CNext) -> i32
-    ensures { TellsNext fd result next.old next.new stack.now }
+    ensures { ReportsNext fd result next.old next.new stack.now }
 {
     match stack.next_datagram(fd) {
-        Ok(told) => {
-            *next = CNext::of(told);
+        Ok(reported) => {
+            *next = CNext::of(reported);
             0
         }
         Err(errno) => refused(errno),
@@ -34,7 +34,7 @@ pub(crate) fn next(stack: &Stack, fd: u32, next: &mut CNext) -> i32
 
 /// Reads the set of sockets that have a queued datagram.
 pub(crate) fn readable(stack: &Stack, set: &mut u64) -> i32
-    ensures { TellsReadable result set.new stack.now }
+    ensures { ReportsReadable result set.new stack.now }
 {
     *set = stack.readable();
     0
@@ -42,14 +42,14 @@ pub(crate) fn readable(stack: &Stack, set: &mut u64) -> i32
 
 /// Returns the number of packets in the output queue.
 pub(crate) fn output_len(stack: &Stack) -> i32
-    ensures { TellsOutput result stack.now }
+    ensures { ReportsOutput result stack.now }
 {
     count(stack.output_len() as usize)
 }
 
 /// Returns the length in bytes of the oldest packet in the output queue.
 pub(crate) fn next_packet(stack: &Stack) -> i32
-    ensures { TellsPacket result stack.now }
+    ensures { ReportsPacket result stack.now }
 {
     match stack.next_packet() {
         Some(len) => count(len as usize),
@@ -59,7 +59,7 @@ pub(crate) fn next_packet(stack: &Stack) -> i32
 
 /// Reads a counter by its index.
 pub(crate) fn counter(stack: &Stack, which: u32, value: &mut u64) -> i32
-    ensures { TellsCounter which result value.old value.new stack.now }
+    ensures { ReportsCounter which result value.old value.new stack.now }
 {
     let counters = stack.counters();
     match Counter::all().get(which as usize) {
@@ -73,7 +73,7 @@ pub(crate) fn counter(stack: &Stack, which: u32, value: &mut u64) -> i32
 
 /// Reads the usage of the pool.
 pub(crate) fn mbstat(stack: &Stack, usage: &mut CMbstat) -> i32
-    ensures { TellsUsage result usage.new stack.now }
+    ensures { ReportsUsage result usage.new stack.now }
 {
     *usage = CMbstat::of(stack.mbstat());
     0
@@ -81,18 +81,18 @@ pub(crate) fn mbstat(stack: &Stack, usage: &mut CMbstat) -> i32
 
 /// Returns the number of unfinished datagrams.
 pub(crate) fn unfinished_len(stack: &Stack) -> i32
-    ensures { TellsWaiting result stack.now }
+    ensures { ReportsWaiting result stack.now }
 {
     count(stack.unfinished_len() as usize)
 }
 
 /// Reads an unfinished datagram by its index.
 pub(crate) fn unfinished(stack: &Stack, i: u32, datagram: &mut CUnfinished) -> i32
-    ensures { TellsUnfinished i result datagram.old datagram.new stack.now }
+    ensures { ReportsUnfinished i result datagram.old datagram.new stack.now }
 {
     match stack.unfinished(i) {
-        Some(told) => {
-            *datagram = CUnfinished::of(told);
+        Some(reported) => {
+            *datagram = CUnfinished::of(reported);
             0
         }
         None => INVALID,
@@ -101,11 +101,11 @@ pub(crate) fn unfinished(stack: &Stack, i: u32, datagram: &mut CUnfinished) -> i
 
 /// Reads a range of its bytes by the range's index.
 pub(crate) fn unfinished_range(stack: &Stack, i: u32, k: u32, range: &mut CRange) -> i32
-    ensures { TellsRange i k result range.old range.new stack.now }
+    ensures { ReportsRange i k result range.old range.new stack.now }
 {
     match stack.unfinished_range(i, k) {
-        Some(told) => {
-            *range = CRange::of(told);
+        Some(reported) => {
+            *range = CRange::of(reported);
             0
         }
         None => INVALID,

@@ -1,6 +1,6 @@
 //! Conversions from and to the structs of C.
 ghost use Rattle.std.specs.Prelude.{◌≡◌};
-ghost use Rattle.libbsdudp.specs.Plain.{addr_of, config_of, name_told, next_told, range_told, unfinished_told, usage_told, whom};
+ghost use Rattle.libbsdudp.specs.Plain.{addr_of, config_of, c_name, c_next, c_range, c_unfinished, c_usage, whom};
 
 use crate::plain::{CAddr, CConfig, CMbstat, CName, CNext, CRange, CUnfinished};
 use flat_model::{Addr, Config, Mbstat};
@@ -44,7 +44,7 @@ impl CAddr {
 
 impl CMbstat {
     pub(crate) fn of(usage: Mbstat) -> CMbstat
-        ensures { result ≡ usage_told usage }
+        ensures { result ≡ c_usage usage }
     {
         CMbstat {
             free_mbufs: usage.free_mbufs,
@@ -59,7 +59,7 @@ impl CMbstat {
 
 impl CName {
     pub(crate) fn of(name: SocketName) -> CName
-        ensures { result ≡ name_told name }
+        ensures { result ≡ c_name name }
     {
         let peer = name.peer.unwrap_or(Addr { ip: 0, port: 0 });
         CName {
@@ -75,7 +75,7 @@ impl CName {
 
 impl CNext {
     pub(crate) fn of(next: NextDatagram) -> CNext
-        ensures { result ≡ next_told next }
+        ensures { result ≡ c_next next }
     {
         CNext {
             ip: next.sender.ip,
@@ -88,7 +88,7 @@ impl CNext {
 
 impl CUnfinished {
     pub(crate) fn of(datagram: UnfinishedDatagram) -> CUnfinished
-        ensures { result ≡ unfinished_told datagram }
+        ensures { result ≡ c_unfinished datagram }
     {
         CUnfinished {
             source: datagram.key.source,
@@ -104,7 +104,7 @@ impl CUnfinished {
 
 impl CRange {
     pub(crate) fn of(range: HeldRange) -> CRange
-        ensures { result ≡ range_told range }
+        ensures { result ≡ c_range range }
     {
         CRange {
             offset: range.offset,

@@ -2,7 +2,7 @@
 //! the link's half of the host. A call on a stack changes nothing in its link. The link is booted and ended separately.
 ghost use Rattle.std.specs.Prelude.{◌≡◌, ⊤};
 ghost use Rattle.libbsdudp.specs.Calls.{stack_in};
-ghost use Rattle.libbsdudp.specs.Ether.{AnswersHost, AnswersLink, HasAged, HasHeard, IsFramed, IsLinkAsked, IsLinkBooted, IsLinkEnded, TellsAddress, TellsError, TellsNeighbour, TellsTallies, handle_link};
+ghost use Rattle.libbsdudp.specs.Ether.{AnswersHost, AnswersLink, HasAged, Arrives, IsFramed, IsLinkAsked, IsLinkBooted, IsLinkEnded, ReportsAddress, ReportsError, ReportsNeighbour, ReportsTallies, handle_link};
 
 use crate::errors::{INVALID, NO_LINK, NO_MEMORY, NO_STACK};
 use crate::ether_calls;
@@ -82,7 +82,7 @@ pub extern "C" fn bsdudp_core_ether_receive(
 ) -> i32
     ensures { AnswersHost (stack_in handle.old) (handle_link link.old) result (stack_in handle.new)
         (handle_link link.new) ⊤
-        (HasHeard frame.now result) }
+        (Arrives frame.now result) }
 {
     let Some(mut stack) = handle.take(alloc) else {
         return NO_STACK;
@@ -140,7 +140,7 @@ pub extern "C" fn bsdudp_core_ether_last_error(
 ) -> i32
     ensures { AnswersHost (stack_in handle.old) (handle_link link.old) result (stack_in handle.new)
         (handle_link link.new) ⊤
-        (TellsError fd result) }
+        (ReportsError fd result) }
 {
     let Some(stack) = handle.take(alloc) else {
         return NO_STACK;
@@ -173,7 +173,7 @@ pub extern "C" fn bsdudp_core_ether_tick(alloc: Global, link: &mut LinkHandle) -
 #[tactic(auto, using(crate::proofs::EtherAnswered::link_asked))]
 #[unsafe(no_mangle)]
 pub extern "C" fn bsdudp_core_ether_address(alloc: Global, link: &mut LinkHandle) -> i32
-    ensures { AnswersLink (handle_link link.old) result (handle_link link.new) ⊤ (IsLinkAsked (TellsAddress result)) }
+    ensures { AnswersLink (handle_link link.old) result (handle_link link.new) ⊤ (IsLinkAsked (ReportsAddress result)) }
 {
     with_held!(link, alloc, NO_LINK, boxed => ether_calls::address(&boxed.layer))
 }
@@ -189,7 +189,7 @@ pub extern "C" fn bsdudp_core_ether_tallies(
     tallies: &mut CTallies,
 ) -> i32
     ensures { AnswersLink (handle_link link.old) result (handle_link link.new) (tallies.new ≡ tallies.old)
-        (IsLinkAsked (TellsTallies result tallies.new)) }
+        (IsLinkAsked (ReportsTallies result tallies.new)) }
 {
     with_held!(link, alloc, NO_LINK, boxed => ether_calls::tallies(&boxed.layer, tallies))
 }
@@ -207,7 +207,7 @@ pub extern "C" fn bsdudp_core_ether_neighbour(
     neighbour: &mut CNeighbour,
 ) -> i32
     ensures { AnswersLink (handle_link link.old) result (handle_link link.new) (neighbour.new ≡ neighbour.old)
-        (IsLinkAsked (TellsNeighbour i result neighbour.old neighbour.new)) }
+        (IsLinkAsked (ReportsNeighbour i result neighbour.old neighbour.new)) }
 {
     with_held!(link, alloc, NO_LINK, boxed => ether_calls::neighbour(&boxed.layer, i, neighbour))
 }

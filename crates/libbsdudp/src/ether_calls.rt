@@ -5,7 +5,7 @@ ghost use Rattle.flat_ether.specs.Hosts.{TakesFrame, gives};
 ghost use Rattle.flat_ether.specs.declared.sizes.TheConstants.{ETHER_HEADER, ETHER_MTU};
 ghost use Rattle.ether_host.specs.Inside.{link_seen};
 ghost use Rattle.ether_host.specs.View.{host_of};
-ghost use Rattle.libbsdudp.specs.Ether.{GivesFrame, HasAged, HasHeard, IsFramed, TellsAddress, TellsError, TellsNeighbour, TellsTallies, both};
+ghost use Rattle.libbsdudp.specs.Ether.{GivesFrame, HasAged, Arrives, IsFramed, ReportsAddress, ReportsError, ReportsNeighbour, ReportsTallies, both};
 
 use crate::errors::{
     BAD_LENGTH, CONNECTION_REFUSED, HOST_UNREACHABLE, IN_USE, INVALID, count, refused,
@@ -24,7 +24,7 @@ const ROOM: usize = (ETHER_HEADER + ETHER_MTU) as usize;
 
 /// Receives a frame.
 pub(crate) fn receive(stack: &mut Stack, layer: &mut LinkLayer, frame: &[u8]) -> i32
-    ensures { HasHeard frame.now result (both stack.old (link_seen layer.old)) (both stack.new (link_seen layer.new)) }
+    ensures { Arrives frame.now result (both stack.old (link_seen layer.old)) (both stack.new (link_seen layer.new)) }
 {
     if frame.len() > LONGEST {
         return BAD_LENGTH;
@@ -59,7 +59,7 @@ pub(crate) fn transmit(stack: &mut Stack, layer: &mut LinkLayer, room: &mut [u8]
 /// Returns what other hosts reported about a socket's datagrams: 0 for no report, ECONNREFUSED or EHOSTUNREACH, or a
 /// negative error code if the call fails.
 pub(crate) fn last_error(stack: &Stack, layer: &mut LinkLayer, fd: u32) -> i32
-    ensures { TellsError fd result (both stack.now (link_seen layer.old)) (both stack.now (link_seen layer.new)) }
+    ensures { ReportsError fd result (both stack.now (link_seen layer.old)) (both stack.now (link_seen layer.new)) }
 {
     match layer.last_error(stack, fd) {
         Ok(None) => 0,
@@ -79,7 +79,7 @@ pub(crate) fn tick(layer: &mut LinkLayer) -> i32
 
 /// Returns the state of the host's address.
 pub(crate) fn address(layer: &LinkLayer) -> i32
-    ensures { TellsAddress result (link_seen layer.now) }
+    ensures { ReportsAddress result (link_seen layer.now) }
 {
     match layer.address() {
         AddressState::Probing => 0,
@@ -90,7 +90,7 @@ pub(crate) fn address(layer: &LinkLayer) -> i32
 
 /// Reads the counters of the link.
 pub(crate) fn tallies(layer: &LinkLayer, tallies: &mut CTallies) -> i32
-    ensures { TellsTallies result tallies.new (link_seen layer.now) }
+    ensures { ReportsTallies result tallies.new (link_seen layer.now) }
 {
     *tallies = CTallies::of(layer.tallies());
     0
@@ -98,11 +98,11 @@ pub(crate) fn tallies(layer: &LinkLayer, tallies: &mut CTallies) -> i32
 
 /// Reads the neighbour at an index.
 pub(crate) fn neighbour(layer: &LinkLayer, i: u32, neighbour: &mut CNeighbour) -> i32
-    ensures { TellsNeighbour i result neighbour.old neighbour.new (link_seen layer.now) }
+    ensures { ReportsNeighbour i result neighbour.old neighbour.new (link_seen layer.now) }
 {
     match layer.neighbours().get(i as usize) {
-        Some(told) => {
-            *neighbour = CNeighbour::of(*told);
+        Some(reported) => {
+            *neighbour = CNeighbour::of(*reported);
             0
         }
         None => INVALID,

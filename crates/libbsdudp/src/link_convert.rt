@@ -1,6 +1,6 @@
 //! Conversions from and to the structs of C for a link.
 ghost use Rattle.std.specs.Prelude.{◌≡◌};
-ghost use Rattle.libbsdudp.specs.LinkPlain.{plain_link, neighbour_told, tallies_told};
+ghost use Rattle.libbsdudp.specs.LinkPlain.{plain_link, c_neighbour, c_tallies};
 
 use crate::link_plain::{CLink, CNeighbour, CTallies};
 use flat_ether::{Link, Mac, NO_MAC, Neighbour, Tallies};
@@ -28,7 +28,7 @@ impl CLink {
 
 impl CNeighbour {
     pub(crate) fn of(neighbour: Neighbour) -> CNeighbour
-        ensures { result ≡ neighbour_told neighbour }
+        ensures { result ≡ c_neighbour neighbour }
     {
         let mac = neighbour.mac.unwrap_or(NO_MAC);
         CNeighbour {
@@ -44,7 +44,7 @@ impl CNeighbour {
 
 impl CTallies {
     pub(crate) fn of(tallies: Tallies) -> CTallies
-        ensures { result ≡ tallies_told tallies }
+        ensures { result ≡ c_tallies tallies }
     {
         CTallies {
             ignored: tallies.ignored,

@@ -1,7 +1,7 @@
 //! The queries, which leave the stack unchanged.
 ghost use Rattle.std.specs.Prelude.{◌≡◌, ⊤};
 ghost use Rattle.libbsdudp.specs.Calls.{Answers, AnswersQuestion, stack_in};
-ghost use Rattle.libbsdudp.specs.Told.{TellsCounter, TellsName, TellsNext, TellsOutput, TellsPacket, TellsRange, TellsReadable, TellsUnfinished, TellsUsage, TellsWaiting};
+ghost use Rattle.libbsdudp.specs.Queries.{ReportsCounter, ReportsName, ReportsNext, ReportsOutput, ReportsPacket, ReportsRange, ReportsReadable, ReportsUnfinished, ReportsUsage, ReportsWaiting};
 
 use crate::asks;
 use crate::errors::NO_STACK;
@@ -22,7 +22,7 @@ pub extern "C" fn bsdudp_core_name(
     name: &mut CName,
 ) -> i32
     ensures { Answers (stack_in handle.old) result (stack_in handle.new) (name.new ≡ name.old)
-        (AnswersQuestion (TellsName fd result name.old name.new)) }
+        (AnswersQuestion (ReportsName fd result name.old name.new)) }
 {
     with_held!(handle, alloc, NO_STACK, boxed => asks::name(&boxed.stack, fd, name))
 }
@@ -40,7 +40,7 @@ pub extern "C" fn bsdudp_core_next(
     next: &mut CNext,
 ) -> i32
     ensures { Answers (stack_in handle.old) result (stack_in handle.new) (next.new ≡ next.old)
-        (AnswersQuestion (TellsNext fd result next.old next.new)) }
+        (AnswersQuestion (ReportsNext fd result next.old next.new)) }
 {
     with_held!(handle, alloc, NO_STACK, boxed => asks::next(&boxed.stack, fd, next))
 }
@@ -52,7 +52,7 @@ pub extern "C" fn bsdudp_core_next(
 #[unsafe(no_mangle)]
 pub extern "C" fn bsdudp_core_readable(alloc: Global, handle: &mut Handle, set: &mut u64) -> i32
     ensures { Answers (stack_in handle.old) result (stack_in handle.new) (set.new ≡ set.old)
-        (AnswersQuestion (TellsReadable result set.new)) }
+        (AnswersQuestion (ReportsReadable result set.new)) }
 {
     with_held!(handle, alloc, NO_STACK, boxed => asks::readable(&boxed.stack, set))
 }
@@ -63,7 +63,7 @@ pub extern "C" fn bsdudp_core_readable(alloc: Global, handle: &mut Handle, set: 
 #[tactic(auto, using(crate::proofs::Answered::asked))]
 #[unsafe(no_mangle)]
 pub extern "C" fn bsdudp_core_output_len(alloc: Global, handle: &mut Handle) -> i32
-    ensures { Answers (stack_in handle.old) result (stack_in handle.new) ⊤ (AnswersQuestion (TellsOutput result)) }
+    ensures { Answers (stack_in handle.old) result (stack_in handle.new) ⊤ (AnswersQuestion (ReportsOutput result)) }
 {
     with_held!(handle, alloc, NO_STACK, boxed => asks::output_len(&boxed.stack))
 }
@@ -74,7 +74,7 @@ pub extern "C" fn bsdudp_core_output_len(alloc: Global, handle: &mut Handle) -> 
 #[tactic(auto, using(crate::proofs::Answered::asked))]
 #[unsafe(no_mangle)]
 pub extern "C" fn bsdudp_core_next_packet(alloc: Global, handle: &mut Handle) -> i32
-    ensures { Answers (stack_in handle.old) result (stack_in handle.new) ⊤ (AnswersQuestion (TellsPacket result)) }
+    ensures { Answers (stack_in handle.old) result (stack_in handle.new) ⊤ (AnswersQuestion (ReportsPacket result)) }
 {
     with_held!(handle, alloc, NO_STACK, boxed => asks::next_packet(&boxed.stack))
 }
@@ -91,7 +91,7 @@ pub extern "C" fn bsdudp_core_counter(
     value: &mut u64,
 ) -> i32
     ensures { Answers (stack_in handle.old) result (stack_in handle.new) (value.new ≡ value.old)
-        (AnswersQuestion (TellsCounter which result value.old value.new)) }
+        (AnswersQuestion (ReportsCounter which result value.old value.new)) }
 {
     with_held!(handle, alloc, NO_STACK, boxed => asks::counter(&boxed.stack, which, value))
 }
@@ -103,7 +103,7 @@ pub extern "C" fn bsdudp_core_counter(
 #[unsafe(no_mangle)]
 pub extern "C" fn bsdudp_core_mbstat(alloc: Global, handle: &mut Handle, usage: &mut CMbstat) -> i32
     ensures { Answers (stack_in handle.old) result (stack_in handle.new) (usage.new ≡ usage.old)
-        (AnswersQuestion (TellsUsage result usage.new)) }
+        (AnswersQuestion (ReportsUsage result usage.new)) }
 {
     with_held!(handle, alloc, NO_STACK, boxed => asks::mbstat(&boxed.stack, usage))
 }
@@ -114,7 +114,7 @@ pub extern "C" fn bsdudp_core_mbstat(alloc: Global, handle: &mut Handle, usage: 
 #[tactic(auto, using(crate::proofs::Answered::asked))]
 #[unsafe(no_mangle)]
 pub extern "C" fn bsdudp_core_unfinished_len(alloc: Global, handle: &mut Handle) -> i32
-    ensures { Answers (stack_in handle.old) result (stack_in handle.new) ⊤ (AnswersQuestion (TellsWaiting result)) }
+    ensures { Answers (stack_in handle.old) result (stack_in handle.new) ⊤ (AnswersQuestion (ReportsWaiting result)) }
 {
     with_held!(handle, alloc, NO_STACK, boxed => asks::unfinished_len(&boxed.stack))
 }
@@ -132,7 +132,7 @@ pub extern "C" fn bsdudp_core_unfinished(
     datagram: &mut CUnfinished,
 ) -> i32
     ensures { Answers (stack_in handle.old) result (stack_in handle.new) (datagram.new ≡ datagram.old)
-        (AnswersQuestion (TellsUnfinished i result datagram.old datagram.new)) }
+        (AnswersQuestion (ReportsUnfinished i result datagram.old datagram.new)) }
 {
     with_held!(handle, alloc, NO_STACK, boxed => asks::unfinished(&boxed.stack, i, datagram))
 }
@@ -151,7 +151,7 @@ pub extern "C" fn bsdudp_core_unfinished_range(
     range: &mut CRange,
 ) -> i32
     ensures { Answers (stack_in handle.old) result (stack_in handle.new) (range.new ≡ range.old)
-        (AnswersQuestion (TellsRange i k result range.old range.new)) }
+        (AnswersQuestion (ReportsRange i k result range.old range.new)) }
 {
     with_held!(handle, alloc, NO_STACK, boxed => asks::unfinished_range(&boxed.stack, i, k, range))
 }

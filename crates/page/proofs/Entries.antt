@@ -4,7 +4,7 @@ use Rattle.std.proofs.lemmas.List.{length-append}
 use Rattle.capture.specs.Places.{Reading, Steps}
 use Rattle.capture.specs.declared.records.Record.{Record}
 use Rattle.capture.specs.declared.fault.Fault.{Fault}
-use Rattle.page.specs.Recorded.{CapturedRecord, ReadsRecords, ReadsAll, SoFar, record_told, records_told}
+use Rattle.page.specs.Recorded.{CapturedRecord, ReadsRecords, ReadsAll, SoFar, record_bytes, records_bytes}
 
 pub none : (old : Reading) (text : List ℕ) → SoFar old text old text 0
 none old text = ([], refl, sym (append-nil text), refl)
@@ -18,17 +18,17 @@ reads_more old [] mid new e read step frame =
 reads_more old (x ∷ xs) mid new e read step frame =
     (read.0, read.1, read.2, reads_more read.0 xs mid new e read.3 step frame)
 
-told_more : (es : List CapturedRecord) (e : CapturedRecord)
-    → records_told (es ++ e ∷ []) ≡ records_told es ++ record_told e.at e.frame
-told_more [] e = append-nil (record_told e.at e.frame)
-told_more (x ∷ xs) e =
-    ap (λ (ys : List ℕ). record_told x.at x.frame ++ ys) (told_more xs e)
-    ∙ sym (append_assoc (record_told x.at x.frame) (records_told xs) (record_told e.at e.frame))
+bytes_with_record : (es : List CapturedRecord) (e : CapturedRecord)
+    → records_bytes (es ++ e ∷ []) ≡ records_bytes es ++ record_bytes e.at e.frame
+bytes_with_record [] e = append-nil (record_bytes e.at e.frame)
+bytes_with_record (x ∷ xs) e =
+    ap (λ (ys : List ℕ). record_bytes x.at x.frame ++ ys) (bytes_with_record xs e)
+    ∙ sym (append_assoc (record_bytes x.at x.frame) (records_bytes xs) (record_bytes e.at e.frame))
 
 -- of a record that was read its bytes were put after the text
 pub more_of : (old : Reading) (before : List ℕ) (mid new : Reading) (text after frame : List ℕ) (n : ℕ)
     (r : Record) → SoFar old before mid text n → Steps mid new (Ok (Some r)) → frame ≡ new.bytes
-    → after ≡ text ++ record_told r frame → SoFar old before new after (n + 1)
+    → after ≡ text ++ record_bytes r frame → SoFar old before new after (n + 1)
 more_of old before mid new text after frame n r so step is more =
     let e : CapturedRecord = record { at = r; frame = frame } in
     let es = so.0 in
@@ -38,9 +38,9 @@ more_of old before mid new text after frame n r so step is more =
       es ++ e ∷ [],
       reads_more old es mid new e so.1 step is,
       more
-          ∙ ap (λ (t : List ℕ). t ++ record_told r frame) texts
-          ∙ append_assoc before (records_told es) (record_told r frame)
-          ∙ ap (λ (t : List ℕ). before ++ t) (sym (told_more es e)),
+          ∙ ap (λ (t : List ℕ). t ++ record_bytes r frame) texts
+          ∙ append_assoc before (records_bytes es) (record_bytes r frame)
+          ∙ ap (λ (t : List ℕ). before ++ t) (sym (bytes_with_record es e)),
       omega (arith, count, long),
     )
 

@@ -2,7 +2,7 @@
 -- and the right checksums are those of play_why.
 use Rattle.std.specs.Prelude.{◌≡◌, ◌⊎◌, ◌*◌, ◌/◌, ◌%◌, ℕ, List, length, drop, nat_lt, if◌then◌else◌, slice_index, Err}
 use Rattle.flat_model.specs.Packets.Header.{u16_at, u32_at}
-use Rattle.page.specs.Told.{outcome_number}
+use Rattle.page.specs.Served.{outcome_number}
 use Rattle.page.specs.declared.headers.PageHeader.{PageHeader}
 use Rattle.params.specs.declared.TheConstants.{FRAGMENT_UNIT, IP_HEADER, IP_UDP_HEADERS}
 use Rattle.play_why.specs.Values.{pseudo_sum, right_header_sum, right_udp_sum}
@@ -33,8 +33,8 @@ no_header = record {
 }
 
 -- for a packet of 20 bytes or more
-abbrev pub ip_told : List ℕ → PageHeader
-ip_told p = record no_header {
+abbrev pub ip_struct : List ℕ → PageHeader
+ip_struct p = record no_header {
   parts = 1;
   version = slice_index p 0 / 16;
   words = slice_index p 0 % 16;
@@ -52,8 +52,8 @@ ip_told p = record no_header {
 }
 
 -- for a packet of 28 bytes or more, whose datagram begins after 20
-abbrev pub udp_told : List ℕ → PageHeader
-udp_told p = record (ip_told p) {
+abbrev pub udp_struct : List ℕ → PageHeader
+udp_struct p = record (ip_struct p) {
   parts = 2;
   source_port = u16_at 0 (drop IP_HEADER p);
   destination_port = u16_at 2 (drop IP_HEADER p);
@@ -63,13 +63,13 @@ udp_told p = record (ip_told p) {
   pseudo_sum = pseudo_sum p (drop IP_HEADER p);
 }
 
-abbrev pub header_told : List ℕ → PageHeader
-header_told p =
+abbrev pub header_struct : List ℕ → PageHeader
+header_struct p =
     if nat_lt (length p) IP_HEADER then no_header
-    else if nat_lt (length p) IP_UDP_HEADERS then ip_told p
-    else udp_told p
+    else if nat_lt (length p) IP_UDP_HEADERS then ip_struct p
+    else udp_struct p
 
 -- The packet's headers were decoded; or memory was lacking, and nothing was written.
 abbrev pub Headed : List ℕ → ℕ → PageHeader → PageHeader → Type 0
 Headed packet answer before after =
-    ((answer ≡ 0) × (after ≡ header_told packet)) ⊎ ((answer ≡ outcome_number (Err Memory)) × (after ≡ before))
+    ((answer ≡ 0) × (after ≡ header_struct packet)) ⊎ ((answer ≡ outcome_number (Err Memory)) × (after ≡ before))

@@ -8,7 +8,7 @@ use Rattle.chain_script.specs.Drawings.{served}
 use Rattle.link_script.specs.Boots.{BootsRun}
 use Rattle.link_script.specs.Says.{SaysBy}
 use Rattle.page.specs.States.{all_sockets, below, cluster_object, output_objects, unfinished_objects}
-use Rattle.page.specs.Told.{Handed, drawn_number, drawn_text}
+use Rattle.page.specs.Served.{Handed, drawn_number, drawn_text}
 use Rattle.script_loop.specs.Serves.{Serves}
 use Rattle.script_loop.specs.declared.fault.RunFault.{RunFault}
 

@@ -3,7 +3,7 @@ use Rattle.std.specs.Prelude.{◌≡◌, ◌++◌, ℕ, List, [], ◌∷◌, len
 use Rattle.capture.specs.Places.{Reading, Steps, start}
 use Rattle.capture.specs.declared.fault.Fault.{Fault}
 use Rattle.capture.specs.declared.records.Record.{Record}
-use Rattle.page.specs.Told.{Handed, outcome_number}
+use Rattle.page.specs.Served.{Handed, outcome_number}
 use Rattle.page.specs.declared.records.PageCapture.{PageCapture}
 use Rattle.capture.specs.Frames.{packet_in_frame}
 use Rattle.capture.specs.declared.pcap.link_type.LinkType.{LinkType}
@@ -31,8 +31,8 @@ record_head r captured len =
     decimal r.number ++ codes " " ++ nanoseconds_text r.time ++ codes " " ++ decimal r.original_len ++ codes " "
     ++ decimal captured ++ codes " " ++ decimal len ++ codes "\n"
 
-abbrev pub record_told : Record → List ℕ → List ℕ
-record_told r frame =
+abbrev pub record_bytes : Record → List ℕ → List ℕ
+record_bytes r frame =
     record_head r (length frame) (length (ipv4_of r.link frame)) ++ ipv4_of r.link frame
 
 -- ---- the records of a file
@@ -48,14 +48,14 @@ ReadsRecords old [] new = new ≡ old
 ReadsRecords old (e ∷ es) new =
     (mid : Reading) × Steps old mid (Ok (Some e.at)) × (e.frame ≡ mid.bytes) × ReadsRecords mid es new
 
-abbrev pub records_told : List CapturedRecord → List ℕ
-records_told [] = []
-records_told (e ∷ es) = record_told e.at e.frame ++ records_told es
+abbrev pub records_bytes : List CapturedRecord → List ℕ
+records_bytes [] = []
+records_bytes (e ∷ es) = record_bytes e.at e.frame ++ records_bytes es
 
 -- these bytes were appended to the text, those of n records
 abbrev pub SoFar : Reading → List ℕ → Reading → List ℕ → ℕ → Type 0
 SoFar old before mid after n =
-    (es : List CapturedRecord) × ReadsRecords old es mid × (after ≡ before ++ records_told es) × (n ≡ length es)
+    (es : List CapturedRecord) × ReadsRecords old es mid × (after ≡ before ++ records_bytes es) × (n ≡ length es)
 
 -- the file ends after these records, or is faulty there
 abbrev pub EndsBy : Reading → Option Fault → Type 0
@@ -75,7 +75,7 @@ HasNoWords (Some fault) words = Unit {0}
 abbrev pub IsCaptureText : List ℕ → List ℕ → PageCapture → Type 0
 IsCaptureText file text c =
     (lines : List ℕ) × (words : List ℕ) × (fault : Option Fault) × (text ≡ lines ++ words)
-    × ReadsAll (start (Some file)) [] lines c.records fault × HasNoWords fault words × (c.told ≡ length lines)
+    × ReadsAll (start (Some file)) [] lines c.records fault × HasNoWords fault words × (c.lines_len ≡ length lines)
 
 -- the page has that text in its buffer
 abbrev pub Recorded : List ℕ → ℕ → ℕ → List ℕ → List ℕ → PageCapture → Type 0

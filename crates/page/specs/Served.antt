@@ -56,7 +56,7 @@ pub record Handed (replies before after : List ℕ) : Type 0 where
 -- A whole script was served from the state `booted`, each reply being one that it `gives`: with an outcome that `boots`
 -- allows, and these replies. The page gets the outcome's number and the length of the replies, and its buffer contains
 -- them.
-pub record Told {S : Type 0} (gives : S → List ℕ → List ℕ → S → Type 0) (booted : S)
+pub record PageRun {S : Type 0} (gives : S → List ℕ → List ℕ → S → Type 0) (booted : S)
     (boots : Result Unit RunFault → Type 0) (script : List ℕ) (answer len : ℕ) (before after : List ℕ) : Type 0 where
   pub outcome : Result Unit RunFault
   pub replies : List ℕ

@@ -1,6 +1,6 @@
 //! Passing an outcome and the replies to the page.
 ghost use Rattle.std.specs.Prelude.{◌≡◌, length};
-ghost use Rattle.page.specs.Told.{outcome_number, kept_number, Handed};
+ghost use Rattle.page.specs.Served.{outcome_number, kept_number, Handed};
 
 use link_script::RunFault;
 

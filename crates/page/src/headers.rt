@@ -1,7 +1,7 @@
 //! The decoded headers of a packet.
 ghost use Rattle.std.specs.Prelude.{◌≡◌, ◌≤◌, length};
 ghost use Rattle.params.specs.declared.TheConstants.{IP_HEADER, IP_UDP_HEADERS};
-ghost use Rattle.page.specs.Headed.{Headed, header_told, ip_told, no_header, udp_told};
+ghost use Rattle.page.specs.Headed.{Headed, header_struct, ip_struct, no_header, udp_struct};
 
 use crate::handed::number_of;
 use flat_plain::u16_at;
@@ -79,7 +79,7 @@ impl PageHeader {
     /// Decodes the IP header of a packet.
     fn of_ip(packet: &[u8], covered: &mut Buffer<COVERED>) -> PageHeader
         requires { IP_HEADER ≤ length packet.now }
-        ensures { result ≡ ip_told packet.now }
+        ensures { result ≡ ip_struct packet.now }
     {
         let fragment = u16_at(packet, 6);
         PageHeader {
@@ -104,7 +104,7 @@ impl PageHeader {
     /// Decodes the IP header, and the UDP header after it.
     fn of_udp(packet: &[u8], covered: &mut Buffer<COVERED>) -> PageHeader
         requires { IP_UDP_HEADERS ≤ length packet.now }
-        ensures { result ≡ udp_told packet.now }
+        ensures { result ≡ udp_struct packet.now }
     {
         let header = PageHeader::of_ip(packet, covered);
         let (_, datagram) = packet.split_at(IP_HEADER as usize);
@@ -122,7 +122,7 @@ impl PageHeader {
 
     /// Decodes the headers of a packet.
     fn of(packet: &[u8], covered: &mut Buffer<COVERED>) -> PageHeader
-        ensures { result ≡ header_told packet.now }
+        ensures { result ≡ header_struct packet.now }
     {
         if packet.len() < IP_HEADER as usize {
             PageHeader::none()

@@ -12,7 +12,7 @@ ghost use Rattle.link_script.specs.Boots.{BootsRun};
 ghost use Rattle.chain_script.specs.Machines.{booted};
 ghost use Rattle.chain_script.specs.Steps as chain_steps;
 ghost use Rattle.chain_script.specs.Boots as chain_sizes;
-ghost use Rattle.page.specs.Told.{Drawn, Told, machine_config, sizes_of};
+ghost use Rattle.page.specs.Served.{Drawn, PageRun, machine_config, sizes_of};
 
 mod handed;
 mod headers;
@@ -51,7 +51,7 @@ pub extern "C" fn bsdudp_page_run(
     room: &mut [u8],
     len: &mut usize,
 ) -> u32
-    ensures told { Told (SaysBy Step) (boot (machine_config machine.now)) (BootsRun (machine_config machine.now))
+    ensures reported { PageRun (SaysBy Step) (boot (machine_config machine.now)) (BootsRun (machine_config machine.now))
         script.now result len.new room.old room.new }
 {
     let mut reader = script;
@@ -73,7 +73,7 @@ pub extern "C" fn bsdudp_page_chain(
     room: &mut [u8],
     len: &mut usize,
 ) -> u32
-    ensures told { Told chain_steps.Says (booted pool.now.mbufs pool.now.clusters)
+    ensures reported { PageRun chain_steps.Says (booted pool.now.mbufs pool.now.clusters)
         (chain_sizes.BootsChains (sizes_of pool.now))
         script.now result len.new room.old room.new }
 {

@@ -1,5 +1,5 @@
 //! The marks of a hand-in.
-ghost use Rattle.page.specs.Marked.{Marked, marks_told};
+ghost use Rattle.page.specs.Marked.{Marked, marks_struct};
 ghost use Rattle.std.specs.Prelude.{◌≡◌};
 
 use crate::handed::number_of;
@@ -22,8 +22,8 @@ pub struct PageMarks {
 }
 
 /// Converts marks to the struct of the page.
-fn told(marks: Marks) -> PageMarks
-    ensures { result ≡ marks_told marks }
+fn to_struct(marks: Marks) -> PageMarks
+    ensures { result ≡ marks_struct marks }
 {
     PageMarks {
         right: marks.right,
@@ -50,7 +50,7 @@ pub extern "C" fn bsdudp_page_marks(
 {
     match Marker::new(alloc) {
         Ok(mut marker) => {
-            *marks = told(marker.marks_by(key, hand_in));
+            *marks = to_struct(marker.marks_by(key, hand_in));
             number_of(Ok(()))
         }
         Err(_) => number_of(Err(RunFault::Memory)),

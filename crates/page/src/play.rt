@@ -10,7 +10,7 @@ ghost use Rattle.play_script.specs.declared.print.TheConstants.{NAME};
 ghost use Rattle.play_text.specs.declared.form.Form.TheVariants.{Json};
 ghost use Rattle.play_wire.specs.Reports as many_machines;
 ghost use Rattle.script_loop.specs.Serves.{IsServed};
-ghost use Rattle.page.specs.Told.{IsUnkept, Kept, Told, machine_config};
+ghost use Rattle.page.specs.Served.{IsUnkept, Kept, PageRun, machine_config};
 
 use crate::handed::{hand_over, kept_number_of, number_of};
 use crate::settings::PageMachine;
@@ -48,7 +48,7 @@ pub extern "C" fn bsdudp_page_play(
     room: &mut [u8],
     len: &mut usize,
 ) -> u32
-    ensures told { (traced : Traced) × Told (one_machine.Reports Step no_folder)
+    ensures reported { (traced : Traced) × PageRun (one_machine.Reports Step no_folder)
         (one_machine.started (boot (machine_config machine.now)) traced Json (take NAME (codes "script")))
         (BootsRun (machine_config machine.now))
         script.now result len.new room.old room.new }
@@ -71,7 +71,7 @@ pub extern "C" fn bsdudp_page_hosts(
     room: &mut [u8],
     len: &mut usize,
 ) -> u32
-    ensures told { Told many_machines.Reports
+    ensures reported { PageRun many_machines.Reports
         (many_machines.wire_started 1 Json (take NAME (codes "script"))) IsServed
         script.now result len.new room.old room.new }
 {

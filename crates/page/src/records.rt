@@ -1,6 +1,6 @@
 //! The records of a capture file.
 ghost use Rattle.std.specs.Prelude.{◌≡◌, ◌⊎◌, ◌+◌, ◌≤◌, ◌++◌, length, decimal, IfOk};
-ghost use Rattle.page.specs.Recorded.{HasNoWords, IsCaptureText, IsCaptureUnread, ReadsAll, Recorded, record_head, ipv4_of, record_told, nanoseconds_text};
+ghost use Rattle.page.specs.Recorded.{HasNoWords, IsCaptureText, IsCaptureUnread, ReadsAll, Recorded, record_head, ipv4_of, record_bytes, nanoseconds_text};
 
 use crate::handed::{hand_over, number_of};
 use capture::pcap::{LinkType, ipv4_packet};
@@ -18,7 +18,7 @@ pub struct PageCapture {
     pub records: u64,
     /// How many of the bytes that are returned are those of the records. The bytes after them describe the fault of the
     /// file, and its place; there are none if it was read to its end.
-    pub told: u64,
+    pub lines_len: u64,
 }
 
 /// The size of the buffer for the line before a packet.
@@ -83,7 +83,7 @@ fn put_record(
     head: &mut Buffer<HEAD>,
     text: &mut Vec<u8>,
 ) -> Result<(), AllocError>
-    ensures { IfOk result (λ u. text.new.items ≡ text.old.items ++ record_told read frame.now) }
+    ensures { IfOk result (λ u. text.new.items ≡ text.old.items ++ record_bytes read frame.now) }
 {
     let packet = packet_in(read.link, frame);
     put_head(head, read, frame.len(), packet.len());
@@ -143,14 +143,14 @@ fn read_file(alloc: Global, file: &[u8]) -> Result<Text, AllocError>
     let read = put_records(&mut records, &mut head, &mut bytes);
     let (_file, _room) = records.end();
     let (count, fault) = read?;
-    let told = bytes.len() as u64;
+    let lines_len = bytes.len() as u64;
     let words = words_for(alloc, fault)?;
     bytes.extend_from_slice(words.as_slice())?;
     Ok(Text {
         bytes,
         capture: PageCapture {
             records: u64::from(count),
-            told,
+            lines_len,
         },
     })
 }

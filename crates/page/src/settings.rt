@@ -1,6 +1,6 @@
 //! The page's settings of a machine, as they are in memory.
 ghost use Rattle.std.specs.Prelude.{◌≡◌};
-ghost use Rattle.page.specs.Told.{machine_config, sizes_of};
+ghost use Rattle.page.specs.Served.{machine_config, sizes_of};
 
 use chain_script::Sizes;
 use link_script::Config;

@@ -9,7 +9,7 @@ ghost use Rattle.net_stack.specs.Stack.{state_of};
 ghost use Rattle.script_loop.specs.Serves.{IsServed, Serves};
 ghost use Rattle.stack_call.specs.Moves.{StackSteps};
 ghost use Rattle.page.specs.Pictured.{IsStateText, Pictured};
-ghost use Rattle.page.specs.Told.{machine_config};
+ghost use Rattle.page.specs.Served.{machine_config};
 
 use crate::handed::{hand_over, number_of};
 use crate::mbufs::put_state;

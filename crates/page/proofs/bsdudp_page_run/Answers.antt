@@ -4,7 +4,7 @@ pub returns : goal.returns
 returns c =
     let s = rw c.config.ensures at c.run-outcome.ensures.served in
     record {
-      told = record {
+      reported = record {
         outcome = _;
         replies = _;
         unread = _;

@@ -2,7 +2,7 @@ use Rattle.std.proofs.Common.{◌≤◌, length, rules, List, Option, refl, sym,
 use Rattle.std.proofs.lemmas.Option.{slice_get_past}
 use Rattle.flat_model.specs.declared.counter.Counter.{Counter}
 use Rattle.flat_model.specs.Machine.Count.{all_counters}
-use Rattle.libbsdudp.specs.Told.{IsValue}
+use Rattle.libbsdudp.specs.Queries.{IsValue}
 use Rattle.libbsdudp.proofs.asks.counter.Goals as goal
 
 pub returns-in-None : goal.returns-in-None
@@ -12,7 +12,7 @@ returns-in-None c =
     slice_get_past all_counters c.args.which
     (subst (λ (all : List Counter). length all ≤ c.args.which) c.all.ensures past) in
     record {
-      told = c.counters-counters.result;
+      reported = c.counters-counters.result;
       step = c.counters-counters.ensures;
       value =
           subst (λ (o : Option Counter). IsValue o c.counters-counters.result (lib.IntN.negsuc 21) c.args.value.now

@@ -12,7 +12,7 @@ returns c =
     subst (λ (b : Option StackView). IsBooted b c.args.config.now (lib.IntN.negsuc 11) (stack_in c.take.new.self))
     (sym c.in_default.ensures.taken)
     (record {
-      told = Err Memory;
+      reported = Err Memory;
       boots = subst (λ (k : Config). IsConfig k) c.config.ensures c.in-Ok.ensures.booted.0;
       is = refl;
       leaves = c.take.ensures.left;

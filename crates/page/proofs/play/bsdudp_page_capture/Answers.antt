@@ -1,6 +1,6 @@
 use Rattle.std.proofs.Common.{◌≡◌, Bool, ap, inl, subst, sym, ◌∙◌}
 use Rattle.play_pcap.specs.Traces.{Traced}
-use Rattle.page.specs.Told.{kept_number}
+use Rattle.page.specs.Served.{kept_number}
 use Rattle.page.proofs.play.bsdudp_page_capture.Goals as goal
 
 pub returns : goal.returns
