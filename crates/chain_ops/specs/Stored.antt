@@ -48,7 +48,7 @@ rooms_for large n = or_empty (filled n (MCLBYTES - large) MHLEN n)
 abbrev pub IsStoredIn : ℕ → ℕ → Space → Type 0
 IsStoredIn large n InMbuf = (n ≤ MHLEN) × (rooms_for large n ≡ Plain n ∷ [])
 IsStoredIn large n InCluster = (MINCLSIZE ≤ n) × (n ≤ MCLBYTES - large) × (rooms_for large n ≡ Cluster n ∷ [])
-IsStoredIn large n InMore = MHLEN < n
+IsStoredIn large n InMore = (MHLEN < n) × (MINCLSIZE ≤ n → MCLBYTES - large < n)
 
 -- more buffers are needed than are free, or not
 abbrev pub Lacks : PoolView → List Room → Type 0

@@ -35,4 +35,4 @@ free_cluster p n laid free =
 -- two mbufs, for a packet that needs no cluster
 pub free_two : (p : PoolView) (n : ℕ) → IsStoredIn 0 n InMore → n < 208 → are_free p 2 0 ≡ true → Has p (wire n)
 free_two p n laid few free =
-    subst (Has p) (sym (two_plain n (omega (arith, laid)) few)) (enough_mbufs p 2 0 free (omega arith), omega arith)
+    subst (Has p) (sym (two_plain n (omega (arith, laid.0)) few)) (enough_mbufs p 2 0 free (omega arith), omega arith)

@@ -1,5 +1,5 @@
 //! The control blocks of a machine, and the calls on them.
-ghost use Rattle.std.specs.Prelude.{◌≡◌, ◌≢◌, ℕ, ◌<◌, ◌≤◌, [], ◌∷◌, true, All, None, Some, Ok, IfOk, IfSome, OnErr, OnOk, OnSome, length, option_map};
+ghost use Rattle.std.specs.Prelude.{◌≡◌, ◌≢◌, ◌==◌, ◌||◌, ℕ, ◌<◌, ◌≤◌, [], ◌∷◌, true, All, None, Some, Ok, IfNone, IfOk, IfSome, OnErr, OnOk, OnSome, length, option_map};
 ghost use Rattle.flat_model.specs.Machine.Event.{Bind, Close, Connect, Open, Set_option};
 ghost use Rattle.flat_model.specs.Machine.State.{State};
 ghost use Rattle.flat_model.specs.Machine.Step.{Step};
@@ -382,6 +382,8 @@ impl Pcbs {
         ensures peer { IfSome result (λ a. block.now.peer ≡ Some a) }
         ensures other { IfSome result (λ a.
             (a.ip ≢ self.now.addr) × (a.ip ≢ self.now.bcast) × (a.ip ≢ LOOPBACK)) }
+        ensures none { IfNone result (IfSome block.now.peer (λ a.
+            ((a.ip == self.now.addr) || (a.ip == self.now.bcast) || (a.ip == LOOPBACK)) ≡ true)) }
     {
         match block.peer {
             Some(peer) => {
@@ -417,7 +419,8 @@ impl Pcbs {
     #[inline(always)]
     pub fn port_of(&self, block: &Block) -> Option<u16>
         requires { block_at block.now.fd self.now ≡ Some block.now }
-        ensures { IfSome result (λ port. EnsuresPort self.now block.now.fd port self.now) }
+        ensures port { result ≡ block.now.port }
+        ensures same { IfSome result (λ port. EnsuresPort self.now block.now.fd port self.now) }
     {
         self.laws();
         match block.port {

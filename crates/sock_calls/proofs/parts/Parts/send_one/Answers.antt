@@ -100,7 +100,7 @@ returns-clause-sent c = λ _.
     let put =
     put_is {p = p} {q = r} {t = t} {u = t} {n = n} {made = made} {o = c.push_one.new.self} {back = n.looped}
     {d = c.count.new.self} {fd = b.fd} {to = c.in-Some-link_target.target} {bytes = c.args.bytes.now} h refl refl
-    c.source_of.ensures c.in-Some-port_of.ensures refl are c.count.ensures refl in
+    c.source_of.ensures c.in-Some-port_of.ensures.same refl are c.count.ensures refl in
     let put_here =
     subst (λ (k : ℕ). IsPut k c.in-Some-link_target.target c.args.bytes.now p t n false r t
     (record {
