@@ -48,9 +48,13 @@ MACHINE = {
     "tick 65536": "`65536` is no N (1 to 65535): `tick [N]`",
     "show": "WHAT (sockets, unfinished, queue, counters or pool) is missing: `show WHAT`",
     "show socket": "`socket` is no WHAT (sockets, unfinished, queue, counters or pool): `show WHAT`",
-    "rx pcap a.pcap 0-3": "it's written otherwise: `rx pcap FILE [N-M] [ticks]`",
     "=> ok": "no command stands in front of `=>`",
-}
+    **dict.fromkeys(
+        (f"rx pcap{it}" for it in ("", " a 0-3", " a 2-1", " a 1-", " a -1", " a 1", " a 01-2", " a 1-4294967296",
+                                   " a ticks 1-2", " a ticks ticks", " a 1-2 ticks x")),
+        "it's written otherwise: `rx pcap FILE [N-M] [ticks]`",
+    ),
+}  # fmt: skip
 # Lines of a script for two hosts, and the error for each.
 WIRE = {
     "socket": "`socket` is asked of a host: `NAME: socket`",
@@ -153,6 +157,28 @@ def test_a_byte_order_mark_in_front_changes_nothing(script, bsdplay):
 
 def test_a_byte_order_mark_in_the_second_line_is_part_of_a_word(bsdplay):
     same("socket", printed(bsdplay, ["", f"{MARK}socket"]), [f"-:2: `{MARK}socket` is no command"])
+
+
+# ---- hosts that can't join -----------------------------------------------------------------------------------------
+
+# What is wrong with another host beside 10.0.0.1 and 10.0.0.2.
+JOINS = {
+    "host c --addr 10.0.0.2": "another host's addresses stand in the way",
+    "host c --addr 10.0.0.255": "another host's addresses stand in the way",
+    "host c --addr 10.0.0.3 --mtu 67": "bad config",
+    "host c --addr 10.0.0.3 --mbufs 0": "bad sizes",
+    "host c ether --addr 10.0.0.3": "either all hosts are on an Ethernet, or none is",
+}
+
+
+@pytest.mark.parametrize("line", JOINS)
+def test_a_host_that_cannot_join_is_explained(line, bsdplay):
+    same(line, advice(bsdplay, HOSTS[:2], line), [f"-:3: {JOINS[line]}"])
+
+
+def test_64_hosts_can_join(bsdplay):
+    lines = [f"host h{it} --addr 10.0.0.{it}" for it in range(1, 66)]
+    same("the 65th host", advice(bsdplay, lines[:64], lines[64]), ["-:65: there are 64 hosts already"])
 
 
 # ---- hosts on an Ethernet ------------------------------------------------------------------------------------------

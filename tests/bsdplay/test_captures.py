@@ -388,3 +388,22 @@ def test_tshark_has_the_record_numbers_and_times_of_from_pcap(bsdplay, asked):
     told = run(bsdplay, "--from-pcap", path).stdout.decode()
     times = ((it["frame.number"], it["frame.time_relative"][:-3]) for it in rows if it["ip.checksum.status"])
     same("--from-pcap, and tshark", re.findall("(?m)^# .*$", told), [f"# record {n}, {time} s" for n, time in times])
+
+
+# ---- captures that are written -------------------------------------------------------------------------------------
+
+WRITING = {
+    "a machine": ["socket", 'rx udp 10.0.0.2:9 > 10.0.0.1:7 "hi"'],
+    "two hosts": ["host a --addr 10.0.0.1", "host b --addr 10.0.0.2", "wire a b", "a: socket",
+                  'a: sendto 3 10.0.0.2 7 "hi"', "carry"],
+}  # fmt: skip
+
+
+@pytest.mark.parametrize("name", WRITING)
+def test_a_capture_that_cannot_be_written(name, bsdplay):
+    """Nothing can be written to /dev/full. The replies are those of a run without a capture."""
+    script = of_lines(WRITING[name])
+    ended, without = run(bsdplay, "--pcap", "/dev/full", script=script), run(bsdplay, script=script)
+    same("what is printed", ended.stdout, without.stdout)
+    wanted = (4, b"bsdplay: the capture isn't whole, since a write failed\n")
+    same("status, and what is said", (ended.returncode, ended.stderr), wanted)

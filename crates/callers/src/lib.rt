@@ -1,5 +1,4 @@
-//! An example caller of each library: small whole programs, which the READMEs of the crates show. And tests of the
-//! players.
+//! An example caller of each library: small whole programs, which the READMEs of the crates show.
 #![tactic(auto)]
 
 pub mod admission;
@@ -16,14 +15,13 @@ pub mod ether_echo;
 pub mod fragment;
 pub mod handed_in;
 pub mod hearing;
+pub mod laws_on_a_wire;
 pub mod line_echo;
 pub mod lines_of_hosts;
 pub mod link_packets;
 pub mod named_packet;
 pub mod packet_sum;
 pub mod packet_taken;
-#[cfg(test)]
-mod players;
 pub mod printed_line;
 pub mod receive_queue;
 pub mod send;

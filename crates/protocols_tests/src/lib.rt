@@ -1,24 +1,14 @@
-//! Tests of the definitions and their programs, checksums, accounts, IP output and reassembly, control blocks, UDP and
-//! receive queues. They use only the contracts of these crates, so they are checked separately.
+//! Calls of the layers below the stack on real memory, with results worked out by hand. They use only the contracts of
+//! these crates, so they are checked separately.
 #![tactic(auto)]
 
 #[cfg(test)]
-mod accounts;
-#[cfg(test)]
 mod checksums;
 #[cfg(test)]
-mod comparison;
+mod needs;
 #[cfg(test)]
-mod control_blocks;
-#[cfg(test)]
-mod datagrams;
-#[cfg(test)]
-mod definitions;
-#[cfg(test)]
-mod output;
-#[cfg(test)]
-mod programs;
+mod pool;
 #[cfg(test)]
 mod reassembly;
 #[cfg(test)]
-mod receive_queues;
+mod socket_calls;

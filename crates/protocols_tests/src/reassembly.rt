@@ -1,189 +1,194 @@
-//! What the table reports about its datagrams, and why fragments are dropped, worked out by hand.
+//! Packets that arrive, and ticks: what happens to each fragment, worked out by hand from 4.4BSD's rules.
 
-mod arrivals;
 mod steps;
 
-ghost use Rattle.ip_reass.specs.Table.{IsReady};
+ghost use Rattle.std.specs.Prelude.{◌≡◌, ◌∷◌, ◌≤◌, length, true};
+ghost use Rattle.mbuf_chain.specs.Chain.{chain_of, string};
+ghost use Rattle.mbuf_chain.specs.Owners.{IsOwned};
+ghost use Rattle.ip_reass.specs.Table.{IsReady, held_all};
 
-use flat_model::{FragmentKey, Why};
-use ip_out::IpHead;
-use ip_reass::{HeldRange, UnfinishedDatagram};
+use chain_ops::m_copydata;
+use flat_model::{Counter, Why};
+use ip_out::{IpHead, read_head};
+use ip_reass::{Arrival, Reass};
+use mbuf_chain::{Chain, Pool};
+use params::{IP_HEADER, IP_MAX_PACKET};
 use std::alloc::Global;
 use std::process::Abort;
-use steps::{HEAD, Host, Piece, booted};
+use steps::{Host, booted, received};
 
-const KEY: FragmentKey = FragmentKey {
-    source: HEAD.src,
-    destination: HEAD.dst,
-    id: HEAD.id,
-    protocol: HEAD.proto,
-};
+/// What happens to a fragment; for a whole datagram, the bytes after its IP header.
+#[derive(Clone, Copy, PartialEq, Eq)]
+enum Became {
+    Kept,
+    Dropped(Why),
+    Whole(&'static [u8]),
+}
 
-static FIRST: UnfinishedDatagram = UnfinishedDatagram {
-    key: KEY,
-    ticks: 58,
-    bytes: 32,
-    ranges: 3,
-};
+/// What happens, and what is seen then.
+enum Event {
+    /// A packet arrives.
+    Arrives(&'static [u8], Became),
+    /// This many ticks, and how many datagrams they end.
+    Ticks(u32, u32),
+    /// How many of 512 mbufs are free.
+    Free(u32),
+    /// The value of a counter.
+    Counted(Counter, u64),
+}
 
-static SECOND: UnfinishedDatagram = UnfinishedDatagram {
-    key: FragmentKey { id: 6, ..KEY },
-    ticks: 60,
-    bytes: 5,
-    ranges: 1,
-};
+use Became::{Dropped, Kept, Whole};
+use Event::{Arrives, Counted, Free, Ticks};
 
-/// The ranges of the first datagram after two of its fragments, and after three.
-static TWO: [HeldRange; 2] = [
-    HeldRange {
-        offset: 8,
-        len: 16,
-        more: true,
-    },
-    HeldRange {
-        offset: 24,
-        len: 8,
-        more: true,
-    },
+/// The IP header of each packet is on a line of its own. They're from 10.0.0.2 to 10.0.0.1; the bytes after the header
+/// are a UDP header if they aren't letters.
+static CASES: [(&str, &[Event]); 3] = [
+    // Each overlaps the one before and begins earlier, so those in the queue lose their front.
+    (
+        "later ones lose their front",
+        &[
+            Arrives(
+                b"\x45\x00\x00\x24\x00\x05\x00\x02\x40\x11\x66\xc0\x0a\x00\x00\x02\x0a\x00\x00\x01\
+                  cccccccccccccccc",
+                Kept,
+            ),
+            Arrives(
+                b"\x45\x00\x00\x24\x00\x05\x20\x01\x40\x11\x46\xc1\x0a\x00\x00\x02\x0a\x00\x00\x01\
+                  dddddddddddddddd",
+                Kept,
+            ),
+            Free(509),
+            Arrives(
+                b"\x45\x00\x00\x24\x00\x05\x20\x00\x40\x11\x46\xc2\x0a\x00\x00\x02\x0a\x00\x00\x01\
+                  \x13\x88\x00\x07\x00\x20\x00\x00eeeeeeee",
+                Whole(b"\x13\x88\x00\x07\x00\x20\x00\x00eeeeeeeeddddddddcccccccc"),
+            ),
+            Free(512),
+            Counted(Counter::IpReassembled, 1),
+        ],
+    ),
+    // The first fragment has all of the second.
+    (
+        "held by a predecessor",
+        &[
+            Arrives(
+                b"\x45\x00\x00\x24\x00\x06\x20\x00\x40\x11\x46\xc1\x0a\x00\x00\x02\x0a\x00\x00\x01\
+                  \x13\x88\x00\x07\x00\x18\x00\x00aaaaaaaa",
+                Kept,
+            ),
+            Arrives(
+                b"\x45\x00\x00\x1c\x00\x06\x20\x01\x40\x11\x46\xc8\x0a\x00\x00\x02\x0a\x00\x00\x01\
+                  cccccccc",
+                Dropped(Why::FragmentDropped),
+            ),
+            Counted(Counter::IpFragments, 2),
+            Counted(Counter::IpFragdropped, 1),
+            Arrives(
+                b"\x45\x00\x00\x1c\x00\x06\x00\x02\x40\x11\x66\xc7\x0a\x00\x00\x02\x0a\x00\x00\x01\
+                  bbbbbbbb",
+                Whole(b"\x13\x88\x00\x07\x00\x18\x00\x00aaaaaaaabbbbbbbb"),
+            ),
+            Free(512),
+        ],
+    ),
+    // A datagram ends at its 60th tick.
+    (
+        "times out",
+        &[
+            Arrives(
+                b"\x45\x00\x00\x1c\x00\x06\x00\x02\x40\x11\x66\xc7\x0a\x00\x00\x02\x0a\x00\x00\x01\
+                  bbbbbbbb",
+                Kept,
+            ),
+            Ticks(59, 0),
+            Free(510),
+            Ticks(1, 1),
+            Free(512),
+        ],
+    ),
 ];
 
-static THREE: [HeldRange; 3] = [
-    HeldRange {
-        offset: 0,
-        len: 16,
-        more: true,
-    },
-    HeldRange {
-        offset: 16,
-        len: 8,
-        more: true,
-    },
-    HeldRange {
-        offset: 24,
-        len: 8,
-        more: true,
-    },
-];
-
-/// The ranges of the second datagram.
-static LAST: [HeldRange; 1] = [HeldRange {
-    offset: 64,
-    len: 5,
-    more: false,
-}];
-
-/// Returns whether the table has exactly these ranges of a datagram.
-fn has_ranges(host: &Host, datagram: u32, wanted: &[HeldRange]) -> bool
-    requires { IsReady host.now.pool host.now.table }
+/// Receives a packet into the pool, beside a table. Also returns its header.
+fn fragment_in(rt: &impl Abort, pool: &mut Pool, table: &Reass, packet: &[u8]) -> (Chain, IpHead)
+    requires { IsReady pool.old table.now }
+    ensures ready { IsReady pool.new table.now }
+    ensures owned { IsOwned pool.new (result.0 ∷ held_all pool.new table.now.datagrams) }
+    ensures headed { (chain_of pool.new result.0).front.header ≡ true }
+    ensures total { length (string (chain_of pool.new result.0)) ≡ result.1.total }
+    ensures header { IP_HEADER ≤ result.1.total }
+    ensures offset { result.1.offset ≤ IP_MAX_PACKET }
 {
-    let mut k = 0u32;
-    for range in wanted {
-        if host.table.range(&host.pool, datagram, k) != Some(*range) {
-            return false;
+    assert!(rt; packet.len() <= 64);
+    let chain = received(rt, pool, table, packet);
+    let Ok(head) = read_head(pool, &chain) else {
+        panic!(rt; "no packet")
+    };
+    let total = u32::from(head.total);
+    assert!(rt; total == pool.len(&chain) && total >= IP_HEADER && head.offset <= IP_MAX_PACKET);
+    (chain, head)
+}
+
+/// Returns whether a whole datagram has these bytes, and frees it.
+fn has_bytes(rt: &impl Abort, pool: &mut Pool, table: &Reass, chain: Chain, bytes: &[u8]) -> bool
+    requires owned { IsOwned pool.old (chain ∷ held_all pool.old table.now.datagrams) }
+    requires ready { IsReady pool.old table.now }
+    ensures { IsReady pool.new table.now }
+{
+    let mut room = [0; 64];
+    let len = pool.len(&chain) as usize;
+    assert!(rt; len <= 64);
+    m_copydata(pool, &chain, 0, &mut room[..len]);
+    pool.free_chain(chain);
+    room.get(..len) == Some(bytes)
+}
+
+/// Returns whether this happens to a packet that arrives.
+fn becomes(rt: &impl Abort, host: &mut Host, packet: &[u8], want: Became) -> bool
+    requires { IsReady host.old.pool host.old.table }
+    ensures { IsReady host.new.pool host.new.table }
+{
+    let (chain, head) = fragment_in(rt, &mut host.pool, &host.table, packet);
+    let arrival = host
+        .table
+        .arrive(&mut host.pool, &mut host.counters, chain, head);
+    match arrival {
+        Arrival::Kept => want == Kept,
+        Arrival::Dropped(why) => want == Dropped(why),
+        Arrival::Whole(chain, _) => {
+            let Whole(bytes) = want else {
+                panic!(rt; "the datagram is whole")
+            };
+            has_bytes(rt, &mut host.pool, &host.table, chain, bytes)
         }
-        k = k.wrapping_add(1);
     }
-    host.table.range(&host.pool, datagram, k).is_none()
 }
 
-/// Returns whether the table reports this about a datagram.
-fn is_reported(host: &Host, datagram: u32, wanted: &UnfinishedDatagram) -> bool
-    requires { IsReady host.now.pool host.now.table }
+/// Returns whether an event has its expected result.
+fn comes_out(rt: &impl Abort, host: &mut Host, event: &Event) -> bool
+    requires { IsReady host.old.pool host.old.table }
+    ensures { IsReady host.new.pool host.new.table }
 {
-    host.table.unfinished(&host.pool, datagram) == Some(*wanted)
+    match event {
+        Arrives(packet, want) => becomes(rt, host, packet, *want),
+        Ticks(n, ended) => host.ticks(*n) == *ended,
+        Free(mbufs) => host.pool.free_mbufs() == *mbufs,
+        Counted(counter, value) => host.counters.value(*counter) == *value,
+    }
 }
 
-/// Returns whether there is no such datagram.
-fn is_none(host: &Host, datagram: u32) -> bool
-    requires { IsReady host.now.pool host.now.table }
-{
-    host.table.unfinished(&host.pool, datagram).is_none() && has_ranges(host, datagram, &[])
+/// Returns whether all events have their expected results on a table of their own, and all of the pool is free when
+/// that ends.
+fn all_comes_out(rt: &impl Abort, alloc: Global, case: &str, events: &[Event]) -> bool {
+    let mut host = booted(rt, alloc, 512, 64);
+    'events: for (row, event) in events.iter().enumerate() {
+        assert!(rt; comes_out(rt, &mut host, event), "{case}: row {row}");
+    }
+    host.ended()
 }
 
 #[test]
-fn reports_ranges(rt: HostRuntime) {
-    let mut host = booted(&rt, rt.alloc(), 16, 0);
-    assert!(rt; host.table.is_empty() && is_none(&host, 0));
-    assert!(rt; host.waits(&rt, HEAD, (16, true, b'c', 16)));
-    assert!(rt; !host.table.is_empty());
-    assert!(rt; host.ticks(2) == 0);
-    let other = IpHead { id: 6, ..HEAD };
-    assert!(rt; host.waits(&rt, other, (64, false, b'x', 5)));
-    // 16 to 32 loses its front to 8 to 24, and that one loses its own to 0 to 16
-    assert!(rt; host.waits(&rt, HEAD, (8, true, b'd', 16)));
-    assert!(rt; has_ranges(&host, 0, &TWO));
-    assert!(rt; host.waits(&rt, HEAD, (0, true, b'e', 16)));
-    assert!(rt; has_ranges(&host, 0, &THREE));
-    assert!(rt; is_reported(&host, 0, &FIRST));
-    assert!(rt; is_reported(&host, 1, &SECOND));
-    assert!(rt; has_ranges(&host, 1, &LAST));
-    assert!(rt; is_none(&host, 2));
-    assert!(rt; host.ended());
-}
-
-/// The number of mbufs in a pool with one cluster, a fragment that arrives at an empty table, and why it's dropped.
-static DROPPED: [(&str, u32, Piece, Why); 6] = [
-    ("no byte", 4, (0, true, b'x', 0), Why::BadFragment),
-    (
-        "no multiple of 8, and others after it",
-        4,
-        (0, true, b'x', 10),
-        Why::BadFragment,
-    ),
-    (
-        "past the longest datagram",
-        4,
-        (65_512, false, b'x', 4),
-        Why::BadFragment,
-    ),
-    (
-        "a plain mbuf, and none for its key",
-        1,
-        (8, false, b'x', 10),
-        Why::NoBufs,
-    ),
-    (
-        "a cluster, and no mbuf for its header",
-        1,
-        (8, false, b'x', 300),
-        Why::NoBufs,
-    ),
-    (
-        "a cluster, an mbuf for its header, and none for its key",
-        2,
-        (8, false, b'x', 300),
-        Why::NoBufs,
-    ),
-];
-
-/// Returns whether a fragment is dropped for this cause, and its buffers are free again.
-fn is_dropped(rt: &impl Abort, alloc: Global, mbufs: u32, piece: Piece, why: Why) -> bool {
-    let mut host = booted(rt, alloc, mbufs, 1);
-    let refusal = host.refusal(rt, HEAD, piece);
-    host.ended() && refusal == Some(why)
-}
-
-/// Fragments that wait, and for each a second one whose bytes it contains.
-static COVERED: [(Piece, Piece); 2] = [
-    ((0, true, b'a', 16), (8, true, b'c', 8)),
-    ((0, true, b'a', 32), (24, false, b'b', 4)),
-];
-
-/// Returns whether the second of two fragments is dropped because the first contains all of its bytes.
-fn is_covered(rt: &impl Abort, alloc: Global, first: Piece, second: Piece) -> bool {
-    let mut host = booted(rt, alloc, 8, 0);
-    let waits = host.waits(rt, HEAD, first);
-    let refusal = host.refusal(rt, HEAD, second);
-    host.ended() && waits && refusal == Some(Why::FragmentDropped)
-}
-
-#[test]
-fn reports_why_it_drops(rt: HostRuntime) {
-    for (case, mbufs, piece, why) in DROPPED.iter() {
-        let is_right = is_dropped(&rt, rt.alloc(), *mbufs, *piece, *why);
-        assert!(rt; is_right, "{case}");
-    }
-    for (first, second) in COVERED.iter() {
-        assert!(rt; is_covered(&rt, rt.alloc(), *first, *second));
+fn what_happens_to_fragments(rt: HostRuntime) {
+    for (case, events) in CASES.iter() {
+        assert!(rt; all_comes_out(&rt, rt.alloc(), case, events), "{case}");
     }
 }

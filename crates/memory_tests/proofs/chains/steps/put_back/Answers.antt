@@ -1,9 +1,0 @@
-use Rattle.mbuf_chain.proofs.Laws.Owners.{live_with}
-use Rattle.mbuf_chain.proofs.Laws.Steps.{place_after}
-use Rattle.memory_tests.proofs.chains.steps.put_back.Goals as goal
-
-pub returns-clause-place : goal.returns-clause-place
-returns-clause-place g c = place_after _ _ _ _ _ _ c.put_back.ensures c.requires.place
-
-pub returns-clause-live : goal.returns-clause-live
-returns-clause-live g c = λ k live. live_with _ _ _ _ k c.put_back.ensures live

@@ -1,5 +1,0 @@
-use Rattle.sockbuf.specs.SockBuf.{IsSockBuf}
-use Rattle.protocols_tests.proofs.receive_queues.takes_325_datagrams_of_one_byte.Given as goal
-
-abbrev pub invariant-datagrams : goal.invariant-datagrams
-invariant-datagrams g l = IsSockBuf l.pool l.queue

@@ -1,6 +1,0 @@
-use Rattle.stack_tests.proofs.Hosted.{after_call}
-use Rattle.stack_tests.proofs.socket_calls.host.Host.connect.Goals as goal
-
-pub invariant_of-self : goal.invariant_of-self
-invariant_of-self c =
-    after_call c.self.inside.net c.self.invariant (c.connect.ensures c.self.inside.pool c.self.invariant.0)

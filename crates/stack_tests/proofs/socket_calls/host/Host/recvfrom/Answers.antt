@@ -1,5 +1,0 @@
-use Rattle.stack_tests.proofs.Hosted.{after_socks}
-use Rattle.stack_tests.proofs.socket_calls.host.Host.recvfrom.Goals as goal
-
-pub invariant_of-self : goal.invariant_of-self
-invariant_of-self c = after_socks c.self.inside.net c.self.invariant c.recvfrom.ensures.ready c.recvfrom.ensures.moves
