@@ -123,7 +123,7 @@ def forms(bsdplay):
     """The forms of one machine's lines and those of many machines, by the program's help."""
     found, into = ([], []), None
     for line in run(bsdplay, "--help").stdout.decode().splitlines():
-        if line.startswith("Lines behind"):
+        if line.startswith("Lines of a host"):
             into = None
         elif line.startswith("Lines"):
             into = found[line.startswith("Lines of many")]
