@@ -127,7 +127,7 @@ def forms(bsdplay):
     """Returns the forms of lines for one host, and of those for several hosts, from the program's help."""
     found, into = ([], []), None
     for line in run(bsdplay, "--help").stdout.decode().splitlines():
-        if line.startswith("Lines behind"):
+        if line.startswith("Lines of a host"):
             into = None
         elif line.startswith("Lines"):
             into = found[line.startswith("Lines of many")]

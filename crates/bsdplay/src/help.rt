@@ -3,11 +3,11 @@ use play_forms::{Command, host_commands, wire_commands};
 use std::alloc::{AllocError, Global};
 
 const FRONT: &str =
-    "Status: 0 if all is well; 1 if a line is wrong, something else than expected came, or a
-capture can't be played in; 2 for a wrong command line; 3 without memory; 4 if a
-file can't be read, or writing fails.
+    "Status: 0 if all is well; 1 if a line is wrong, a reply differs from the expected one, or
+a capture can't be played; 2 for a wrong command line; 3 without memory; 4 if a file
+can't be read, or writing fails.
 
-Lines, also with a time in front (+0.5s tx); docs/scripts.md or man bsdplay has more:
+Lines, also after a time (+0.5s tx); docs/scripts.md and man bsdplay explain them:
 ";
 
 /// Appends the forms of commands, a line for each.
@@ -38,9 +38,9 @@ pub(crate) fn lines(alloc: Global) -> Result<String, AllocError> {
     let mut text = String::new(alloc);
     text.push_str(FRONT)?;
     add_forms(&mut text, &host_commands())?;
-    text.push_str("Lines behind the NAME: of one host on an Ethernet of many machines:\n")?;
+    text.push_str("Lines of a host on an Ethernet, after its NAME:\n")?;
     add_forms(&mut text, &[Command::Frame, Command::LastError])?;
-    text.push_str("Lines of many machines, where NAME: stands in front of those above:\n")?;
+    text.push_str("Lines of many hosts, with those above after a host's NAME:\n")?;
     add_forms(&mut text, &wire_commands())?;
     Ok(text)
 }

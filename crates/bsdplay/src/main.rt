@@ -51,13 +51,13 @@ const UNREAD: u8 = 4;
 fn command<'a>(alloc: Global, lines: &'a str) -> Result<Command<'a>, AllocError> {
     let command = Command::new(alloc, "bsdplay")
         .version("0.3.0")
-        .about("Plays scripts of socket calls, packets and ticks, and says what came of each line")
+        .about("Plays scripts of socket calls, packets and ticks, and prints what each line does")
         .after_help(lines)
         .arg(
             Arg::new(alloc, "quiet")
                 .short('q')
                 .long("quiet")
-                .help("Print replies and differences alone, without the lines")
+                .help("Print only replies and differences, without the lines")
                 .action(ArgAction::SetTrue),
         )?;
     with_options(alloc, command, &OPTIONS)?

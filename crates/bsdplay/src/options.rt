@@ -34,19 +34,19 @@ pub(crate) static OPTIONS: [LongOption; 15] = [
     LongOption {
         id: "json",
         long: "json",
-        help: "Print each line as an object of JSON, for programs",
+        help: "Print each line as a JSON object, for programs",
         action: ArgAction::SetTrue,
     },
     LongOption {
         id: "WHEN",
         long: "color",
-        help: "Colours: always, never, or auto: on a terminal, if NO_COLOR isn't set",
+        help: "Colours: always, never, or auto (on a terminal, unless NO_COLOR is set)",
         action: ArgAction::Set,
     },
     LongOption {
         id: "seed",
         long: "seed",
-        help: "The seed of the wire, if the script doesn't say one: 1 if it's left out",
+        help: "The seed of the wire, if the script has none (default: 1)",
         action: ArgAction::Set,
     },
     LongOption {
@@ -58,25 +58,25 @@ pub(crate) static OPTIONS: [LongOption; 15] = [
     LongOption {
         id: "summary",
         long: "summary",
-        help: "Tell at the end what was counted of each host",
+        help: "Print the counts of each host at the end",
         action: ArgAction::SetTrue,
     },
     LongOption {
         id: "progress",
         long: "progress",
-        help: "Tell each hundredth seed on standard error, even if it is no terminal",
+        help: "Print progress to stderr every 100 seeds, even if stderr isn't a terminal",
         action: ArgAction::SetTrue,
     },
     LongOption {
         id: "PCAP",
         long: "pcap",
-        help: "Write the packets that come and go, or what goes on the wire of many machines, to this file",
+        help: "Write the packets received and sent, or those on the wire of many hosts, to this file",
         action: ArgAction::Set,
     },
     LongOption {
         id: "strict",
         long: "strict",
-        help: "Each line that asks for something has to have an expectation that says something",
+        help: "Report each call and each question for which nothing is expected",
         action: ArgAction::SetTrue,
     },
     LongOption {
@@ -88,7 +88,7 @@ pub(crate) static OPTIONS: [LongOption; 15] = [
     LongOption {
         id: "KEY",
         long: "key",
-        help: "With --grade: the solved script, whose replies and answers count",
+        help: "With --grade: the key, whose expected replies count",
         action: ArgAction::Set,
     },
     LongOption {
@@ -100,19 +100,19 @@ pub(crate) static OPTIONS: [LongOption; 15] = [
     LongOption {
         id: "SOLVED",
         long: "blank",
-        help: "Print this key as an exercise, with ? in the place of replies and answers",
+        help: "Print this key as an exercise, with ? instead of what it expects",
         action: ArgAction::Set,
     },
     LongOption {
         id: "CAPTURE",
         long: "from-pcap",
-        help: "Print the IPv4 packets of this capture as a script, and play nothing; '-': standard input",
+        help: "Print the IPv4 packets of this capture as a script; '-': standard input",
         action: ArgAction::Set,
     },
     LongOption {
         id: "N-M",
         long: "records",
-        help: "With --from-pcap: the records from number N to M alone",
+        help: "With --from-pcap: only the records from number N to M",
         action: ArgAction::Set,
     },
     LongOption {
@@ -128,31 +128,31 @@ pub(crate) static WHY_OPTIONS: [LongOption; 5] = [
     LongOption {
         id: "A",
         long: "addr",
-        help: "The machine's address; without it the one to which most datagrams go",
+        help: "The host's address (default: the one that most datagrams go to)",
         action: ArgAction::Set,
     },
     LongOption {
         id: "PORT",
         long: "port",
-        help: "The one port that's bound; without it each port to which a datagram goes",
+        help: "The only port that is bound (default: each port that a datagram goes to)",
         action: ArgAction::Set,
     },
     LongOption {
         id: "N-M",
         long: "records",
-        help: "Print the records from number N to M alone; those before still come",
+        help: "Print only the records from number N to M; earlier ones are still played",
         action: ArgAction::Set,
     },
     LongOption {
         id: "all",
         long: "all",
-        help: "Let packets for other machines come too, which this one drops",
+        help: "Also play packets for other hosts, which are dropped",
         action: ArgAction::SetTrue,
     },
     LongOption {
         id: "json",
         long: "json",
-        help: "Print an object of JSON for each record, and no table",
+        help: "Print a JSON object for each record, and no summary",
         action: ArgAction::SetTrue,
     },
 ];

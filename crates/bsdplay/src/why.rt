@@ -17,7 +17,7 @@ use std::{fs, io};
 /// Returns the subcommand, with its options.
 pub(crate) fn why_command<'a>(alloc: Global) -> Result<Command<'a>, AllocError> {
     let command = Command::new(alloc, "why")
-        .about("Say of each packet of a capture what became of it, and why it was dropped")
+        .about("Say what happens to each packet of a capture, and why it's dropped")
         .arg(
             Arg::new(alloc, "CAPTURE")
                 .help("A capture, pcap or pcapng, of any length; '-': standard input")
