@@ -37,6 +37,23 @@ KNOWN = """        it = self.unfinished.setdefault(key, Unfinished(self.now))
         self.known = it.known = getattr(it, "known", None) or [(one, one.peer) for one in self.sockets]
 """
 
+KEY = "tuple[int, int, int, int]"
+ONCE = """old = [key for key, it in self.unfinished.items() if self.now - it.born >= LIFE_MS]
+        for key in [] if hasattr(self, "expired") else old:
+            self.expired = True
+            del self.unfinished[key]"""
+BUCKET = """        for old in [it for it in self.unfinished if it != key and it[2] % 16 == key[2] % 16]:
+            del self.unfinished[old]
+"""
+OPENED = "        self.sockets.append(Socket(socket, port))\n"
+GIVEN = "            self.got(*sender, socket)\n"
+KEPT = """        if not any(it.port == port for it in self.sockets):
+            sender = ".".join(map(str, source.to_bytes(4, "big"))), sport, data[8:length]
+            self.__dict__.setdefault("early", {}).setdefault(port, []).append(sender)
+"""
+PEER_OF, FOUR_BYTES = "self.sockets[socket].peer", 'int.from_bytes(parts, "big")'
+PEER_SET = f"{PEER_OF} = ({FOUR_BYTES}, port)"
+
 # A fault, pairs of old and new text in small_stack.py, and the rule that must report it.
 FAULTS = [
     (
@@ -151,6 +168,43 @@ FAULTS = [
         "of several datagrams that expire at once the first alone is freed",
         [("if self.now - it.born >= LIFE_MS]:", "if self.now - it.born >= LIFE_MS][:1]:")],
         "frag.time.drop",
+    ),
+    (
+        "an identification that comes again keeps the time of its first datagram",
+        [
+            ("        self.now = 0\n", f"        self.now = 0\n        self.births: dict[{KEY}, int] = {{}}\n"),
+            ("Unfinished(self.now))", "Unfinished(self.births.setdefault(key, self.now)))"),
+        ],
+        "frag.time.keep",
+    ),
+    ("nothing expires any more after the first time", [(EXPIRED, ONCE)], "frag.time.drop"),
+    (
+        "of two unfinished datagrams in one of 16 buckets the first is dropped",
+        [("        it = self.unfinished.setdefault(key", f"{BUCKET}        it = self.unfinished.setdefault(key")],
+        "frag.key",
+    ),
+    (
+        "a datagram to a port without a socket is kept for the one that is bound to it",
+        [
+            (OPENED, f"{OPENED}        for sender in self.__dict__.get('early', {{}}).pop(port, []):\n{GIVEN}"),
+            (RECEIVERS, f"{KEPT}{RECEIVERS}"),
+        ],
+        "socket.ports",
+    ),
+    (
+        "a further socket gets no datagram without data",
+        [(ADDRESS, f"            if it.number and length == 8:\n                continue\n{ADDRESS}")],
+        "socket.ports",
+    ),
+    (
+        "a connected socket gets no datagram without data",
+        [(ADDRESS, f"            if it.peer and length == 8:\n                continue\n{ADDRESS}")],
+        "socket.connected",
+    ),
+    (
+        "another connect changes the peer's address, and leaves its port",
+        [(PEER_SET, f"old = {PEER_OF}\n        {PEER_OF} = ({FOUR_BYTES}, old[1] if old else port)")],
+        "socket.connected",
     ),
 ]
 

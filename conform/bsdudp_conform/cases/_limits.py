@@ -47,6 +47,21 @@ def add_ends_of_several(to: Builder) -> None:
             to.add("frag.time.drop", name, [*lasts, seconds * 1000, *firsts])
 
 
+def add_ages_after_others(to: Builder) -> None:
+    """A datagram's time begins with its first fragment: whatever came before with its identification, and even if
+    another one expired before."""
+    for seconds in (15, 30, 60, 120):
+        id = to.id
+        whole = pieces(udp(to.data(40)), [24], id=id)
+        for way, (one, other) in both_ways(pieces(udp(to.data(40)), [24], id=id)):
+            steps: List[Given] = [*whole, (seconds - 1) * 1000, one, 1900, other]
+            to.add("frag.time.keep", f"its identification was another's {seconds - 1} s ago, {way}", steps)
+    for seconds in (125, 300):
+        (_, stale), (one, other) = to.halves(), to.halves()
+        name = f"{seconds} s between the last and the first, after another datagram expired"
+        to.add("frag.time.drop", name, [stale, seconds * 1000, other, seconds * 1000, one])
+
+
 def add_ends_of_time(to: Builder) -> None:
     for name, which, rule in (
         ("the first of two", [0], "icmp.reass"),
