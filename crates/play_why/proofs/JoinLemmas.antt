@@ -1,16 +1,16 @@
 -- The bytes of a datagram, fragment by fragment.
-use Rattle.std.proofs.Common.{◌≡◌, ℕ, ◌+◌, ◌-◌, ◌<◌, ◌≤◌, max, Bool, true, false, cond, List, [], ◌∷◌, ◌++◌, length, map, take, get_or, flat_map, if◌then◌else◌, Option, Some, None, refl, sym, ap, ap₂, ◌∙◌, arith}
-use Rattle.std.specs.Prelude.{◌&&◌, count_by, nat_le, nat_lt, slice_index}
+use Rattle.std.proofs.Common.{◌≡◌, ℕ, ◌+◌, ◌-◌, ◌<◌, ◌≤◌, max, Bool, true, false, cond, List, [], ◌∷◌, ◌++◌, length, map, take, get_or, flat_map, if◌then◌else◌, Option, Some, None, refl, sym, subst, ap, ap₂, ◌∙◌, arith}
+use Rattle.std.specs.Prelude.{◌&&◌, IfSome, count_by, nat_le, nat_lt, slice_index}
 use Rattle.std.specs.List.{range_with_len}
-use Rattle.std.proofs.lemmas.Bool.{le-ltb}
+use Rattle.std.proofs.lemmas.Bool.{le-ltb, lt-leb}
 use Rattle.std.proofs.lemmas.List.{append-nil, map-id, take_more}
 use Rattle.std.proofs.lemmas.List.Concat.{flat_map-append}
-use Rattle.std.proofs.lemmas.List.FromFn.{sum_by-map-range_with_len_more}
-use Rattle.std.proofs.lemmas.List.Sums.{sum_by-cons}
+use Rattle.std.proofs.lemmas.List.FromFn.{length-range_with_len, sum_by-map-range_with_len_more}
+use Rattle.std.proofs.lemmas.List.Sums.{count_by-le-length, sum_by-cons}
 use Rattle.flat_model.specs.Fragments.Overlay.{Held, Map, Fragment, empty, brought, first_owned, fragment_end, is_within, lies, overlay, stays}
 use Rattle.flat_model.specs.Fragments.Whole.{byte_of, bytes_below}
 use Rattle.flat_model.specs.declared.fragment_key.FragmentKey.{FragmentKey}
-use Rattle.play_why.specs.Joined.{IsReassembled, datagram_bytes, fragment_if, fragments_of, laid_over, spots_map, one_more, outside, reach_from}
+use Rattle.play_why.specs.Joined.{IsReassembled, IsWithin, datagram_bytes, fragment_if, fragments_of, laid_over, spots_map, one_more, outside, reach_from}
 use Rattle.play_why.specs.declared.joined.Spot.{Spot}
 use Rattle.play_why.specs.declared.parts.Part.{Part}
 
@@ -73,6 +73,63 @@ none_past bytes f k past none =
     outside_range : (a b : Bool) → b ≡ false → (a && b) ≡ false
     outside_range true b e = e
     outside_range false b e = refl
+
+-- a fragment behind all bytes changes nothing in front of it
+pub unchanged : (bytes : Map) (f : Fragment) (k n : ℕ) → IfSome (bytes k) (λ held. held.piece.first ≤ n) → n ≤ f.offset
+    → k < f.offset → bytes k ≡ overlay bytes f k
+unchanged bytes f k n first behind before = go (bytes k) refl first
+  where
+    same : (old : Option Held) → IfSome old (λ held. held.piece.first ≤ n) → old ≡ outside old f.offset (fragment_end f)
+    same None h = refl
+    same (Some held) h = rw (le-ltb f.offset held.piece.first (omega (arith, h, behind))) refl
+
+    go : (old : Option Held) → bytes k ≡ old → IfSome old (λ held. held.piece.first ≤ n) → bytes k ≡ overlay bytes f k
+    go old e h =
+        e ∙ same old h
+        ∙ lies_outside bytes f k old e (ap (λ (b : Bool). b && nat_lt k (fragment_end f)) (lt-leb f.offset k before))
+
+owned_most : (bytes : Map) (f : Fragment) → first_owned bytes f ≤ fragment_end f
+unfolding first_owned
+owned_most bytes f =
+    omega (
+      arith,
+      count_by-le-length (λ offset. stays f.offset (bytes offset)) (range_with_len f.offset (length f.bytes)),
+      length-range_with_len f.offset (length f.bytes),
+    )
+
+first_most : (bytes : Map) (f : Fragment) (k n : ℕ) → IfSome (bytes k) (λ held. held.piece.first ≤ n)
+    → fragment_end f ≤ n → IfSome (overlay bytes f k) (λ held. held.piece.first ≤ n)
+unfolding overlay
+first_most bytes f k n first end = go (is_within f k) (bytes k) first
+  where
+    owned : first_owned bytes f ≤ n
+    owned = omega (arith, owned_most bytes f, end)
+
+    go : (within : Bool) (old : Option Held) → IfSome old (λ held. held.piece.first ≤ n)
+        → IfSome (lies bytes f k within old) (λ held. held.piece.first ≤ n)
+    go true None h = owned
+    go true (Some held) h =
+        elim (nat_le held.piece.first f.offset) as (λ (s : Bool).
+        IfSome (if s then Some held else Some (brought bytes f k)) (λ it. it.piece.first ≤ n))
+        [ true ↦ h | false ↦ owned ]
+    go false None h = tt
+    go false (Some held) h =
+        elim (nat_lt f.offset held.piece.first && nat_lt held.piece.first (fragment_end f)) as (λ (s : Bool).
+        (if s then record held { piece = record (held.piece) { first = fragment_end f } } else held).piece.first ≤ n)
+        [ true ↦ end | false ↦ h ]
+
+-- the bytes are within what the fragments reach
+pub firsts_most : (old new : List (Option Spot)) (reach later : ℕ) (f : Fragment)
+    → ((k : ℕ) → spots_map new k ≡ overlay (spots_map old) f k) → later ≡ max reach (fragment_end f)
+    → IsWithin old reach → (k : ℕ) → IfSome (spots_map new k) (λ held. held.piece.first ≤ later)
+firsts_most old new reach later f laid is within k =
+    subst (λ (held : Option Held). IfSome held (λ it. it.piece.first ≤ later)) (sym (laid k))
+    (first_most (spots_map old) f k later (further (spots_map old k) (within.firsts k)) (omega (arith, is)))
+  where
+    further : (held : Option Held) → IfSome held (λ it. it.piece.first ≤ reach)
+        → IfSome held (λ it. it.piece.first ≤ later)
+    further None h = tt
+    further (Some it) h = omega (arith, is, h)
 
 -- ---- the same bytes give the same
 

@@ -1,6 +1,6 @@
 -- The bytes of a datagram, reassembled from its fragments. Each is laid over those before it as the stack does it
 -- (`overlay` of flat_model; volume 2, chapter 10).
-use Rattle.std.specs.Prelude.{◌≡◌, ℕ, ◌+◌, ◌&&◌, Bool, false, cond, nat_le, nat_lt, List, [], ◌∷◌, ◌++◌, length, slice_index_or, flat_map, max, if◌then◌else◌, Option, Some, None}
+use Rattle.std.specs.Prelude.{◌≡◌, ℕ, ◌+◌, ◌≤◌, ◌&&◌, Bool, false, cond, nat_le, nat_lt, List, [], ◌∷◌, ◌++◌, length, slice_index_or, flat_map, max, if◌then◌else◌, Option, Some, None, IfSome}
 use Rattle.flat_model.specs.Amounts.Weight.{nothing}
 use Rattle.flat_model.specs.Fragments.Overlay.{Held, Map, Fragment, empty, fragment_end, overlay, stays}
 use Rattle.flat_model.specs.Fragments.Whole.{bytes_below}
@@ -73,6 +73,11 @@ outside (Some held) offset end =
     Some (if nat_lt offset held.piece.first && nat_lt held.piece.first end
     then record held { piece = record (held.piece) { first = end } }
     else held)
+
+-- no byte is at n or after it, and no piece begins after n
+pub record IsWithin (spots : List (Option Spot)) (n : ℕ) : Type 0 where
+  pub past : (k : ℕ) → n ≤ k → spots_map spots k ≡ None
+  pub firsts : (k : ℕ) → IfSome (spots_map spots k) (λ held. held.piece.first ≤ n)
 
 -- a table has these fragments, laid one over another
 pub record IsReassembled (spots : List (Option Spot)) (reach : ℕ) (fs : List Fragment) : Type 0 where

@@ -18,7 +18,7 @@ use Rattle.play_why.specs.Findings.{IsVerdict}
 use Rattle.play_why.specs.Kept.{AreNone, Expires, Gathers, GathersOf, Joins, Reclaims, Remembers, TakesLost}
 use Rattle.play_why.specs.Objects.{IsPrinted}
 use Rattle.play_why.specs.Sockets.{BindsIf, Drains, IsUnbound, wanted_port}
-use Rattle.play_why.specs.Verdicts.{judged, none_dropped}
+use Rattle.play_why.specs.Verdicts.{judged, lost_after, none_dropped, none_lost}
 use Rattle.play_why.specs.declared.judge.Arrival.{Arrival}
 use Rattle.play_why.specs.declared.judge.Judge.{Judge}
 use Rattle.play_why.specs.declared.judge.Totals.{Totals}
@@ -27,6 +27,7 @@ use Rattle.play_why.specs.declared.parts.Loss.{Loss}
 use Rattle.play_why.specs.declared.parts.Lost.{Lost}
 use Rattle.play_why.specs.declared.parts.Parts.{Parts}
 use Rattle.play_why.specs.declared.seen.Seen.{Seen}
+use Rattle.play_why.specs.declared.table.Losses.{Losses}
 use Rattle.play_why.specs.declared.verdict.Verdict.{Verdict}
 
 -- ---- the machine
@@ -86,6 +87,7 @@ pub record IsNew (form : Layout) (ours : ℕ) (only : Option ℕ) (judge : Judge
   pub text : judge.text ≡ []
   pub verdicts : judge.verdicts ≡ none_dropped
   pub totals : judge.totals ≡ none_came
+  pub losses : judge.losses ≡ none_lost
   pub ticks : judge.ticks ≡ 0
 
 -- A packet is for its machine: it goes to the machine's address, to the broadcast address of its network or to
@@ -125,6 +127,7 @@ pub record HasPassed (old : Judge) (time : ℕ) (new : Judge) : Type 0 where
   pub ports : new.ports ≡ old.ports
   pub verdicts : new.verdicts ≡ old.verdicts
   pub totals : new.totals ≡ old.totals
+  pub losses : new.losses ≡ old.losses
   pub layout : new.layout ≡ old.layout
   pub address : new.host.address ≡ old.host.address
   pub broadcast : new.broadcast ≡ old.broadcast
@@ -153,6 +156,7 @@ pub record IsJudged (old : Judge) (r : Arrival) (verdict : Verdict) (new : Judge
   pub takes : Drains new.ports.bound.items here (state_of new.host.stack)
   pub reclaims : Reclaims r.packet.now ready.counters here.counters joined spared
   pub remembers : Remembers (fate_of ready.counters here.counters) r.number r.packet.now spared new.parts
+  pub losses : new.losses ≡ old.losses
   pub ticks : new.ticks ≡ old.ticks
   pub layout : new.layout ≡ old.layout
   pub address : new.host.address ≡ old.host.address
@@ -166,18 +170,24 @@ ReportsLostOf None None = Unit {0}
 ReportsLostOf (Some why) (Some first) = first.why ≡ why
 ReportsLostOf _ _ = ⊥
 
+-- their fragments are counted by why they were dropped
+abbrev pub losses_after : Option Lost → Parts → Losses → Losses
+losses_after None parts losses = losses
+losses_after (Some first) parts losses = lost_after first.why parts.numbers.items losses
+
 pub record ReportsLost (why : Option Loss) (old new : Judge) : Type 0 where
   pub first : Option Lost
   pub takes : TakesLost first old.parts new.parts
   pub says : ReportsLostOf why first
-  pub machine : new.host ≡ old.host
+  pub losses : new.losses ≡ losses_after first new.parts old.losses
+  pub same : new ≡ record old { text = new.text; parts = new.parts; losses = new.losses }
 
 -- the unfinished datagram at a place is reported, with the records of its fragments
 pub record ReportsAt (i : ℕ) (old new : Judge) : Type 0 where
   pub datagram : UnfinishedDatagram
   pub is : nth_unfinished i (state_of old.host.stack).unfinished ≡ Some datagram
   pub gathers : GathersOf datagram.key old.parts new.parts
-  pub machine : new.host ≡ old.host
+  pub same : new ≡ record old { text = new.text; parts = new.parts }
 
 pub record ReportsNoneAt (i : ℕ) (old new : Judge) : Type 0 where
   pub none : nth_unfinished i (state_of old.host.stack).unfinished ≡ None

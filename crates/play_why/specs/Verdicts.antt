@@ -1,6 +1,6 @@
--- For which causes packets were dropped, and what that is laid to (this project's own). `a` and `b` are what was
--- counted before and after the packet of a record.
-use Rattle.std.specs.Prelude.{◌&&◌, Bool, true, false, List, [], ◌∷◌, if◌then◌else◌, map}
+-- For which causes packets were dropped, and what that is laid to; and the fragments that were kept and dropped later
+-- (this project's own). `a` and `b` are what was counted before and after the packet of a record.
+use Rattle.std.specs.Prelude.{ℕ, ◌&&◌, Bool, true, false, List, [], ◌∷◌, if◌then◌else◌, map}
 use Rattle.flat_model.specs.Machine.Count.{counter_of}
 use Rattle.flat_model.specs.declared.counters.Counters.{Counters}
 use Rattle.flat_model.specs.declared.counters.Why.{Why}
@@ -12,7 +12,10 @@ use Rattle.play_text.specs.declared.table.Table.{Table}
 use Rattle.play_why.specs.Findings.{blame_of}
 use Rattle.play_why.specs.declared.blame.Blame.{Blame}
 use Rattle.play_why.specs.declared.blame.Blame.TheVariants.{Packet, Capture, Card}
+use Rattle.play_why.specs.declared.parts.Loss.{Loss}
+use Rattle.play_why.specs.declared.parts.Loss.TheVariants.{Expired, Reclaimed}
 use Rattle.play_why.specs.declared.seen.Seen.{Seen}
+use Rattle.play_why.specs.declared.table.Losses.{Losses}
 use Rattle.play_why.specs.declared.table.Verdicts.{Verdicts}
 
 abbrev pub same_blame : Blame → Blame → Bool
@@ -59,3 +62,19 @@ judged r a b v = record {
   cut = laid_to Capture r a b v.cut;
   card = laid_to Card r a b v.card;
 }
+
+-- ---- fragments that were kept, and dropped later
+
+-- once more for each of these records
+abbrev pub once_each : List ℕ → Count → Count
+once_each [] c = c
+once_each (number ∷ numbers) c = once_each numbers (once_more number c)
+
+-- no fragment was dropped
+abbrev pub none_lost : Losses
+none_lost = record { expired = never; reclaimed = never }
+
+-- after those in these records were dropped for this reason
+abbrev pub lost_after : Loss → List ℕ → Losses → Losses
+lost_after Expired numbers losses = record losses { expired = once_each numbers losses.expired }
+lost_after Reclaimed numbers losses = record losses { reclaimed = once_each numbers losses.reclaimed }

@@ -1,6 +1,6 @@
 //! The bytes of a datagram, reassembled from its fragments in the order in which they arrived. If they overlap, the
 //! stack's rule decides which byte stays (volume 2, chapter 10).
-ghost use Rattle.std.specs.Prelude.{◌≡◌, ℕ, ◌+◌, ◌≤◌, ◌&&◌, ◌++◌, [], List, None, count_by, length, max, nat_le, nat_lt, vec_len};
+ghost use Rattle.std.specs.Prelude.{◌≡◌, ℕ, ◌+◌, ◌<◌, ◌≤◌, ◌&&◌, ◌++◌, [], List, None, count_by, length, max, nat_le, nat_lt, vec_len};
 ghost use Rattle.std.specs.List.{range_with_len};
 ghost use Rattle.params.specs.declared.TheConstants.{IP_HEADER};
 ghost use Rattle.flat_model.specs.Fragments.Overlay as Overlay;
@@ -9,7 +9,7 @@ ghost use Rattle.flat_model.specs.Fragments.Whole as Whole;
 ghost use Rattle.flat_model.specs.Fragments.Whole.{bytes_below};
 ghost use Rattle.play_why.specs.declared.joined.TheConstants.{DATAGRAM};
 ghost use Rattle.play_why.specs.Joined as joined;
-ghost use Rattle.play_why.specs.Joined.{IsReassembled};
+ghost use Rattle.play_why.specs.Joined.{IsReassembled, IsWithin};
 
 use crate::blame::carried_of;
 use crate::key::{offset_of, same_key};
@@ -141,20 +141,28 @@ fn laid(old: Option<Spot>, k: usize, offset: usize, bytes: &[u8], first: usize) 
     }
 }
 
+/// Returns an offset below which a fragment changes nothing. It's that of the fragment if all bytes are before it.
+fn first_changed(reach: usize, offset: usize) -> usize
+    ensures most { result ≤ offset }
+    ensures behind { 0 < result → reach ≤ offset }
+{
+    if reach <= offset { offset } else { 0 }
+}
+
 /// Lays a fragment over the bytes, of which none is at `reach` or after it. Returns how far they reach then.
 fn lay(spots: &mut [Option<Spot>], reach: usize, offset: usize, bytes: &[u8]) -> usize
     requires small { length spots.old ≤ DATAGRAM }
     requires inside { offset + length bytes.now ≤ length spots.old }
     requires reach { reach ≤ length spots.old }
-    requires past { (k : ℕ) → reach ≤ k → joined.spots_map spots.old k ≡ None }
+    requires within { IsWithin spots.old reach }
     ensures map { (k : ℕ) → joined.spots_map spots.new k
         ≡ Overlay.overlay (joined.spots_map spots.old) (joined.as_fragment offset bytes.now) k }
-    ensures past { (k : ℕ) → result ≤ k → joined.spots_map spots.new k ≡ None }
+    ensures within { IsWithin spots.new result }
     ensures reach { result ≡ max reach (offset + length bytes.now) }
 {
     let first = first_owned(spots, offset, bytes);
     let end = reach.max(offset + bytes.len());
-    'places: for k in 0..end {
+    'places: for k in first_changed(reach, offset)..end {
         spots[k] = laid(spots[k], k, offset, bytes, first);
     }
     end
@@ -171,10 +179,10 @@ fn fits(offset: usize, len: usize) -> bool
 fn lay_fitting(spots: &mut [Option<Spot>], reach: usize, offset: usize, bytes: &[u8]) -> usize
     requires len { length spots.old ≡ DATAGRAM }
     requires reach { reach ≤ DATAGRAM }
-    requires past { (k : ℕ) → reach ≤ k → joined.spots_map spots.old k ≡ None }
+    requires within { IsWithin spots.old reach }
     ensures table { (fs : List Fragment) → IsReassembled spots.old reach fs
         → IsReassembled spots.new result (fs ++ joined.fitting offset bytes.now) }
-    ensures past { (k : ℕ) → result ≤ k → joined.spots_map spots.new k ≡ None }
+    ensures within { IsWithin spots.new result }
     ensures most { result ≤ DATAGRAM }
 {
     if fits(offset, bytes.len()) {
@@ -188,10 +196,10 @@ fn lay_fitting(spots: &mut [Option<Spot>], reach: usize, offset: usize, bytes: &
 fn lay_part(spots: &mut [Option<Spot>], reach: usize, part: &Part, key: FragmentKey) -> usize
     requires len { length spots.old ≡ DATAGRAM }
     requires reach { reach ≤ DATAGRAM }
-    requires past { (k : ℕ) → reach ≤ k → joined.spots_map spots.old k ≡ None }
+    requires within { IsWithin spots.old reach }
     ensures table { (fs : List Fragment) → IsReassembled spots.old reach fs
         → IsReassembled spots.new result (fs ++ joined.fragment_if key part.now) }
-    ensures past { (k : ℕ) → result ≤ k → joined.spots_map spots.new k ≡ None }
+    ensures within { IsWithin spots.new result }
     ensures most { result ≤ DATAGRAM }
 {
     if same_key(part.key, key) {
@@ -206,7 +214,7 @@ fn lay_parts(spots: &mut [Option<Spot>], parts: &[Part], key: FragmentKey) -> us
     requires len { length spots.old ≡ DATAGRAM }
     requires empty { (k : ℕ) → joined.spots_map spots.old k ≡ None }
     ensures table { IsReassembled spots.new result (joined.fragments_of key parts.now) }
-    ensures past { (k : ℕ) → result ≤ k → joined.spots_map spots.new k ≡ None }
+    ensures within { IsWithin spots.new result }
     ensures most { result ≤ DATAGRAM }
 {
     let mut reach = 0;

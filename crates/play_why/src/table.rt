@@ -131,9 +131,24 @@ pub(crate) struct Losses {
     reclaimed: Count,
 }
 
+/// Returns a count after the fragments in these records.
+fn counted_each(count: Count, numbers: &[u64]) -> Count
+    ensures { result ≡ verdicts.once_each numbers.now count }
+{
+    let mut counted = count;
+    let mut rest = numbers;
+    'numbers: while let [number, left @ ..] = rest {
+        counted = counted.once_more(*number);
+        rest = left;
+    }
+    counted
+}
+
 impl Losses {
     /// None was dropped.
-    pub(crate) fn none() -> Losses {
+    pub(crate) fn none() -> Losses
+        ensures { result ≡ verdicts.none_lost }
+    {
         Losses {
             expired: Count::never(),
             reclaimed: Count::never(),
@@ -141,17 +156,12 @@ impl Losses {
     }
 
     /// Counts the fragments with these records.
-    pub(crate) fn note(&mut self, why: Loss, numbers: &[u64]) {
-        let mut count = match why {
-            Loss::Expired => self.expired,
-            Loss::Reclaimed => self.reclaimed,
-        };
-        for number in numbers {
-            count = count.once_more(*number);
-        }
+    pub(crate) fn note(&mut self, why: Loss, numbers: &[u64])
+        ensures { self.new ≡ verdicts.lost_after why numbers.now self.old }
+    {
         match why {
-            Loss::Expired => self.expired = count,
-            Loss::Reclaimed => self.reclaimed = count,
+            Loss::Expired => self.expired = counted_each(self.expired, numbers),
+            Loss::Reclaimed => self.reclaimed = counted_each(self.reclaimed, numbers),
         }
     }
 

@@ -1,5 +1,6 @@
-use Rattle.std.proofs.Common.{List, refl, subst, take, arith}
-use Rattle.flat_model.specs.Fragments.Overlay.{Fragment}
+use Rattle.std.proofs.Common.{◌≤◌, List, Option, refl, sym, subst, take, arith}
+use Rattle.std.specs.Prelude.{IfSome}
+use Rattle.flat_model.specs.Fragments.Overlay.{Fragment, Held}
 use Rattle.play_why.specs.Joined.{IsReassembled, fragments_of}
 use Rattle.play_why.proofs.JoinLemmas.{parts_more}
 use Rattle.play_why.proofs.joined.lay_parts.Goals as goal
@@ -7,7 +8,10 @@ use Rattle.play_why.proofs.joined.lay_parts.Goals as goal
 pub loop-part-init : goal.loop-part-init
 loop-part-init c = record {
   table = record { map = c.requires.empty; reach_is = refl };
-  past = λ k h. c.requires.empty k;
+  within = record {
+    past = λ k h. c.requires.empty k;
+    firsts = λ k. subst (λ (held : Option Held). IfSome held (λ it. it.piece.first ≤ 0)) (sym (c.requires.empty k)) tt;
+  };
   most = omega arith;
 }
 
@@ -18,6 +22,6 @@ loop-part-preserved c = record {
       (parts_more c.args.key c.args.parts.now c.loop-part.part-index c.part-item.result (omega arith) c.part-item.is)
       (c.lay_part-reach.ensures.table (fragments_of c.args.key (take c.loop-part.part-index c.args.parts.now))
       c.loop-part.invariant.table);
-  past = c.lay_part-reach.ensures.past;
+  within = c.lay_part-reach.ensures.within;
   most = c.lay_part-reach.ensures.most;
 }

@@ -52,6 +52,7 @@ returns c =
           c.reclaim.new.self c.remember.new.parts) before.ensures
           (subst (λ (b : Counters). Remembers (fate_of before.result b) c.args.arrival.now.number packet
           c.reclaim.new.self c.remember.new.parts) after.ensures c.in_ok-remember.ensures);
+      losses = search rules;
       ticks = search rules;
       layout = search rules;
       address = search rules;
