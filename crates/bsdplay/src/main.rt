@@ -19,6 +19,7 @@ mod sweep;
 mod why;
 
 use choice::Ahead;
+use clap::error::ErrorKind;
 use clap::{Arg, ArgAction, ArgMatches, Command};
 use form::form_of;
 use from_pcap::print_capture;
@@ -306,9 +307,13 @@ fn words(rt: &HostRuntime) -> io::Result<Vec<String>> {
 
 /// Does what the command line requests, and returns the status.
 fn serve(rt: &HostRuntime) -> io::Result<u8> {
-    let Ok(words) = words(rt) else {
-        eprintln!(rt; "bsdplay: the command line can't be read")?;
-        return Ok(USAGE);
+    let words = match words(rt) {
+        Ok(words) => words,
+        Err(error) if error.kind() == io::ErrorKind::OutOfMemory => return Err(error),
+        Err(_) => {
+            eprintln!(rt; "bsdplay: the command line can't be read")?;
+            return Ok(USAGE);
+        }
     };
     let lines = lines(rt.alloc())?;
     match command(rt.alloc(), lines.as_str())?.try_get_matches_from(words.as_slice()) {
@@ -316,6 +321,7 @@ fn serve(rt: &HostRuntime) -> io::Result<u8> {
             Some((_, chosen)) => print_why(rt, chosen),
             None => serve_found(rt, &found),
         },
+        Err(error) if error.kind() == ErrorKind::OutOfMemory => Err(AllocError.into()),
         Err(error) => {
             error.print(rt)?;
             Ok(error.exit_code() as u8)

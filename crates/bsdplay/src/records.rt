@@ -5,7 +5,7 @@ use crate::why::Choice;
 use capture::pcap::ipv4_packet;
 use capture::{Fault, Record, Records};
 use play_pcap::Range;
-use play_why::{Addresses, Arrival, Busiest, Judge};
+use play_why::{Addresses, Arrival, Busiest, Judge, Layout};
 use script_loop::Source;
 use std::alloc::Global;
 use std::io::Write;
@@ -23,25 +23,31 @@ fn packet_in(record: Record, bytes: &[u8]) -> Option<&[u8]>
     }
 }
 
-/// Returns the address to which most datagrams of a capture go, and the fault by which the capture ended.
+/// Returns the address to which most datagrams of a capture go: those before its first fault, if one of them goes to a
+/// host. Returns `None` if the capture is whole and none does.
 pub(crate) fn busiest_of<S: Source>(
     alloc: Global,
     records: &mut Records<S>,
-) -> (Option<Busiest>, Option<Fault>) {
+) -> Result<Option<Busiest>, End> {
     let mut addresses = Addresses::new(alloc);
     for _ in 0..u64::MAX {
         let record = match records.next_record() {
             Ok(Some(record)) => record,
             Ok(None) => break,
-            Err(fault) => return (addresses.busiest(), Some(fault)),
+            Err(fault) => {
+                return match addresses.busiest() {
+                    Some(busiest) => Ok(Some(busiest)),
+                    None => Err(End::Fault(fault)),
+                };
+            }
         };
         if let Some(packet) = packet_in(record, records.bytes()) {
             if addresses.note(packet).is_err() {
-                break;
+                return Err(End::Memory);
             }
         }
     }
-    (addresses.busiest(), None)
+    Ok(addresses.busiest())
 }
 
 /// How many records weren't for the machine.
@@ -187,7 +193,7 @@ pub(crate) fn print_records<S: Source, W: Write>(
 }
 
 /// Prints the datagrams that are unfinished at the end.
-pub(crate) fn print_unfinished<W: Write>(judge: &mut Judge, out: &mut W) -> Result<(), End> {
+fn print_unfinished<W: Write>(judge: &mut Judge, out: &mut W) -> Result<(), End> {
     for i in 0..u32::MAX {
         match judge.report_unfinished(i) {
             Ok(true) => put(out, judge.text())?,
@@ -199,7 +205,22 @@ pub(crate) fn print_unfinished<W: Write>(judge: &mut Judge, out: &mut W) -> Resu
 }
 
 /// Prints what happened to all packets, as a table of the causes.
-pub(crate) fn print_totals<W: Write>(judge: &mut Judge, out: &mut W) -> Result<(), End> {
+fn print_totals<W: Write>(judge: &mut Judge, out: &mut W) -> Result<(), End> {
     judge.report_totals();
     put(out, judge.text())
+}
+
+/// Prints what follows the last record: the totals, which the objects leave out, and the datagrams that are unfinished.
+pub(crate) fn print_rest<W: Write>(
+    layout: Layout,
+    judge: &mut Judge,
+    out: &mut W,
+) -> Result<(), End> {
+    let totals = match layout {
+        Layout::Lines => print_totals(judge, out),
+        Layout::Objects => Ok(()),
+    };
+    let left = print_unfinished(judge, out);
+    totals?;
+    left
 }

@@ -1,10 +1,11 @@
 //! Why the packets of a capture were dropped: the subcommand, its options, and the capture that it opens.
 use crate::from_pcap::{BAD, report};
 use crate::options::{WHY_OPTIONS, with_options};
-use crate::records::{End, Others, busiest_of, print_records, print_totals, print_unfinished};
+use crate::records::{End, Others, busiest_of, print_records, print_rest};
 use crate::{UNREAD, USAGE};
 use capture::{Fault, Records, Why};
 use clap::{Arg, ArgAction, ArgMatches, Command};
+use net_stack::BootFault;
 use play_pcap::{CaptureFault, Range, range_of, read_whole};
 use play_script::Silent;
 use play_why::{Judge, Layout};
@@ -104,6 +105,18 @@ fn print_fault(rt: &HostRuntime, name: &str, fault: Fault) -> io::Result<u8> {
     }
 }
 
+/// Prints why not all records were printed, and returns the status.
+fn print_end(rt: &HostRuntime, name: &str, end: End) -> io::Result<u8> {
+    match end {
+        End::Fault(fault) => print_fault(rt, name, fault),
+        End::Memory => {
+            eprintln!(rt; "bsdplay: {name}: no memory")?;
+            Ok(UNREAD)
+        }
+        End::Unwritten => Ok(UNREAD),
+    }
+}
+
 /// Prints how many records weren't for the machine.
 fn print_others(rt: &HostRuntime, others: Others) -> io::Result<()> {
     if others.elsewhere != 0 || others.without != 0 {
@@ -125,6 +138,7 @@ fn judge_records<S: Source>(
 ) -> io::Result<u8> {
     let mut judge = match Judge::new(rt.alloc(), choice.layout, ours, choice.port) {
         Ok(judge) => judge,
+        Err(BootFault::Memory) => return print_end(rt, name, End::Memory),
         Err(fault) => {
             let ours = Ipv4Addr::from_bits(ours);
             eprintln!(rt; "bsdplay: {ours}: {fault}: it isn't the address of a host")?;
@@ -133,14 +147,10 @@ fn judge_records<S: Source>(
     };
     let mut out = rt.stdout();
     let printed = print_records(records, choice, &mut judge, &mut out);
-    let totals = match choice.layout {
-        Layout::Lines => print_totals(&mut judge, &mut out),
-        Layout::Objects => Ok(()),
-    };
-    let left = print_unfinished(&mut judge, &mut out);
+    let rest = print_rest(choice.layout, &mut judge, &mut out);
     judge.end();
-    if totals.is_err() || left.is_err() {
-        return Ok(UNREAD);
+    if let Err(end) = rest {
+        return print_end(rt, name, end);
     }
     match printed {
         Ok(others) => {
@@ -149,12 +159,7 @@ fn judge_records<S: Source>(
             }
             Ok(0)
         }
-        Err(End::Fault(fault)) => print_fault(rt, name, fault),
-        Err(End::Memory) => {
-            eprintln!(rt; "bsdplay: {name}: no memory")?;
-            Ok(UNREAD)
-        }
-        Err(End::Unwritten) => Ok(UNREAD),
+        Err(end) => print_end(rt, name, end),
     }
 }
 
@@ -166,14 +171,14 @@ fn choose_address<S: Source>(
     layout: Layout,
 ) -> io::Result<Result<u32, u8>> {
     let busiest = match busiest_of(rt.alloc(), records) {
-        (Some(busiest), _) => busiest,
-        (None, Some(fault)) => return Ok(Err(print_fault(rt, name, fault)?)),
-        (None, None) => {
+        Ok(Some(busiest)) => busiest,
+        Ok(None) => {
             eprintln!(rt;
                 "bsdplay: {name}: no UDP datagram goes to a host; --addr says for whom packets are judged"
             )?;
             return Ok(Err(USAGE));
         }
+        Err(end) => return Ok(Err(print_end(rt, name, end)?)),
     };
     let address = Ipv4Addr::from_bits(busiest.address);
     if matches!(layout, Layout::Lines) {
