@@ -70,6 +70,7 @@ ROWS = {
     # the programs
     "tools/sendto *": Row("made_pages", '"tools/sendto", page'),
     "tools/callers write": Row("crates", "tools/callers"),
+    "tools/walk --list": Row("numbers", "tools/walk"),
     "tools/lists write": Row("lists", "tools/lists"),
     ".ci/wrong-bodies --gate *": Row("run", ".ci/wrong-bodies --gate"),
 }
