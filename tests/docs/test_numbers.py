@@ -65,13 +65,6 @@ def walk() -> list[int]:
     return [number(it) for it in re.findall(r"\d+", said)]
 
 
-def test_walk_is_listed():
-    """`tools/walk --list` prints the functions that it counts, from `rx` on."""
-    said = subprocess.run([TOP / "tools/walk", "--list"], check=True, capture_output=True, text=True).stdout
-    listed = re.findall(r"(?m)^ *\d+ (\w+(?:::\w+)+) \(\S+\)$", said)
-    assert listed[0] == "net_stack::Stack::rx" and len(listed) == walk()[0]
-
-
 # What a page says, and the number that is right. After `about` it may be rounded to a hundredth.
 COUNTED = [
     ("README.md", "functions in N crates are proved", lambda: len(crates.uses())),
@@ -117,6 +110,13 @@ def test_lengths_of_files():
                 if int(told) != length:
                     faults.append(Fault(place, f"the lines of {name}", str(length), told))
     none_of(faults)
+
+
+def test_walk_is_listed():
+    """`tools/walk --list` prints the functions that it counts, from `rx` on."""
+    said = subprocess.run([TOP / "tools/walk", "--list"], check=True, capture_output=True, text=True).stdout
+    listed = re.findall(r"(?m)^ *\d+ (\w+(?:::\w+)+) \(\S+\)$", said)
+    assert listed[0] == "net_stack::Stack::rx" and len(listed) == walk()[0]
 
 
 # ---- the tables of docs/performance.md -----------------------------------------------------------------------------
