@@ -113,6 +113,13 @@ def test_lengths_of_files():
     none_of(faults)
 
 
+def test_walk_is_listed():
+    """`tools/walk --list` prints the functions that it counts, from `rx` on."""
+    said = subprocess.run([TOP / "tools/walk", "--list"], check=True, capture_output=True, text=True).stdout
+    listed = re.findall(r"(?m)^ *\d+ (\w+(?:::\w+)+) \(\S+\)$", said)
+    assert listed[0] == "net_stack::Stack::rx" and len(listed) == walk()[0]
+
+
 # ---- the tables of docs/performance.md -----------------------------------------------------------------------------
 
 
