@@ -15,7 +15,8 @@ pytestmark = [
     pytest.mark.xdist_group("fresh"),
 ]
 README = (TOP / "README.md").read_text(encoding="utf-8")
-SECONDS = 1800
+# The gate runs this beside the proofs.
+SECONDS = 3600
 
 
 def machine(*words):
@@ -40,12 +41,10 @@ def blocks(kind):
     return [re.sub("(?m)^    ", "", it) for it in re.findall(r"(?m)(?:^    .*\n)+", text)]
 
 
-@pytest.mark.parametrize("user", [[], ["--root"]], ids=["new", "root"])
-def test_readme(user):
-    """README's block, word for word, passes at the first try, and prints what README shows."""
-    (commands,) = blocks("commands")
+def passes(commands, *words):
+    """Commands of README's block pass at the first try, and print what README shows."""
     played, summary = blocks("prints")
-    status, printed, said = machine(*user, "--with", packages(), f"set -e\n{commands}")
+    status, printed, said = machine(*words, "--with", packages(), f"set -e\n{commands}")
     tail = f"status {status}:\n{printed[-3000:]}\n{said[-1000:]}"
     assert status == 0, tail
     assert printed.startswith(played), tail
@@ -54,6 +53,20 @@ def test_readme(user):
     skipped = sum(map(int, re.findall(r"(?m)^skipped \((\d+)\): ", printed)))
     assert skipped == int(last.split()[-2]), f"the reasons above the last line count {skipped} skips: {tail}"
     assert "Traceback" not in printed + said, tail
+
+
+def test_readme():
+    """A new user pastes the block, word for word."""
+    (commands,) = blocks("commands")
+    passes(commands)
+
+
+def test_readme_as_root():
+    """What differs for root: `rt` lets nobody run what it compiles, and the tests that want root aren't skipped. The
+    programs that `make test` compiles were tried by the new user, so it finds no `rt` here."""
+    (commands,) = blocks("commands")
+    assert "\nmake test\n" in commands
+    passes(commands.replace("\nmake test\n", "\nrm /usr/local/bin/rt\nmake test\n"), "--root")
 
 
 # ---- missing tools -------------------------------------------------------------------------------------------------
@@ -81,7 +94,7 @@ EACH = """
 git clone -q "$REPOSITORY" it && cd it || exit 1
 for command in "${commands[@]}"; do
     status=0
-    timeout 30 bash -c "$command" > /tmp/printed 2> /tmp/said < /dev/null || status=$?
+    timeout 120 bash -c "$command" > /tmp/printed 2> /tmp/said < /dev/null || status=$?
     printf '%s\\0%s\\0%s\\0' "$status" "$(cat /tmp/printed)" "$(cat /tmp/said)"
 done
 """
