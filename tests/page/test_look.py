@@ -146,6 +146,11 @@ def test_nothing_overlaps_or_is_cut_off(view, width, theme, at_width):
     assert browser.run("faultsOfLayout()") == []
 
 
+def test_scroll_bars_have_a_colour_of_their_own(at_width):
+    """By default Firefox draws them white, also in the dark."""
+    assert at_width(1280).run("getComputedStyle(byId('rows')).scrollbarColor") != "auto"
+
+
 # ---- what docs/page.md says
 
 
