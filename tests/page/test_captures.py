@@ -66,8 +66,7 @@ def test_fragments_expire_after_thirty_seconds(apart, is_whole, opened):
 def test_an_expired_datagram_has_a_line_of_its_own(opened):
     first, last = halves()
     script = opened(capture((100, first), (140.5, last)))
-    tick = next(step for step in script["steps"] if step["changed"].get("ip.fragtimeout"))
-    assert tick["line"] == "tick 61"
+    assert [step["line"] for step in script["steps"] if step["changed"].get("ip.fragtimeout")] == ["tick 61"]
     assert "40.5 s pass before record 2" in script["text"] and "1 unfinished datagram expires" in script["text"]
 
 
@@ -105,6 +104,7 @@ def test_what_is_unfinished_at_the_end_is_shown(opened):
 def test_a_capture_of_a_loopback_interface(opened):
     packet = to("127.0.0.1", source="127.0.0.1")
     script = opened(capture((100, packet), (101, packet), (102, to("127.0.0.1", 53, source="10.0.0.9"))))
+    assert script.get("fault") is None
     assert script["address"] == "127.0.0.1" and script["counts"]["taken"] == 3
     assert script["code"] == 0 and counted(script, "ip.total") == 3
     assert len([step for step in lines(script, "recvfrom") if step["says"].startswith("from 127.0.0.1 5000")]) == 2

@@ -108,7 +108,8 @@ def test_an_option_stands_beside_its_radio_button(mode, name, width, at_width):
     opened(browser, mode, name)
     browser.run("select(page.firstQuestion)")
     beside = browser.run(OPTIONS)
-    assert len(beside) >= 2 and all(beside)
+    assert len(beside) >= 2
+    assert all(beside), f"which options are beside their radio buttons: {beside}"
 
 
 ROWS = """[...new Set([...document.querySelectorAll("header :is(button, .button)")]
@@ -119,8 +120,8 @@ ROWS = """[...new Set([...document.querySelectorAll("header :is(button, .button)
 def test_the_buttons_of_the_head_fill_two_rows_at_most(width, at_width):
     browser = at_width(width)
     opened(browser, "run", "01_a_datagram")
-    assert browser.run(ROWS) <= 2
-    assert browser.run("document.querySelector('header').offsetHeight") <= 96
+    rows, height = browser.run(ROWS), browser.run("document.querySelector('header').offsetHeight")
+    assert rows <= 2 and height <= 96, f"the buttons fill {rows} rows, and the head is {height} pixels high"
 
 
 VIEWS = {
@@ -145,10 +146,16 @@ def test_nothing_overlaps_or_is_cut_off(view, width, theme, at_width):
     assert browser.run("faultsOfLayout()") == []
 
 
+def test_scroll_bars_have_a_colour_of_their_own(at_width):
+    """By default Firefox draws them white, also in the dark."""
+    assert at_width(1280).run("getComputedStyle(byId('rows')).scrollbarColor") != "auto"
+
+
 # ---- statements in docs/page.md
 
 
 def test_the_page_is_as_large_as_its_document_says(page):
     text = (TOP / "docs/page.md").read_text(encoding="utf-8")
-    [most] = re.findall(r"one file of less than (\d+) MB", text)
-    assert page.stat().st_size < int(most) * 1_000_000
+    said = re.findall(r"one file of less than (\d+) MB", text)
+    assert len(said) == 1, "docs/page.md doesn't say how large the page is: `one file of less than N MB`"
+    assert page.stat().st_size < int(said[0]) * 1_000_000, "the page is larger than docs/page.md says"
