@@ -69,6 +69,10 @@ CheckTraces()
         Same(pair.server->GetCounter(name), times, "counter " + name);
     }
     Same(server.drops.size(), wanted.size(), "causes of Drop");
+    for (const auto& [name, value] : pair.server->GetCounters())
+    {
+        Same(value, pair.server->GetCounter(name), "GetCounters has " + name);
+    }
 }
 
 /// A flood that isn't read empties the pool. Afterwards the stack works as before.
