@@ -149,14 +149,14 @@ def add_sockets_after_datagrams(to: Builder) -> None:
     """A datagram isn't kept for a socket that is bound to its port later."""
     early = {"a datagram": [at(to, OTHER_PORT)], "a datagram in fragments": cut(to, dport=OTHER_PORT)}
     for name, made in early.items():
-        steps = [*made, Open(1, OTHER_PORT), at(to)]
+        steps: List[Given] = [*made, Open(1, OTHER_PORT), at(to)]
         to.add("socket.ports", f"{name} for port {OTHER_PORT}, and then a socket on it", steps)
 
 
 def add_empty_datagrams(to: Builder) -> None:
     """Datagrams without data."""
     empty, other = (packet(udp(b"", dport=port), id=to.id) for port in (7, OTHER_PORT))
-    second = [Open(1, OTHER_PORT), other]
+    second: List[Given] = [Open(1, OTHER_PORT), other]
     to.add("socket.ports", f"sockets on 7 and {OTHER_PORT}, a datagram without data for the second", second)
     to.add("socket.connected", "its peer's datagram without data", [Connect(0, PEER, 5000), empty])
 
