@@ -60,7 +60,7 @@ NAMED = {
 # The longest packet, the longest datagram whose last part is one, and the longest line: 262,144 bytes with all digits.
 LONG = {UDP + "@65507": 65_535, UDP + "@65527 at 65528 last": 27, "rx @65534+00 => 00*65533": 65_535}
 NOT_HEX, ODD = 'not a hex digit (a text stands in quotes: "hi")', "odd number of hex digits"
-NO_BYTES, NO_NUMBER, TWICE = "bytes are missing", "a number is missing", "this was told already"
+NO_BYTES, NO_NUMBER, TWICE = "bytes are missing", "a number is missing", "this was given already"
 NO_END, NO_SUCH = "an address with a port, as 10.0.0.2:7, is wanted", "the datagram has no such bytes"
 # Lines with an error: its column, and what it is.
 WRONG = {

@@ -77,12 +77,12 @@ fn exchange(
     times: u32,
 ) -> u32 {
     let mut packet = [0; MAX_MTU as usize];
-    let mut room = [0; MOST];
+    let mut buffer = [0; MOST];
     let mut well = 0u32;
     'turns: for _ in 0..times {
         let sent = sender.sendto(SOCKET, to, bytes);
         carry(sender, receiver, &mut packet);
-        if sent.is_ok() && receiver.recvfrom(SOCKET, &mut room).is_ok() {
+        if sent.is_ok() && receiver.recvfrom(SOCKET, &mut buffer).is_ok() {
             well = well.saturating_add(1);
         }
     }
@@ -122,11 +122,11 @@ pub extern "C" fn bsdudp_loop_back(alloc: Global, bytes: &[u8], times: u32) -> u
         return 0;
     };
     let to = destination_of(&mut stack, false);
-    let mut room = [0; MOST];
+    let mut buffer = [0; MOST];
     let mut well = 0u32;
     'turns: for _ in 0..times {
         let sent = stack.sendto(SOCKET, to, bytes);
-        if sent.is_ok() && stack.recvfrom(SOCKET, &mut room).is_ok() {
+        if sent.is_ok() && stack.recvfrom(SOCKET, &mut buffer).is_ok() {
             well = well.saturating_add(1);
         }
     }
@@ -184,13 +184,13 @@ pub extern "C" fn bsdudp_receive(
         stack.rx(packet);
     }
     let had = stack.counter(Counter::IpTotal);
-    let mut room = [0; MOST];
+    let mut buffer = [0; MOST];
     let readers = if is_read { sockets } else { 0 };
     let mut read = 0u32;
     'turns: for _ in 0..times {
         stack.rx(packet);
         'sockets: for at in 0..readers {
-            if stack.recvfrom(SOCKET + u32::from(at), &mut room).is_ok() {
+            if stack.recvfrom(SOCKET + u32::from(at), &mut buffer).is_ok() {
                 read = read.saturating_add(1);
             }
         }

@@ -67,9 +67,9 @@ fn carry(from: &mut Stack, to: &mut Stack, packet: &mut Packet, packets: usize) 
     }
 }
 
-/// Whether a datagram of `len` bytes waits in a socket; it's read into `room`.
-fn has_received(stack: &mut Stack, socket: u32, len: usize, room: &mut [u8]) -> bool {
-    match stack.recvfrom(socket, room) {
+/// Whether a datagram of `len` bytes waits in a socket; it's read into `buffer`.
+fn has_received(stack: &mut Stack, socket: u32, len: usize, buffer: &mut [u8]) -> bool {
+    match stack.recvfrom(socket, buffer) {
         Ok((_, read)) => read == len,
         Err(_) => false,
     }
@@ -86,13 +86,13 @@ fn exchange(sender: &mut Stack, receiver: &mut Stack, at: u8, bytes: &[u8], time
         port: PORT + u16::from(at),
     };
     let mut packet = [0; MAX_MTU as usize];
-    let mut room = [0; MOST];
+    let mut buffer = [0; MOST];
     let packets = packets_of(bytes.len());
     let mut well = 0;
     'turns: for _ in 0..times {
         let sent = sender.sendto(SOCKET, Some(to), bytes);
         carry(sender, receiver, &mut packet, packets);
-        if sent.is_ok() && has_received(receiver, socket, bytes.len(), &mut room) {
+        if sent.is_ok() && has_received(receiver, socket, bytes.len(), &mut buffer) {
             well += 1;
         }
     }
@@ -140,11 +140,11 @@ pub extern "C" fn bsdudp_send_to_itself(alloc: Global, bytes: &[u8], times: u32)
         ip: SENDER,
         port: PORT,
     };
-    let mut room = [0; MOST];
+    let mut buffer = [0; MOST];
     let mut well = 0;
     'turns: for _ in 0..times {
         let sent = stack.sendto(SOCKET, Some(to), bytes);
-        if sent.is_ok() && has_received(&mut stack, SOCKET, bytes.len(), &mut room) {
+        if sent.is_ok() && has_received(&mut stack, SOCKET, bytes.len(), &mut buffer) {
             well += 1;
         }
     }

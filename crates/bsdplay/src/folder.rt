@@ -73,7 +73,7 @@ impl Folder for HostFolder<'_> {
             Ok(file) => Ok(file),
             Err(Unread::Whole(fault)) => Err(unread(fault)),
             Err(Unread::Bad(fault)) => {
-                let _told = eprintln!(self.rt; "bsdplay: {path}: {fault}");
+                let _reported = eprintln!(self.rt; "bsdplay: {path}: {fault}");
                 Err(CaptureFault::NotRead)
             }
         }

@@ -4,11 +4,11 @@ ghost use Rattle.params.specs.declared.TheConstants.{IP_MAX_PACKET};
 
 use request::{Request, request_of};
 
-/// Returns how many bytes a line sends, and decodes them into `room`. Returns `None` if the line sends none.
-pub fn sent_len(line: &[u8], room: &mut [u8]) -> Option<usize>
-    requires { length room.old ≡ IP_MAX_PACKET }
+/// Returns how many bytes a line sends, and decodes them into `buffer`. Returns `None` if the line sends none.
+pub fn sent_len(line: &[u8], buffer: &mut [u8]) -> Option<usize>
+    requires { length buffer.old ≡ IP_MAX_PACKET }
 {
-    match request_of(line, room) {
+    match request_of(line, buffer) {
         Some(Request::Send(_, _, bytes)) => Some(bytes.len()),
         _ => None,
     }

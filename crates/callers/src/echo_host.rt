@@ -22,9 +22,9 @@ fn serve(stack: &mut Stack, packet: &[u8; 1500]) -> Result<usize, Errno> {
     let fd = stack.socket()?;
     stack.bind(fd, Addr { ip: 0, port: 7 })?;
     stack.rx(packet);
-    let mut room = [0; LONGEST];
-    let (sender, len) = stack.recvfrom(fd, &mut room)?;
-    stack.sendto(fd, Some(sender), &room[..len])
+    let mut buffer = [0; LONGEST];
+    let (sender, len) = stack.recvfrom(fd, &mut buffer)?;
+    stack.sendto(fd, Some(sender), &buffer[..len])
 }
 
 /// Boots the host, lets it serve a packet, and copies the first packet that it sends into `link`. Returns the length of

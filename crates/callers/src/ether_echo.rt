@@ -30,9 +30,9 @@ fn serve(host: &mut EtherHost, frame: &[u8; 60]) -> Result<usize, Errno> {
     let fd = stack.socket()?;
     stack.bind(fd, Addr { ip: 0, port: 7 })?;
     host.receive(frame);
-    let mut room = [0; 9216];
-    let (sender, len) = host.stack().recvfrom(fd, &mut room)?;
-    host.stack().sendto(fd, Some(sender), &room[..len])
+    let mut buffer = [0; 9216];
+    let (sender, len) = host.stack().recvfrom(fd, &mut buffer)?;
+    host.stack().sendto(fd, Some(sender), &buffer[..len])
 }
 
 /// Boots the host, lets it serve a frame, and copies the next frame for the link into `link`. Returns the length of

@@ -3,7 +3,7 @@ ghost use Rattle.std.specs.Prelude.{◌≡◌, ◌≤◌, ◌∷◌, [], length,
 ghost use Rattle.flat_model.specs.Machine.Event.{Reply};
 ghost use Rattle.flat_model.specs.Machine.Replies.{received_reply};
 ghost use Rattle.net_stack.specs.Runs.{AreCalls};
-ghost use Rattle.callers.specs.Heard.{HasGiven, IsHeard, packet_comes, send_event};
+ghost use Rattle.callers.specs.Received.{HasGiven, IsReceived, packet_comes, send_event};
 ghost use Rattle.params.specs.declared.TheConstants.{IP_MAX_PACKET};
 
 use flat_model::{Addr, Config, Counter, Errno};
@@ -40,12 +40,12 @@ pub const PORT: u16 = 7;
 /// The size of a buffer for a packet of any link.
 const ROOM: usize = MAX_MTU as usize;
 
-/// What `hear` returns.
+/// What `receive_out_of_order` returns.
 #[derive(Drop)]
-pub struct Heard {
+pub struct Received {
     /// How many sends the first host has counted. Below 65,536 no two had the same identification.
     pub sends: u64,
-    /// The result of the second host's `recvfrom`: the sender, and how many bytes it put at the front of `room`.
+    /// The result of the second host's `recvfrom`: the sender, and how many bytes it put at the front of `buffer`.
     pub answer: Result<(Addr, usize), Errno>,
 }
 
@@ -62,14 +62,14 @@ fn send(stack: &mut Stack, bytes: &[u8])
 }
 
 /// Takes the packet that waits for the link, and returns how many bytes it has, or 0 if none waits.
-fn give(stack: &mut Stack, room: &mut [u8]) -> usize
-    requires { MAX_MTU ≤ length room.old }
-    ensures given { HasGiven stack.old stack.new (take result room.new) }
-    ensures fits { result ≤ length room.new }
-    ensures len { length room.new ≡ length room.old }
+fn give(stack: &mut Stack, buffer: &mut [u8]) -> usize
+    requires { MAX_MTU ≤ length buffer.old }
+    ensures given { HasGiven stack.old stack.new (take result buffer.new) }
+    ensures fits { result ≤ length buffer.new }
+    ensures len { length buffer.new ≡ length buffer.old }
 {
     stack.laws();
-    match stack.tx(room) {
+    match stack.tx(buffer) {
         Some(len) => len,
         None => 0,
     }
@@ -85,20 +85,20 @@ fn hand_over(stack: &mut Stack, packet: &[u8])
 
 /// Boots two hosts on one wire. The first sends three datagrams to the second, which receives at port 7. The wire loses
 /// the packet of the first datagram, delivers that of the third before that of the second, and then that of the third
-/// again. Then a datagram is requested from the second host, and its bytes go to the front of `room`.
+/// again. Then a datagram is requested from the second host, and its bytes go to the front of `buffer`.
 ///
 /// # Errors
 ///
 /// `Memory` if the host memory for one of them can't be allocated.
-pub fn hear(
+pub fn receive_out_of_order(
     alloc: Global,
     lost: &[u8],
     late: &[u8],
     early: &[u8],
-    room: &mut [u8],
-) -> Result<Heard, BootFault>
-    ensures { IfOk result (λ heard. IsHeard lost.now late.now early.now (length room.old) heard.sends
-        (received_reply heard.answer room.new)) }
+    buffer: &mut [u8],
+) -> Result<Received, BootFault>
+    ensures { IfOk result (λ received. IsReceived lost.now late.now early.now (length buffer.old) received.sends
+        (received_reply received.answer buffer.new)) }
 {
     let mut first = Stack::boot(alloc, FIRST)?;
     let Ok(mut second) = Stack::boot(alloc, SECOND) else {
@@ -119,11 +119,11 @@ pub fn hear(
     hand_over(&mut second, &early_packet[..early_len]);
     hand_over(&mut second, &late_packet[..late_len]);
     hand_over(&mut second, &early_packet[..early_len]);
-    let answer = second.recvfrom(SOCKET, room);
+    let answer = second.recvfrom(SOCKET, buffer);
     let sends = first.counters().value(Counter::IpLocalout);
     calls_are_run();
     stacks_on_a_wire();
     let _ = first.end();
     let _ = second.end();
-    Ok(Heard { sends, answer })
+    Ok(Received { sends, answer })
 }

@@ -6,12 +6,12 @@ use net_stack::Stack;
 use request::{Reply, Request};
 use stack_call::call;
 
-/// Lets the link take the oldest packet into `room`, and returns its length. Returns `None` if the output queue is
+/// Lets the link take the oldest packet into `buffer`, and returns its length. Returns `None` if the output queue is
 /// empty.
-pub fn taken_len(stack: &mut Stack, room: &mut [u8]) -> Option<usize>
-    requires { length room.old ≡ IP_MAX_PACKET }
+pub fn taken_len(stack: &mut Stack, buffer: &mut [u8]) -> Option<usize>
+    requires { length buffer.old ≡ IP_MAX_PACKET }
 {
-    match call(stack, Request::Transmit, room) {
+    match call(stack, Request::Transmit, buffer) {
         Reply::Given(Some(packet)) => Some(packet.len()),
         _ => None,
     }

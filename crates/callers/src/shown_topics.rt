@@ -6,7 +6,11 @@ use std::alloc::{AllocError, Global};
 
 /// Returns the length of the output for a line such as `show pool`, with the lines below it. Returns `None` if the line
 /// requests something different.
-pub fn told_len(alloc: Global, stack: &Stack, line: &[u8]) -> Result<Option<usize>, AllocError> {
+pub fn reported_len(
+    alloc: Global,
+    stack: &Stack,
+    line: &[u8],
+) -> Result<Option<usize>, AllocError> {
     let Some(topic) = topic_of(line) else {
         return Ok(None);
     };

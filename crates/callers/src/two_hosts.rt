@@ -24,11 +24,11 @@ const SECOND: Config = Config {
 };
 
 /// Sends bytes from the first host to port 7 of the second, and delivers the packets. Returns how many bytes arrived;
-/// they are at the front of `room`. Returns `None` if a host is missing, or a call fails.
-fn send(segment: &mut Segment, bytes: &[u8], room: &mut [u8]) -> Option<usize> {
+/// they are at the front of `buffer`. Returns `None` if a host is missing, or a call fails.
+fn send(segment: &mut Segment, bytes: &[u8], buffer: &mut [u8]) -> Option<usize> {
     let second = segment.stack(1)?;
-    let hears = second.socket().ok()?;
-    second.bind(hears, Addr { ip: 0, port: 7 }).ok()?;
+    let receiver = second.socket().ok()?;
+    second.bind(receiver, Addr { ip: 0, port: 7 }).ok()?;
     let first = segment.stack(0)?;
     let sends = first.socket().ok()?;
     let to = Addr {
@@ -37,17 +37,17 @@ fn send(segment: &mut Segment, bytes: &[u8], room: &mut [u8]) -> Option<usize> {
     };
     first.sendto(sends, Some(to), bytes).ok()?;
     segment.carry();
-    let (_, len) = segment.stack(1)?.recvfrom(hears, room).ok()?;
+    let (_, len) = segment.stack(1)?.recvfrom(receiver, buffer).ok()?;
     Some(len)
 }
 
 /// Joins both hosts, sends the bytes, and ends the segment. A segment must be consumed by `end`, so the calls that may
 /// fail are in a function of their own, which borrows it.
-pub fn exchange(alloc: Global, bytes: &[u8], room: &mut [u8]) -> Option<usize> {
+pub fn exchange(alloc: Global, bytes: &[u8], buffer: &mut [u8]) -> Option<usize> {
     let mut segment = Segment::new(alloc, 100).ok()?;
     let joined = segment.join(alloc, FIRST).is_ok() && segment.join(alloc, SECOND).is_ok();
     let came = if joined {
-        send(&mut segment, bytes, room)
+        send(&mut segment, bytes, buffer)
     } else {
         None
     };

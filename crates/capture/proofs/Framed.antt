@@ -5,7 +5,7 @@ use Rattle.std.proofs.lemmas.Bool.{le-ltb}
 use Rattle.std.proofs.lemmas.List.{take_at, drop_at, drop-append-le, get_or_append_left, length-append, length-drop}
 use Rattle.std.proofs.Math.Seq.{drop-append_seam, drop-append-add}
 use Rattle.capture.specs.File.{number_of}
-use Rattle.capture.specs.Frames.{unpadded, behind, by_protocol, packet_in_frame, IsPacket, IsTagged, CarriesIpv4}
+use Rattle.capture.specs.Frames.{unpadded, after, by_protocol, packet_in_frame, IsPacket, IsTagged, CarriesIpv4}
 use Rattle.capture.specs.declared.pcap.header.Order.TheVariants.{Big}
 use Rattle.capture.specs.declared.pcap.link.NoPacket.{NoPacket}
 use Rattle.capture.specs.declared.pcap.link_type.LinkType.{LinkType}
@@ -37,15 +37,15 @@ cut_off packet padding p =
     rw (t, low, high) (take_at packet padding (length packet) refl)
 
 one_tag : (a b : ℕ) (packet padding : List ℕ) → IsPacket packet
-    → behind 0x8100 (a ∷ b ∷ 8 ∷ 0 ∷ (packet ++ padding)) ≡ Ok packet
-unfolding behind
+    → after 0x8100 (a ∷ b ∷ 8 ∷ 0 ∷ (packet ++ padding)) ≡ Ok packet
+unfolding after
 one_tag a b packet padding p =
     let long : ltb (length (a ∷ b ∷ 8 ∷ 0 ∷ (packet ++ padding))) 4 ≡ false = le-ltb _ _ (omega arith) in
     rw long (ap ok (cut_off packet padding p))
 
 two_tags : (a b c d : ℕ) (packet padding : List ℕ) → IsPacket packet
-    → behind 0x88a8 (a ∷ b ∷ 0x81 ∷ 0 ∷ c ∷ d ∷ 8 ∷ 0 ∷ (packet ++ padding)) ≡ Ok packet
-unfolding behind
+    → after 0x88a8 (a ∷ b ∷ 0x81 ∷ 0 ∷ c ∷ d ∷ 8 ∷ 0 ∷ (packet ++ padding)) ≡ Ok packet
+unfolding after
 two_tags a b c d packet padding p =
     let outer : ltb (length (a ∷ b ∷ 0x81 ∷ 0 ∷ c ∷ d ∷ 8 ∷ 0 ∷ (packet ++ padding))) 4 ≡ false =
     le-ltb _ _ (omega arith) in
@@ -54,8 +54,8 @@ two_tags a b c d packet padding p =
 
 -- behind the first two bytes, as the number that they are
 tagged : (bytes packet padding : List ℕ) → IsPacket packet → IsTagged bytes (packet ++ padding)
-    → behind (number_of Big w16 bytes) (drop 2 bytes) ≡ Ok packet
-unfolding behind
+    → after (number_of Big w16 bytes) (drop 2 bytes) ≡ Ok packet
+unfolding after
 tagged bytes packet padding p t =
     elim t [
       | inl e ↦ rw e (ap ok (cut_off packet padding p))
@@ -85,7 +85,7 @@ found packet padding p = ap ok (cut_off packet padding p)
 
 cooked : (others packet padding : List ℕ) → length others ≡ 18 → IsPacket packet
     → packet_in_frame LinuxCooked2 (8 ∷ 0 ∷ (others ++ (packet ++ padding))) ≡ Ok packet
-unfolding behind
+unfolding after
 cooked others packet padding len p =
     let long : ltb (length (8 ∷ 0 ∷ (others ++ (packet ++ padding)))) 20 ≡ false =
     le-ltb _ _ (omega (arith, length-append others (packet ++ padding))) in

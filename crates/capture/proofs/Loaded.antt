@@ -13,15 +13,15 @@ use Rattle.capture.proofs.Heads.{number_stays_at}
 use Rattle.capture.proofs.Filling.{fills_all, fills_then}
 use Rattle.capture.proofs.Placed.{none_left}
 use Rattle.capture.specs.Feeds.{Fills}
-use Rattle.capture.specs.Faults.{classic_slip}
+use Rattle.capture.specs.Faults.{classic_fault_at}
 use Rattle.capture.specs.Packets.{IsInside, Packet}
 use Rattle.capture.specs.Steps.{ClassicReads, IsLoaded, IsRecord, captured_in}
 use Rattle.capture.specs.declared.blocks.Found.{Found}
-use Rattle.capture.specs.declared.fault.Slip.{Slip}
+use Rattle.capture.specs.declared.fault.FaultAt.{FaultAt}
 use Rattle.capture.specs.declared.fault.Why.TheVariants.{NotRead}
 
 -- a stream that can't be read
-pub not_loaded : (o : Order) (old new : Option (List ℕ)) (held buffer : List ℕ) (s : Slip) → held ≡ []
+pub not_loaded : (o : Order) (old new : Option (List ℕ)) (held buffer : List ℕ) (s : FaultAt) → held ≡ []
     → Fills old held new buffer → s.why ≡ NotRead → IsLoaded o old new buffer (Err s)
 not_loaded o old new held buffer s none f why = (fills_all old new held buffer none f, inl why)
 
@@ -30,9 +30,9 @@ pub record_loaded : (o : Order) (old mid new : Option (List ℕ)) (held first bu
     → Fills old held mid first → Fills mid first new buffer → 16 ≤ length first → n ≡ captured_in o first
     → length buffer ≤ 16 + n → (length buffer < 16 + n → IsAtEnd new) → IsLoaded o old new buffer (Ok tt)
 record_loaded o old mid new held first buffer n none f g le is most ended =
-    let long = ap length g.behind ∙ length-append first g.more in
+    let long = ap length g.after ∙ length-append first g.more in
     let stays : captured_in o buffer ≡ n =
-    ap (captured_in o) g.behind ∙ number_stays_at o 8 first g.more (omega (arith, le)) ∙ sym is in (
+    ap (captured_in o) g.after ∙ number_stays_at o 8 first g.more (omega (arith, le)) ∙ sym is in (
       fills_all old new held buffer none (fills_then old mid new held first buffer f g),
       inr (omega (arith, le, long), omega (arith, stays, most), λ lt. ended (omega (arith, stays, lt))),
     )
@@ -110,7 +110,7 @@ record_inside h buffer bytes rest r ended time len same read spelled sized len_i
 -- bytes that are no whole record
 pub record_cut : (h : Header) (old new : Option (List ℕ)) (buffer bytes : List ℕ) (f : classic.Fault) → bytes ≡ buffer
     → IsLoaded h.order old new buffer (Ok tt) → IsCut f.why h.order bytes f.offset
-    → length bytes < 16 + captured_in h.order bytes → ClassicReads h old new buffer (Err (classic_slip f))
+    → length bytes < 16 + captured_in h.order bytes → ClassicReads h old new buffer (Err (classic_fault_at f))
 record_cut h old new buffer bytes f same loaded is lt =
     let short = subst (λ (xs : List ℕ). length xs < 16 + captured_in h.order xs) same lt in (
       loaded.0,

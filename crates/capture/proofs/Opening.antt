@@ -7,19 +7,19 @@ use Rattle.capture.specs.declared.pcap.fault.Fault as classic
 use Rattle.capture.specs.declared.pcap.fault.Why.TheVariants.{HeaderCut}
 use Rattle.capture.specs.declared.pcap.header.Header.{Header}
 use Rattle.capture.proofs.Filling.{fills_all, fills_then}
-use Rattle.capture.specs.Faults.{classic_slip}
+use Rattle.capture.specs.Faults.{classic_fault_at}
 use Rattle.capture.specs.Feeds.{Fills}
 use Rattle.capture.specs.Places.{Opens, kind_in}
-use Rattle.capture.specs.declared.fault.Slip.{Slip}
+use Rattle.capture.specs.declared.fault.FaultAt.{FaultAt}
 use Rattle.capture.specs.declared.fault.Why.TheVariants.{NotRead}
 use Rattle.capture.specs.declared.records.Kind.TheVariants as kinds
 
 -- a stream that can't be read
-pub not_opened : (old new : Option (List ℕ)) (held buffer : List ℕ) (s : Slip) → held ≡ [] → Fills old held new buffer
+pub not_opened : (old new : Option (List ℕ)) (held buffer : List ℕ) (s : FaultAt) → held ≡ [] → Fills old held new buffer
     → s.why ≡ NotRead → Opens old new buffer (Err s)
 not_opened old new held buffer s none f why = (fills_all old new held buffer none f, inl why)
 
-pub not_opened_then : (old mid new : Option (List ℕ)) (held first buffer : List ℕ) (s : Slip) → held ≡ []
+pub not_opened_then : (old mid new : Option (List ℕ)) (held first buffer : List ℕ) (s : FaultAt) → held ≡ []
     → Fills old held mid first → Fills mid first new buffer → s.why ≡ NotRead → Opens old new buffer (Err s)
 not_opened_then old mid new held first buffer s none f g why =
     not_opened old new held buffer s none (fills_then old mid new held first buffer f g) why
@@ -40,7 +40,7 @@ kind_stays (a ∷ b ∷ c ∷ d ∷ xs) more le =
 is_classic : (mid new : Option (List ℕ)) (first buffer : List ℕ) → Fills mid first new buffer
     → kind_in first ≡ kinds.Classic → 12 ≤ length first → kind_in buffer ≡ kinds.Classic
 is_classic mid new first buffer f kind le =
-    ap kind_in f.behind ∙ kind_stays first f.more (omega (arith, le)) ∙ kind
+    ap kind_in f.after ∙ kind_stays first f.more (omega (arith, le)) ∙ kind
 
 -- a header needs 24 bytes
 cut : (bytes : List ℕ) → length bytes < 24 → header_of bytes ≡ Err (fault HeaderCut 0)
@@ -61,7 +61,7 @@ header_long bytes h is =
 -- a file that ends before a header does
 pub short_header : (old new : Option (List ℕ)) (held buffer : List ℕ) → held ≡ [] → Fills old held new buffer
     → kind_in buffer ≡ kinds.Classic → length buffer < 12 → IsAtEnd new
-    → Opens old new buffer (Err (classic_slip (fault HeaderCut 0)))
+    → Opens old new buffer (Err (classic_fault_at (fault HeaderCut 0)))
 short_header old new held buffer none f kind lt ended = (
   fills_all old new held buffer none f,
   inr (inr (fault HeaderCut 0, kind, cut buffer (omega (arith, lt)), λ l. ended, refl)),
@@ -70,7 +70,7 @@ short_header old new held buffer none f kind lt ended = (
 -- a header with a fault
 pub bad_header : (old mid new : Option (List ℕ)) (held first buffer : List ℕ) (f : classic.Fault) → held ≡ []
     → Fills old held mid first → Fills mid first new buffer → kind_in first ≡ kinds.Classic → 12 ≤ length first
-    → header_of buffer ≡ Err f → (length buffer < 24 → IsAtEnd new) → Opens old new buffer (Err (classic_slip f))
+    → header_of buffer ≡ Err f → (length buffer < 24 → IsAtEnd new) → Opens old new buffer (Err (classic_fault_at f))
 bad_header old mid new held first buffer f none a b kind le is ended = (
   fills_all old new held buffer none (fills_then old mid new held first buffer a b),
   inr (inr (f, is_classic mid new first buffer b kind le, is, ended, refl)),

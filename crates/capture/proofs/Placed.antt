@@ -19,9 +19,9 @@ number_len Little n = refl
 number_len Big n = refl
 
 -- a block with what stands behind it
-behind_head : (b : Part) (rest : List ℕ)
+after_head : (b : Part) (rest : List ℕ)
     → drop 8 (block_bytes b ++ rest) ≡ b.body ++ (number b.order w32 (size b) ++ rest)
-behind_head b rest =
+after_head b rest =
     let n = number b.order w32 (size b) in
     let regrouped : block_bytes b ++ rest ≡ number b.order w32 b.kind ++ (n ++ (b.body ++ (n ++ rest))) =
     simp append_assoc in
@@ -35,7 +35,7 @@ placed b bytes rest from len is le =
     let plus : from + 8 ≡ 8 + from = omega arith in
     let at : drop (from + 8) bytes ≡ drop from (b.body ++ tail) =
     ap (λ (k : ℕ). drop k bytes) plus ∙ sym (drop-drop from 8 bytes)
-    ∙ ap (drop from) (ap (drop 8) is ∙ behind_head b rest) in
+    ∙ ap (drop from) (ap (drop 8) is ∙ after_head b rest) in
     let apart : drop from (b.body ++ tail) ≡ drop from b.body ++ tail =
     drop-append-le from b.body tail (omega (arith, le)) in
     let long = length-drop from b.body in

@@ -6,13 +6,13 @@ use Rattle.std.specs.Io.KnownBytes.{IsAtEnd}
 use Rattle.capture.specs.declared.pcap.header.Order.{Order}
 use Rattle.capture.proofs.Heads.{head_stays}
 use Rattle.capture.specs.Blocks.{Part, block_bytes, head_of, next_of}
-use Rattle.capture.proofs.Filling.{fills_behind, fills_none, fills_then}
+use Rattle.capture.proofs.Filling.{fills_after, fills_none, fills_then}
 use Rattle.capture.specs.Feeds.{Fills}
 use Rattle.capture.proofs.Placed.{all_of_it}
 use Rattle.capture.specs.Packets.{IsFirst, Known, Takes, packet_found, taken}
 use Rattle.capture.specs.declared.blocks.Found.{Found}
 use Rattle.capture.specs.Steps.{BlockLoads, BlockReads, BlocksRead, IsBlockRead, IsLong, IsTaken, Passed, Passes, blocks_bytes, further}
-use Rattle.capture.specs.declared.fault.Slip.{Slip}
+use Rattle.capture.specs.declared.fault.FaultAt.{FaultAt}
 use Rattle.capture.specs.declared.section.Step.TheVariants as steps
 
 -- a head was read, and then as many bytes as it says, or all that are left
@@ -20,8 +20,8 @@ pub block_loaded : (o : Option Order) (old mid new : Option (List ℕ)) (held fi
     → Fills old held mid first → Fills mid first new buffer → 12 ≤ length first → head_of o first ≡ Ok (p, n)
     → length buffer ≤ n → (length buffer < n → IsAtEnd new) → BlockLoads o old held new buffer (Ok tt)
 block_loaded o old mid new held first buffer p n f g le head most ended =
-    let long = ap length g.behind ∙ length-append first g.more in
-    let stays : head_of o buffer ≡ Ok (p, n) = ap (head_of o) g.behind ∙ head_stays o first g.more le ∙ head in
+    let long = ap length g.after ∙ length-append first g.more in
+    let stays : head_of o buffer ≡ Ok (p, n) = ap (head_of o) g.after ∙ head_stays o first g.more le ∙ head in
     (fills_then old mid new held first buffer f g, inr (p, n, stays, omega (arith, le, long), most, ended))
 
 pub block_ended : (o : Option Order) (buffer : List ℕ) (ended : Type 0) → IsBlockRead o buffer ended → buffer ≡ [] →
@@ -61,7 +61,7 @@ passed_then : (k : Known) (offset : ℕ) (old : Option (List ℕ)) (held : List 
 passed_then k offset old held mid at now new buffer filled p f = record {
   blocks = p.blocks;
   pass = p.pass;
-  read = fills_behind old now new held (blocks_bytes p.blocks) buffer filled p.read f;
+  read = fills_after old now new held (blocks_bytes p.blocks) buffer filled p.read f;
   offset_is = p.offset_is;
 }
 
@@ -100,7 +100,7 @@ block_read k new old now held buffer bytes found e f read t =
     )
 
 -- a block was read that is none, or whose body has a fault
-pub block_refused : (k new : Known) (old now : Option (List ℕ)) (held buffer bytes : List ℕ) (s : Slip) → bytes ≡ buffer
+pub block_refused : (k new : Known) (old now : Option (List ℕ)) (held buffer bytes : List ℕ) (s : FaultAt) → bytes ≡ buffer
     → Fills old held now buffer → IsBlockRead k.order buffer (IsAtEnd now) → Takes k bytes (Err s) new
     → BlockReads k old held new now buffer (Err s)
 block_refused k new old now held buffer bytes s e f read t =
@@ -141,7 +141,7 @@ packet_read k offset old held mid new at now then buffer filled f p b =
     (mid, b.0, passed_then k offset old held mid at now then buffer filled p b.1, b.2, b.3)
 
 pub refused_then : (k : Known) (offset : ℕ) (old : Option (List ℕ)) (held : List ℕ) (mid new : Known) (at : ℕ)
-    (now then : Option (List ℕ)) (buffer filled : List ℕ) (s : Slip) → Passed k offset old held mid at now buffer
+    (now then : Option (List ℕ)) (buffer filled : List ℕ) (s : FaultAt) → Passed k offset old held mid at now buffer
     → BlockReads mid now buffer new then filled (Err s) → BlocksRead k offset old held new at then filled (Err s)
 refused_then k offset old held mid new at now then buffer filled s p b = (
   mid,

@@ -7,7 +7,7 @@ use Rattle.std.proofs.lemmas.Nat.{from_le_bytes-to_le_bytes_4, from_be_bytes-to_
 use Rattle.capture.specs.File.{number, number_of}
 use Rattle.capture.specs.declared.pcap.header.Order.{Order}
 use Rattle.capture.specs.declared.pcap.header.Order.TheVariants.{Little, Big}
-use Rattle.capture.specs.Blocks.{Part, size, block_bytes, marked, order_at, of_length, next_of, behind, IsBlock, IsInOrder}
+use Rattle.capture.specs.Blocks.{Part, size, block_bytes, marked, order_at, of_length, next_of, after, IsBlock, IsInOrder}
 use Rattle.capture.specs.declared.pcapng.block.TheConstants.{SECTION_HEADER, BYTE_ORDER_MAGIC}
 
 -- a block's body and what stands behind it
@@ -105,7 +105,7 @@ length_again b rest i =
     let filled : eqb (size b % 4) 0 ≡ true = eq-eqb (size b % 4) 0 (omega (arith, f)) in
     let l = front_len b rest in
     let high : ltb (length (front b rest)) (size b) ≡ false = le-ltb _ _ (omega (arith, l)) in
-    let inner : behind (front b rest) ≡ tail b rest =
+    let inner : after (front b rest) ≡ tail b rest =
     ap (drop 4) (past_number b.order b.kind (n ++ tail b rest)) ∙ past_number b.order (size b) (tail b rest) in
     let len : size b - 12 ≡ length b.body = omega arith in
     let d : drop (length b.body) (tail b rest) ≡ n ++ rest = drop_at b.body (n ++ rest) (length b.body) refl in

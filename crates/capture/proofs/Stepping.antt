@@ -4,7 +4,7 @@ use Rattle.capture.specs.Places.{FindsIn, Place, Reading, StepGives, Steps, Step
 use Rattle.capture.specs.Steps.{further}
 use Rattle.capture.specs.declared.blocks.Found.{Found}
 use Rattle.capture.specs.declared.fault.Fault.{Fault}
-use Rattle.capture.specs.declared.fault.Slip.{Slip}
+use Rattle.capture.specs.declared.fault.FaultAt.{FaultAt}
 use Rattle.capture.specs.declared.records.Record.{Record}
 
 -- no fault ended reading
@@ -14,7 +14,7 @@ none_of (Some f) other = absurd (other f refl)
 
 -- what was found, and what is answered of it, is a step
 pub stepped : (now : Reading) (place : Place) (fault : Option Fault) (bytes : List ℕ) (new : Reading)
-    (result : Result (Option Record) Fault) (mid : Place) (buffer : List ℕ) (out : Result (Option Found) Slip)
+    (result : Result (Option Record) Fault) (mid : Place) (buffer : List ℕ) (out : Result (Option Found) FaultAt)
     → record { place = place; fault = fault; bytes = bytes } ≡ now → fault ≡ None
     → FindsIn place.format place mid buffer out → mid.number ≡ place.number → StepGives mid buffer out result new
     → Steps now new result

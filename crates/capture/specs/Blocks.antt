@@ -47,8 +47,8 @@ order_at (Some o) bytes =
     if number_of o w32 bytes == SECTION_HEADER then marked (number_of Little w32 (drop 8 bytes)) else Ok o
 
 -- what follows a block's type and its first length
-abbrev pub behind : List ℕ → List ℕ
-behind bytes = drop 4 (drop 4 bytes)
+abbrev pub after : List ℕ → List ℕ
+after bytes = drop 4 (drop 4 bytes)
 
 -- the block of a total length that begins these bytes
 abbrev pub of_length : Order → ℕ → List ℕ → Result Part Fault
@@ -56,8 +56,8 @@ of_length o total bytes =
     if nat_lt total 12 then Err (fault BadLength 4) else
     if not (total % 4 == 0) then Err (fault BadLength 4) else
     if nat_lt (length bytes) total then Err (fault BlockCut 4) else
-    if number_of o w32 (drop (total - 12) (behind bytes)) == total
-    then Ok (record { order = o; kind = number_of o w32 bytes; body = take (total - 12) (behind bytes) })
+    if number_of o w32 (drop (total - 12) (after bytes)) == total
+    then Ok (record { order = o; kind = number_of o w32 bytes; body = take (total - 12) (after bytes) })
     else Err (fault LengthsDiffer (total - 4))
 
 abbrev pub of_order : Result Order Fault → List ℕ → Result Part Fault

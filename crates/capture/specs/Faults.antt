@@ -2,15 +2,15 @@
 use Rattle.std.specs.Prelude.{ℕ}
 use Rattle.capture.specs.declared.pcap.fault.Fault as classic
 use Rattle.capture.specs.declared.pcapng.fault.Fault as blocks
-use Rattle.capture.specs.declared.fault.Slip.{Slip}
+use Rattle.capture.specs.declared.fault.FaultAt.{FaultAt}
 use Rattle.capture.specs.declared.fault.Why.{Why}
 use Rattle.capture.specs.declared.fault.Why.TheVariants.{Classic, Block}
 
-abbrev pub slip : Why → ℕ → Slip
-slip why at = record { why = why; at = at }
+abbrev pub fault_at : Why → ℕ → FaultAt
+fault_at why at = record { why = why; at = at }
 
-abbrev pub classic_slip : classic.Fault → Slip
-classic_slip f = slip (Classic f.why) f.offset
+abbrev pub classic_fault_at : classic.Fault → FaultAt
+classic_fault_at f = fault_at (Classic f.why) f.offset
 
-abbrev pub block_slip : blocks.Fault → Slip
-block_slip f = slip (Block f.why) f.offset
+abbrev pub block_fault_at : blocks.Fault → FaultAt
+block_fault_at f = fault_at (Block f.why) f.offset

@@ -29,8 +29,8 @@ untagged protocol rest =
     else Ok (protocol, rest)
 
 -- the packet after a protocol and at most two tags
-unfoldable pub behind : ℕ → List ℕ → Result (List ℕ) NoPacket
-behind protocol rest = do
+unfoldable pub after : ℕ → List ℕ → Result (List ℕ) NoPacket
+after protocol rest = do
   one ← untagged protocol rest
   two ← untagged one.0 one.1
   if two.0 == 0x800 then Ok (unpadded two.1) else Err (OtherProtocol two.0)
@@ -39,7 +39,7 @@ behind protocol rest = do
 abbrev pub by_protocol : ℕ → ℕ → List ℕ → Result (List ℕ) NoPacket
 by_protocol at header frame =
     if nat_lt (length frame) header then Err FrameCut
-    else behind (number_of Big w16 (drop at frame)) (drop header frame)
+    else after (number_of Big w16 (drop at frame)) (drop header frame)
 
 -- A protocol family as some host wrote it. Families are below 65,536, so one that isn't was written in the other order.
 abbrev pub host_family : List ℕ → ℕ
@@ -85,9 +85,9 @@ IsTagged bytes carried =
 -- the frame of a link type carries these bytes as IPv4
 abbrev pub CarriesIpv4 : LinkType → List ℕ → List ℕ → Type 0
 CarriesIpv4 Ethernet frame carried =
-    (addresses behind : List ℕ) × (length addresses ≡ 12) × IsTagged behind carried × (frame ≡ addresses ++ behind)
+    (addresses after : List ℕ) × (length addresses ≡ 12) × IsTagged after carried × (frame ≡ addresses ++ after)
 CarriesIpv4 LinuxCooked frame carried =
-    (front behind : List ℕ) × (length front ≡ 14) × IsTagged behind carried × (frame ≡ front ++ behind)
+    (front after : List ℕ) × (length front ≡ 14) × IsTagged after carried × (frame ≡ front ++ after)
 CarriesIpv4 LinuxCooked2 frame carried =
     (others : List ℕ) × (length others ≡ 18) × (frame ≡ 8 ∷ 0 ∷ (others ++ carried))
 CarriesIpv4 Null frame carried = (frame ≡ 2 ∷ 0 ∷ 0 ∷ 0 ∷ carried) ⊎ (frame ≡ 0 ∷ 0 ∷ 0 ∷ 2 ∷ carried)

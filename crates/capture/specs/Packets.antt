@@ -11,11 +11,11 @@ use Rattle.capture.specs.declared.pcapng.body.Interface.{Interface}
 use Rattle.capture.specs.declared.pcapng.body.Section.{Section}
 use Rattle.capture.specs.declared.pcapng.fault.BodyFault.{BodyFault}
 use Rattle.capture.specs.declared.pcapng.fault.Fault.{Fault}
-use Rattle.capture.specs.Faults.{block_slip}
+use Rattle.capture.specs.Faults.{block_fault_at}
 use Rattle.capture.specs.declared.blocks.Blocks.{Blocks}
 use Rattle.capture.specs.declared.blocks.Found.{Found}
 use Rattle.capture.specs.declared.blocks.TheConstants.{INTERFACES}
-use Rattle.capture.specs.declared.fault.Slip.{Slip}
+use Rattle.capture.specs.declared.fault.FaultAt.{FaultAt}
 use Rattle.capture.specs.declared.fault.Why.{Why}
 use Rattle.capture.specs.declared.fault.Why.TheVariants.{Body, NoInterface, TooManyInterfaces}
 
@@ -148,8 +148,8 @@ pub record IsFirst (o : Option Order) (bytes : List ℕ) (b : Part) : Type 0 whe
   pub spelled : bytes ≡ block_bytes b ++ rest
 
 -- what was made of the block that begins these bytes
-abbrev pub Takes : Known → List ℕ → Result (Option Found) Slip → Known → Type 0
+abbrev pub Takes : Known → List ℕ → Result (Option Found) FaultAt → Known → Type 0
 Takes k bytes (Ok found) new = (b : Part) × IsFirst k.order bytes b × (taken k b ≡ Ok (new, packet_found bytes found))
 Takes k bytes (Err s) new =
-    ((f : Fault) × (next_of k.order bytes ≡ Err f) × (s ≡ block_slip f))
+    ((f : Fault) × (next_of k.order bytes ≡ Err f) × (s ≡ block_fault_at f))
     ⊎ ((b : Part) × IsFirst k.order bytes b × (taken k b ≡ Err s.why) × (s.at ≡ 0))

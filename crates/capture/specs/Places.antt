@@ -3,14 +3,14 @@ use Rattle.std.specs.Prelude.{◌≡◌, ◌⊎◌, ℕ, ◌+◌, ◌-◌, ◌^�
 use Rattle.std.specs.Io.KnownBytes.{Consumes, IsAtEnd}
 use Rattle.capture.specs.File.{header_of}
 use Rattle.capture.specs.declared.pcap.fault.Fault as classic
-use Rattle.capture.specs.Faults.{classic_slip, slip}
+use Rattle.capture.specs.Faults.{classic_fault_at, fault_at}
 use Rattle.capture.specs.Packets.{Known, Packet, found_in, known}
 use Rattle.capture.specs.declared.blocks.Blocks.{Blocks}
 use Rattle.capture.specs.Steps.{BlocksRead, ClassicReads, further}
 use Rattle.capture.specs.declared.pcap.header.Header.{Header}
 use Rattle.capture.specs.declared.blocks.Found.{Found}
 use Rattle.capture.specs.declared.fault.Fault.{Fault}
-use Rattle.capture.specs.declared.fault.Slip.{Slip}
+use Rattle.capture.specs.declared.fault.FaultAt.{FaultAt}
 use Rattle.capture.specs.declared.records.Record.{Record}
 use Rattle.capture.specs.declared.fault.Why.TheVariants.{NotRead, Gzip}
 use Rattle.capture.specs.declared.records.Format.{Format}
@@ -28,15 +28,15 @@ kind_in bytes =
     then kinds.Pcapng else kinds.Classic
 
 -- why no format was found in these bytes
-abbrev pub OpenFails : List ℕ → Type 0 → Slip → Type 0
+abbrev pub OpenFails : List ℕ → Type 0 → FaultAt → Type 0
 OpenFails front ended s =
     (s.why ≡ NotRead)
-    ⊎ ((kind_in front ≡ kinds.Gzip) × (s ≡ slip Gzip 0))
+    ⊎ ((kind_in front ≡ kinds.Gzip) × (s ≡ fault_at Gzip 0))
     ⊎ ((f : classic.Fault) × (kind_in front ≡ kinds.Classic) × (header_of front ≡ Err f)
-    × (length front < 24 → ended) × (s ≡ classic_slip f))
+    × (length front < 24 → ended) × (s ≡ classic_fault_at f))
 
 -- what a stream is, of which these bytes were read: a classic file with this header, or a pcapng file
-abbrev pub Opens : Option (List ℕ) → Option (List ℕ) → List ℕ → Result (Option Header) Slip → Type 0
+abbrev pub Opens : Option (List ℕ) → Option (List ℕ) → List ℕ → Result (Option Header) FaultAt → Type 0
 Opens old new front (Ok (Some h)) = Consumes old new front × (length front ≡ 24) × (header_of front ≡ Ok h)
 Opens old new front (Ok None) = Consumes old new front × (length front ≤ 12) × (kind_in front ≡ kinds.Pcapng)
 Opens old new front (Err s) = Consumes old new front × OpenFails front (IsAtEnd new) s
@@ -56,18 +56,18 @@ place_of format blocks number offset rest =
     record { format = format; known = known blocks; number = number; offset = offset; rest = rest }
 
 -- what was found in a pcapng file whose first bytes were already read, in the buffer after the read
-abbrev pub FindsBlock : Place → Option (List ℕ) → List ℕ → Place → List ℕ → Result (Option Found) Slip → Type 0
+abbrev pub FindsBlock : Place → Option (List ℕ) → List ℕ → Place → List ℕ → Result (Option Found) FaultAt → Type 0
 FindsBlock old mid held new buffer out =
     BlocksRead old.known old.offset mid held new.known new.offset new.rest buffer out × (new.format ≡ formats.Pcapng)
 
 -- what was found in a classic file
-abbrev pub FindsRecord : Place → ℕ → Option (List ℕ) → Header → Place → List ℕ → Result (Option Found) Slip → Type 0
+abbrev pub FindsRecord : Place → ℕ → Option (List ℕ) → Header → Place → List ℕ → Result (Option Found) FaultAt → Type 0
 FindsRecord old offset mid h new buffer out =
     ClassicReads h mid new.rest buffer out × (new.offset ≡ offset) × (new.known ≡ old.known)
     × (new.format ≡ formats.Classic h)
 
 -- what was found: the file is opened first if it wasn't
-abbrev pub FindsIn : Format → Place → Place → List ℕ → Result (Option Found) Slip → Type 0
+abbrev pub FindsIn : Format → Place → Place → List ℕ → Result (Option Found) FaultAt → Type 0
 FindsIn (formats.Classic h) old new buffer out = FindsRecord old old.offset old.rest h new buffer out
 FindsIn formats.Pcapng old new buffer out = FindsBlock old old.rest [] new buffer out
 FindsIn formats.Unread old new buffer out =
@@ -75,7 +75,7 @@ FindsIn formats.Unread old new buffer out =
     × FindsRecord old 24 mid h new buffer out)
     ⊎ ((mid : Option (List ℕ)) × (front : List ℕ) × Opens old.rest mid front (Ok None)
     × FindsBlock old mid front new buffer out)
-    ⊎ ((s : Slip) × Opens old.rest new.rest buffer (Err s) × (out ≡ Err s) × (new.offset ≡ old.offset)
+    ⊎ ((s : FaultAt) × Opens old.rest new.rest buffer (Err s) × (out ≡ Err s) × (new.offset ≡ old.offset)
     × (new.known ≡ old.known) × (new.format ≡ formats.Unread))
 
 -- a reader, with the fault by which reading ended, and the bytes of the record that was read last
@@ -102,7 +102,7 @@ abbrev pub packet_in : Record → List ℕ → Packet
 packet_in r bytes = record { time = r.time; original = r.original_len; link = r.link; bytes = bytes }
 
 -- what a step returns for what was found, in the buffer after the read
-abbrev pub StepGives : Place → List ℕ → Result (Option Found) Slip → Result (Option Record) Fault → Reading → Type 0
+abbrev pub StepGives : Place → List ℕ → Result (Option Found) FaultAt → Result (Option Record) Fault → Reading → Type 0
 StepGives mid buffer (Ok None) result new =
     (result ≡ Ok None) × (new.place ≡ mid) × (new.fault ≡ None) × (new.bytes ≡ [])
 StepGives mid buffer (Ok (Some f)) result new =
@@ -118,7 +118,7 @@ abbrev pub StepsAfter : Option Fault → Place → Reading → Result (Option Re
 StepsAfter (Some f) old new result =
     (result ≡ Err f) × (new.place ≡ old) × (new.fault ≡ Some f) × (new.bytes ≡ [])
 StepsAfter None old new result =
-    (mid : Place) × (buffer : List ℕ) × (out : Result (Option Found) Slip) × FindsIn old.format old mid buffer out
+    (mid : Place) × (buffer : List ℕ) × (out : Result (Option Found) FaultAt) × FindsIn old.format old mid buffer out
     × (mid.number ≡ old.number) × StepGives mid buffer out result new
 
 -- a step of a reader

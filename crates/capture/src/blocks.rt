@@ -5,7 +5,7 @@ ghost use Rattle.capture.specs.SeenBlocks.{part};
 ghost use Rattle.capture.specs.Packets as packets;
 ghost use Rattle.capture.specs.Packets.{IsInside, BlockGives, Takes, known};
 
-use crate::fault::{Slip, Why};
+use crate::fault::{FaultAt, Why};
 use crate::pcap::{LinkType, Order};
 use crate::pcapng::{Block, Interface, SECTION_HEADER, first_block};
 use crate::time::nanoseconds;
@@ -148,7 +148,7 @@ impl Blocks {
 
     /// Parses the block at the beginning of these bytes. The place of a packet's bytes is an offset in these bytes.
     /// Fails with a fault of the block, or of its body.
-    pub(crate) fn take(&mut self, bytes: &[u8]) -> Result<Option<Found>, Slip>
+    pub(crate) fn take(&mut self, bytes: &[u8]) -> Result<Option<Found>, FaultAt>
         ensures takes { Takes (known self.old) bytes.now result (known self.new) }
         ensures inside { IfOk result (IsInside (length bytes.now)) }
     {
@@ -159,7 +159,7 @@ impl Blocks {
                 ..found
             })),
             Ok(None) => Ok(None),
-            Err(why) => Err(Slip { why, at: 0 }),
+            Err(why) => Err(FaultAt { why, at: 0 }),
         }
     }
 }

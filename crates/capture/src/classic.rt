@@ -4,7 +4,7 @@ ghost use Rattle.capture.specs.Packets.{IsInside};
 ghost use Rattle.capture.specs.Steps.{ClassicReads, IsLoaded};
 
 use crate::blocks::Found;
-use crate::fault::{Slip, Why};
+use crate::fault::{FaultAt, Why};
 use crate::feed::{Feed, LONGEST_RECORD};
 use crate::pcap::{Header, Order, captured_len, first_record};
 use script_loop::Source;
@@ -14,26 +14,26 @@ const RECORD_HEADER: usize = 16;
 
 /// Reads the next record of a classic file into an empty room, or as much of it as there is.
 #[tactic(auto, using(crate::proofs::Loaded::not_loaded, crate::proofs::Loaded::record_loaded))]
-fn load_record<S: Source>(feed: &mut Feed<S>, order: Order) -> Result<(), Slip>
+fn load_record<S: Source>(feed: &mut Feed<S>, order: Order) -> Result<(), FaultAt>
     requires { feed.old.buffer ≡ [] }
     ensures { IsLoaded order (S.remaining feed.old.source) (S.remaining feed.new.source) feed.new.buffer result }
 {
-    if let Err(slip) = feed.fill(RECORD_HEADER) {
-        return Err(slip);
+    if let Err(fault_at) = feed.fill(RECORD_HEADER) {
+        return Err(fault_at);
     }
     if feed.buffer.len() < RECORD_HEADER {
         return Ok(());
     }
     let captured = captured_len(order, feed.buffer.as_slice());
     if captured > LONGEST_RECORD - RECORD_HEADER {
-        return Err(Slip {
+        return Err(FaultAt {
             why: Why::TooLong,
             at: 8,
         });
     }
     match feed.fill(RECORD_HEADER + captured) {
         Ok(()) => Ok(()),
-        Err(slip) => Err(slip),
+        Err(fault_at) => Err(fault_at),
     }
 }
 
@@ -43,14 +43,14 @@ fn load_record<S: Source>(feed: &mut Feed<S>, order: Order) -> Result<(), Slip>
 pub(crate) fn read_record<S: Source>(
     feed: &mut Feed<S>,
     header: Header,
-) -> Result<Option<Found>, Slip>
+) -> Result<Option<Found>, FaultAt>
     requires { feed.old.buffer ≡ [] }
     ensures reads { ClassicReads header (S.remaining feed.old.source) (S.remaining feed.new.source) feed.new.buffer
         result }
     ensures inside { IfOk result (IsInside (length feed.new.buffer)) }
 {
-    if let Err(slip) = load_record(feed, header.order) {
-        return Err(slip);
+    if let Err(fault_at) = load_record(feed, header.order) {
+        return Err(fault_at);
     }
     if feed.buffer.is_empty() {
         return Ok(None);

@@ -47,33 +47,33 @@ pub struct Fault {
 
 /// What is wrong with a record or a block, and its offset in it.
 #[derive(Clone, Copy, Debug, PartialEq, Eq)]
-pub(crate) struct Slip {
+pub(crate) struct FaultAt {
     pub(crate) why: Why,
     pub(crate) at: usize,
 }
 
-impl From<crate::pcap::Fault> for Slip {
+impl From<crate::pcap::Fault> for FaultAt {
     ghost use Rattle.std.specs.Prelude.{◌≡◌};
-    ghost use Rattle.capture.specs.Faults.{classic_slip};
+    ghost use Rattle.capture.specs.Faults.{classic_fault_at};
 
-    ghost from_gives = { λ f s. s ≡ classic_slip f };
+    ghost from_gives = { λ f s. s ≡ classic_fault_at f };
 
-    fn from(found: crate::pcap::Fault) -> Slip {
-        Slip {
+    fn from(found: crate::pcap::Fault) -> FaultAt {
+        FaultAt {
             why: Why::Classic(found.why),
             at: found.offset,
         }
     }
 }
 
-impl From<crate::pcapng::Fault> for Slip {
+impl From<crate::pcapng::Fault> for FaultAt {
     ghost use Rattle.std.specs.Prelude.{◌≡◌};
-    ghost use Rattle.capture.specs.Faults.{block_slip};
+    ghost use Rattle.capture.specs.Faults.{block_fault_at};
 
-    ghost from_gives = { λ f s. s ≡ block_slip f };
+    ghost from_gives = { λ f s. s ≡ block_fault_at f };
 
-    fn from(found: crate::pcapng::Fault) -> Slip {
-        Slip {
+    fn from(found: crate::pcapng::Fault) -> FaultAt {
+        FaultAt {
             why: Why::Block(found.why),
             at: found.offset,
         }

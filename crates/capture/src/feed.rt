@@ -4,7 +4,7 @@ ghost use Rattle.std.specs.Io.KnownBytes.{IsAtEnd};
 ghost use Rattle.capture.specs.Feeds.{Fills};
 ghost use Rattle.capture.specs.declared.fault.Why.TheVariants.{NotRead};
 
-use crate::fault::{Slip, Why};
+use crate::fault::{FaultAt, Why};
 use script_loop::{Buffer, Source};
 
 /// The most bytes of a record, with its header, and of a pcapng block.
@@ -21,7 +21,7 @@ pub(crate) struct Feed<S: Source> {
 
 impl<S: Source> Feed<S> {
     /// Reads until the buffer holds `goal` bytes or the stream ends. Fails with `NotRead` if the source fails.
-    pub(crate) fn fill(&mut self, goal: usize) -> Result<(), Slip>
+    pub(crate) fn fill(&mut self, goal: usize) -> Result<(), FaultAt>
         requires begun { length self.old.buffer ≤ goal }
         requires buffer { goal ≤ LONGEST_RECORD }
         ensures read { Fills (S.remaining self.old.source) self.old.buffer (S.remaining self.new.source)
@@ -34,7 +34,7 @@ impl<S: Source> Feed<S> {
         'chunks: while self.buffer.len() < goal {
             let want = (goal - self.buffer.len()).min(CHUNK);
             let Ok(n) = self.source.read_some(&mut chunk[..want]) else {
-                return Err(Slip {
+                return Err(FaultAt {
                     why: Why::NotRead,
                     at: self.buffer.len(),
                 });

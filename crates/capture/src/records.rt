@@ -5,7 +5,7 @@ ghost use Rattle.capture.specs.Places.{FindsIn, Opens, Steps, kind_in, place_of,
 
 use crate::blocks::{Blocks, Found};
 use crate::classic::read_record;
-use crate::fault::{Fault, Slip, Why};
+use crate::fault::{Fault, FaultAt, Why};
 use crate::feed::{Feed, LONGEST_RECORD};
 use crate::pcap::{Header, LinkType, Reader};
 use crate::section::{EMPTY_BLOCK, read_packet};
@@ -79,28 +79,28 @@ pub(crate) struct Course<S: Source> {
 /// buffer then holds the first bytes of the first block. Fails with `NotRead`, with `Gzip`, or with the fault of the
 /// header.
 #[tactic(auto, using(crate::proofs::Opening::bad_header, crate::proofs::Opening::short_header))]
-fn open<S: Source>(feed: &mut Feed<S>) -> Result<Option<Header>, Slip>
+fn open<S: Source>(feed: &mut Feed<S>) -> Result<Option<Header>, FaultAt>
     requires { feed.old.buffer ≡ [] }
     ensures { Opens (S.remaining feed.old.source) (S.remaining feed.new.source) feed.new.buffer result }
 {
-    if let Err(slip) = feed.fill(EMPTY_BLOCK) {
-        return Err(slip);
+    if let Err(fault_at) = feed.fill(EMPTY_BLOCK) {
+        return Err(fault_at);
     }
     match kind_of(feed.buffer.as_slice()) {
-        Kind::Gzip => Err(Slip {
+        Kind::Gzip => Err(FaultAt {
             why: Why::Gzip,
             at: 0,
         }),
         Kind::Pcapng => Ok(None),
         Kind::Classic => {
             if feed.buffer.len() < EMPTY_BLOCK {
-                return Err(Slip {
+                return Err(FaultAt {
                     why: Why::Classic(crate::pcap::Why::HeaderCut),
                     at: 0,
                 });
             }
-            if let Err(slip) = feed.fill(FILE_HEADER) {
-                return Err(slip);
+            if let Err(fault_at) = feed.fill(FILE_HEADER) {
+                return Err(fault_at);
             }
             match Reader::open(feed.buffer.as_slice()) {
                 Ok(reader) => Ok(Some(reader.header())),
@@ -112,7 +112,7 @@ fn open<S: Source>(feed: &mut Feed<S>) -> Result<Option<Header>, Slip>
 
 /// Returns the next packet, and the place of its bytes in the buffer, which must be empty. Opens the file at the first
 /// call.
-fn find<S: Source>(course: &mut Course<S>) -> Result<Option<Found>, Slip>
+fn find<S: Source>(course: &mut Course<S>) -> Result<Option<Found>, FaultAt>
     requires empty { course.old.feed.buffer ≡ [] }
     ensures finds { FindsIn course.old.format (place_of course.old.format course.old.blocks course.old.number
         course.old.offset (S.remaining course.old.feed.source)) (place_of course.new.format course.new.blocks
@@ -132,7 +132,7 @@ fn find<S: Source>(course: &mut Course<S>) -> Result<Option<Found>, Slip>
                 course.format = Format::Pcapng;
                 read_packet(&mut course.feed, &mut course.blocks, &mut course.offset)
             }
-            Err(slip) => Err(slip),
+            Err(fault_at) => Err(fault_at),
         },
         Format::Classic(header) => read_record(&mut course.feed, header),
         Format::Pcapng => { read_packet(&mut course.feed, &mut course.blocks, &mut course.offset) }
@@ -216,10 +216,10 @@ impl<S: Source> Records<S> {
                     link: found.link,
                 }))
             }
-            Err(slip) => {
+            Err(fault_at) => {
                 let fault = Fault {
-                    why: slip.why,
-                    offset: self.course.offset.saturating_add(slip.at as u64),
+                    why: fault_at.why,
+                    offset: self.course.offset.saturating_add(fault_at.at as u64),
                 };
                 self.fault = Some(fault);
                 Err(fault)

@@ -4,7 +4,7 @@ ghost use Rattle.capture.specs.Packets.{IsInside, known};
 ghost use Rattle.capture.specs.Steps.{BlockLoads, BlockReads, BlocksRead, StepInside};
 
 use crate::blocks::{Blocks, Found};
-use crate::fault::{Slip, Why};
+use crate::fault::{FaultAt, Why};
 use crate::feed::{Feed, LONGEST_RECORD};
 use crate::pcap::Order;
 use crate::pcapng::block_head;
@@ -26,13 +26,13 @@ pub(crate) enum Step {
 
 /// Reads the next block, or as much of it as there is. The room may hold its first bytes already.
 #[tactic(auto, using(crate::proofs::Sections::block_loaded))]
-fn load_block<S: Source>(feed: &mut Feed<S>, current: Option<Order>) -> Result<(), Slip>
+fn load_block<S: Source>(feed: &mut Feed<S>, current: Option<Order>) -> Result<(), FaultAt>
     requires { length feed.old.buffer ≤ 12 }
     ensures { BlockLoads current (S.remaining feed.old.source) feed.old.buffer (S.remaining feed.new.source)
         feed.new.buffer result }
 {
-    if let Err(slip) = feed.fill(EMPTY_BLOCK) {
-        return Err(slip);
+    if let Err(fault_at) = feed.fill(EMPTY_BLOCK) {
+        return Err(fault_at);
     }
     if feed.buffer.len() < EMPTY_BLOCK {
         return Ok(());
@@ -42,27 +42,30 @@ fn load_block<S: Source>(feed: &mut Feed<S>, current: Option<Order>) -> Result<(
         Err(found) => return Err(found.into()),
     };
     if len > LONGEST_RECORD {
-        return Err(Slip {
+        return Err(FaultAt {
             why: Why::TooLong,
             at: 4,
         });
     }
     match feed.fill(len) {
         Ok(()) => Ok(()),
-        Err(slip) => Err(slip),
+        Err(fault_at) => Err(fault_at),
     }
 }
 
 /// Reads and parses the next block, whose first bytes may be in the buffer already.
 #[tactic(auto, using(crate::proofs::Placed::all_of_it, crate::proofs::Sections::block_ended))]
-pub(crate) fn read_block<S: Source>(feed: &mut Feed<S>, blocks: &mut Blocks) -> Result<Step, Slip>
+pub(crate) fn read_block<S: Source>(
+    feed: &mut Feed<S>,
+    blocks: &mut Blocks,
+) -> Result<Step, FaultAt>
     requires { length feed.old.buffer ≤ 12 }
     ensures reads { BlockReads (known blocks.old) (S.remaining feed.old.source) feed.old.buffer (known blocks.new)
         (S.remaining feed.new.source) feed.new.buffer result }
     ensures inside { StepInside (length feed.new.buffer) result }
 {
-    if let Err(slip) = load_block(feed, blocks.order) {
-        return Err(slip);
+    if let Err(fault_at) = load_block(feed, blocks.order) {
+        return Err(fault_at);
     }
     if feed.buffer.is_empty() {
         return Ok(Step::Ended);
@@ -70,7 +73,7 @@ pub(crate) fn read_block<S: Source>(feed: &mut Feed<S>, blocks: &mut Blocks) -> 
     match blocks.take(feed.buffer.as_slice()) {
         Ok(Some(found)) => Ok(Step::Packet(found)),
         Ok(None) => Ok(Step::Passed),
-        Err(slip) => Err(slip),
+        Err(fault_at) => Err(fault_at),
     }
 }
 
@@ -80,7 +83,7 @@ pub(crate) fn read_packet<S: Source>(
     feed: &mut Feed<S>,
     blocks: &mut Blocks,
     offset: &mut u64,
-) -> Result<Option<Found>, Slip>
+) -> Result<Option<Found>, FaultAt>
     requires { length feed.old.buffer ≤ 12 }
     ensures reads { BlocksRead (known blocks.old) offset.old (S.remaining feed.old.source) feed.old.buffer
         (known blocks.new) offset.new (S.remaining feed.new.source) feed.new.buffer result }
@@ -92,13 +95,13 @@ pub(crate) fn read_packet<S: Source>(
             Ok(Step::Ended) => return Ok(None),
             Ok(Step::Packet(found)) => return Ok(Some(found)),
             Ok(Step::Passed) => {}
-            Err(slip) => return Err(slip),
+            Err(fault_at) => return Err(fault_at),
         }
         at = at.saturating_add(feed.buffer.len() as u64);
         *offset = at;
         feed.buffer.clear();
     }
-    Err(Slip {
+    Err(FaultAt {
         why: Why::TooMany,
         at: 0,
     })

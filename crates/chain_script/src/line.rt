@@ -69,28 +69,28 @@ fn extent_of(rest: Option<&[u8]>) -> Option<Extent>
     Some(Extent::Part(off, len))
 }
 
-fn user_of(rest: Option<&[u8]>, room: &mut [u8]) -> Option<Call>
-    requires { length room.old ≡ IP_MAX_PACKET }
-    ensures { ReadsChainForm (codes "user") (left rest.entry) room.new result }
+fn user_of(rest: Option<&[u8]>, buffer: &mut [u8]) -> Option<Call>
+    requires { length buffer.old ≡ IP_MAX_PACKET }
+    ensures { ReadsChainForm (codes "user") (left rest.entry) buffer.new result }
 {
     let (slot, word) = two(rest)?;
     let slot = number(slot, LAST_SLOT)?;
-    let len = bytes(word, room)?;
+    let len = bytes(word, buffer)?;
     Some(Call::User(slot, len))
 }
 
-fn wire_of(rest: Option<&[u8]>, room: &mut [u8]) -> Option<Call>
-    requires { length room.old ≡ IP_MAX_PACKET }
-    ensures { ReadsChainForm (codes "wire") (left rest.entry) room.new result }
+fn wire_of(rest: Option<&[u8]>, buffer: &mut [u8]) -> Option<Call>
+    requires { length buffer.old ≡ IP_MAX_PACKET }
+    ensures { ReadsChainForm (codes "wire") (left rest.entry) buffer.new result }
 {
     let (slot, word) = two(rest)?;
     let slot = number(slot, LAST_SLOT)?;
-    let len = bytes(word, room)?;
+    let len = bytes(word, buffer)?;
     Some(Call::Wire(slot, len))
 }
 
 fn copy_of(rest: Option<&[u8]>) -> Option<Call>
-    ensures { (room : List ℕ) → ReadsChainForm (codes "copym") (left rest.entry) room result }
+    ensures { (buffer : List ℕ) → ReadsChainForm (codes "copym") (left rest.entry) buffer result }
 {
     let (to, rest) = first_word(rest?);
     let (slot, rest) = first_word(rest?);
@@ -100,18 +100,18 @@ fn copy_of(rest: Option<&[u8]>) -> Option<Call>
     Some(Call::Copy(to, slot, extent))
 }
 
-fn prepend_of(rest: Option<&[u8]>, room: &mut [u8]) -> Option<Call>
-    requires { length room.old ≡ IP_MAX_PACKET }
-    ensures { ReadsChainForm (codes "prepend") (left rest.entry) room.new result }
+fn prepend_of(rest: Option<&[u8]>, buffer: &mut [u8]) -> Option<Call>
+    requires { length buffer.old ≡ IP_MAX_PACKET }
+    ensures { ReadsChainForm (codes "prepend") (left rest.entry) buffer.new result }
 {
     let (slot, word) = two(rest)?;
     let slot = number(slot, LAST_SLOT)?;
-    let len = bytes(word, room)?;
+    let len = bytes(word, buffer)?;
     Some(Call::Prepend(slot, len))
 }
 
 fn pullup_of(rest: Option<&[u8]>) -> Option<Call>
-    ensures { (room : List ℕ) → ReadsChainForm (codes "pullup") (left rest.entry) room result }
+    ensures { (buffer : List ℕ) → ReadsChainForm (codes "pullup") (left rest.entry) buffer result }
 {
     let (slot, n) = two(rest)?;
     let slot = number(slot, LAST_SLOT)?;
@@ -120,7 +120,7 @@ fn pullup_of(rest: Option<&[u8]>) -> Option<Call>
 }
 
 fn adj_of(rest: Option<&[u8]>) -> Option<Call>
-    ensures { (room : List ℕ) → ReadsChainForm (codes "adj") (left rest.entry) room result }
+    ensures { (buffer : List ℕ) → ReadsChainForm (codes "adj") (left rest.entry) buffer result }
 {
     let (slot, n) = two(rest)?;
     let slot = number(slot, LAST_SLOT)?;
@@ -129,7 +129,7 @@ fn adj_of(rest: Option<&[u8]>) -> Option<Call>
 }
 
 fn split_of(rest: Option<&[u8]>) -> Option<Call>
-    ensures { (room : List ℕ) → ReadsChainForm (codes "split") (left rest.entry) room result }
+    ensures { (buffer : List ℕ) → ReadsChainForm (codes "split") (left rest.entry) buffer result }
 {
     let (to, slot, at) = three(rest)?;
     let to = number(to, LAST_SLOT)?;
@@ -139,7 +139,7 @@ fn split_of(rest: Option<&[u8]>) -> Option<Call>
 }
 
 fn cat_of(rest: Option<&[u8]>) -> Option<Call>
-    ensures { (room : List ℕ) → ReadsChainForm (codes "cat") (left rest.entry) room result }
+    ensures { (buffer : List ℕ) → ReadsChainForm (codes "cat") (left rest.entry) buffer result }
 {
     let (slot, other) = two(rest)?;
     let slot = number(slot, LAST_SLOT)?;
@@ -147,19 +147,19 @@ fn cat_of(rest: Option<&[u8]>) -> Option<Call>
     Some(Call::Join(slot, other))
 }
 
-fn copyback_of(rest: Option<&[u8]>, room: &mut [u8]) -> Option<Call>
-    requires { length room.old ≡ IP_MAX_PACKET }
-    ensures { ReadsChainForm (codes "copyback") (left rest.entry) room.new result }
+fn copyback_of(rest: Option<&[u8]>, buffer: &mut [u8]) -> Option<Call>
+    requires { length buffer.old ≡ IP_MAX_PACKET }
+    ensures { ReadsChainForm (codes "copyback") (left rest.entry) buffer.new result }
 {
     let (slot, off, word) = three(rest)?;
     let slot = number(slot, LAST_SLOT)?;
     let off = number(off, MOST)?;
-    let len = bytes(word, room)?;
+    let len = bytes(word, buffer)?;
     Some(Call::WriteOver(slot, off, len))
 }
 
 fn copydata_of(rest: Option<&[u8]>) -> Option<Call>
-    ensures { (room : List ℕ) → ReadsChainForm (codes "copydata") (left rest.entry) room result }
+    ensures { (buffer : List ℕ) → ReadsChainForm (codes "copydata") (left rest.entry) buffer result }
 {
     let (slot, off, len) = three(rest)?;
     let slot = number(slot, LAST_SLOT)?;
@@ -169,21 +169,21 @@ fn copydata_of(rest: Option<&[u8]>) -> Option<Call>
 }
 
 fn show_of(rest: Option<&[u8]>) -> Option<Call>
-    ensures { (room : List ℕ) → ReadsChainForm (codes "show") (left rest.entry) room result }
+    ensures { (buffer : List ℕ) → ReadsChainForm (codes "show") (left rest.entry) buffer result }
 {
     let slot = number(one(rest)?, LAST_SLOT)?;
     Some(Call::Show(slot))
 }
 
 fn free_of(rest: Option<&[u8]>) -> Option<Call>
-    ensures { (room : List ℕ) → ReadsChainForm (codes "free") (left rest.entry) room result }
+    ensures { (buffer : List ℕ) → ReadsChainForm (codes "free") (left rest.entry) buffer result }
 {
     let slot = number(one(rest)?, LAST_SLOT)?;
     Some(Call::Free(slot))
 }
 
 fn usage_of(rest: Option<&[u8]>) -> Option<Call>
-    ensures { (room : List ℕ) → ReadsChainForm (codes "mbstat") (left rest.entry) room result }
+    ensures { (buffer : List ℕ) → ReadsChainForm (codes "mbstat") (left rest.entry) buffer result }
 {
     if is_end(rest) {
         Some(Call::Usage)
@@ -193,10 +193,10 @@ fn usage_of(rest: Option<&[u8]>) -> Option<Call>
 }
 
 /// Returns the request of the line, if the line is well-formed.
-pub(crate) fn call_of(line: &[u8], room: &mut [u8]) -> Option<Call>
-    requires { length room.old ≡ IP_MAX_PACKET }
+pub(crate) fn call_of(line: &[u8], buffer: &mut [u8]) -> Option<Call>
+    requires { length buffer.old ≡ IP_MAX_PACKET }
     ensures call { MatchOption result ((request : Request) → IsRequest line.now request → ⊥)
-        (λ call. IsRequest line.now (request_of call room.new)) }
+        (λ call. IsRequest line.now (request_of call buffer.new)) }
     ensures fits { IfSome result (λ call. IsSlotCall call) }
 {
     if line.len() > LONGEST_REQUEST as usize {
@@ -204,16 +204,16 @@ pub(crate) fn call_of(line: &[u8], room: &mut [u8]) -> Option<Call>
     }
     let (name, rest) = first_word(line);
     if name == b"user".as_slice() {
-        return user_of(rest, room);
+        return user_of(rest, buffer);
     }
     if name == b"wire".as_slice() {
-        return wire_of(rest, room);
+        return wire_of(rest, buffer);
     }
     if name == b"copym".as_slice() {
         return copy_of(rest);
     }
     if name == b"prepend".as_slice() {
-        return prepend_of(rest, room);
+        return prepend_of(rest, buffer);
     }
     if name == b"pullup".as_slice() {
         return pullup_of(rest);
@@ -228,7 +228,7 @@ pub(crate) fn call_of(line: &[u8], room: &mut [u8]) -> Option<Call>
         return cat_of(rest);
     }
     if name == b"copyback".as_slice() {
-        return copyback_of(rest, room);
+        return copyback_of(rest, buffer);
     }
     if name == b"copydata".as_slice() {
         return copydata_of(rest);

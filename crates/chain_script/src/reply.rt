@@ -48,18 +48,18 @@ pub(crate) fn put_done(text: &mut Buffer<TEXT>, outcome: Result<(), Fault>)
 pub(crate) fn put_held(
     text: &mut Buffer<TEXT>,
     digits: &mut [u8],
-    room: &[u8],
+    buffer: &[u8],
     outcome: Result<(), Fault>,
 )
     requires text { length text.old ≤ HELD }
-    requires room { length room.now ≤ IP_MAX_PACKET }
+    requires room { length buffer.now ≤ IP_MAX_PACKET }
     requires digits { length digits.old ≡ 2 * IP_MAX_PACKET }
-    ensures { text.new ≡ text.old ++ chain_answer_text (Some (held_reply outcome room.now)) }
+    ensures { text.new ≡ text.old ++ chain_answer_text (Some (held_reply outcome buffer.now)) }
 {
     match outcome {
         Ok(()) => {
             text.append(b"data ");
-            put_hex(text, digits, room);
+            put_hex(text, digits, buffer);
         }
         Err(fault) => put_fault(text, fault),
     }

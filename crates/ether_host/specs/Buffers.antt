@@ -5,7 +5,7 @@ use Rattle.flat_ether.specs.declared.neighbour.Neighbour.{Neighbour}
 use Rattle.ether_host.specs.declared.buffer.PacketBuffer.{PacketBuffer}
 
 abbrev pub held_in : PacketBuffer → WaitingPacket
-held_in p = record { hop = p.hop; packet = take p.len p.room }
+held_in p = record { hop = p.hop; packet = take p.len p.buffer }
 
 -- its next hop is known or requested
 abbrev pub is_resolvable_in : List Neighbour → PacketBuffer → Bool

@@ -10,7 +10,7 @@ use Rattle.ether_host.specs.declared.share.Share.{Share}
 
 -- the bytes of the message
 abbrev pub message_in : Reply → List ℕ
-message_in r = take r.message.len r.message.room
+message_in r = take r.message.len r.message.buffer
 
 -- the packet with one part of it
 abbrev pub packet_in : Reply → Part → List ℕ

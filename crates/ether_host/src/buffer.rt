@@ -13,7 +13,7 @@ pub(crate) const ROOM: usize = ETHER_MTU as usize;
 pub(crate) struct PacketBuffer {
     pub(crate) hop: u32,
     pub(crate) len: usize,
-    pub(crate) room: [u8; ROOM],
+    pub(crate) buffer: [u8; ROOM],
     ghost within: { len ≤ ETHER_MTU },
 }
 
@@ -27,7 +27,7 @@ impl PacketBuffer {
         PacketBuffer {
             hop: 0,
             len: 0,
-            room: [0; ROOM],
+            buffer: [0; ROOM],
         }
     }
 
@@ -39,7 +39,7 @@ impl PacketBuffer {
     {
         self.hop = hop;
         self.len = packet.len();
-        put_bytes(&mut self.room, 0, packet);
+        put_bytes(&mut self.buffer, 0, packet);
     }
 
     /// Its bytes.
@@ -48,7 +48,7 @@ impl PacketBuffer {
         ensures long { length result.now ≡ self.now.len }
         ensures most { length result.now ≤ ETHER_MTU }
     {
-        &self.room[..self.len]
+        &self.buffer[..self.len]
     }
 }
 

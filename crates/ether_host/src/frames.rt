@@ -90,18 +90,18 @@ fn header(destination: Mac, source: Mac, kind: u16) -> [u8; BODY]
 /// Writes the header of a frame before its body of `len` bytes, which is in the buffer already. Returns how many bytes
 /// the frame has.
 pub(crate) fn put_frame(
-    room: &mut [u8],
+    buffer: &mut [u8],
     destination: Mac,
     source: Mac,
     kind: u16,
     len: usize,
 ) -> usize
-    requires { ETHER_HEADER + len ≤ length room.old }
-    ensures frame { take result room.new ≡ frame destination source kind (take len (drop ETHER_HEADER room.old)) }
+    requires { ETHER_HEADER + len ≤ length buffer.old }
+    ensures frame { take result buffer.new ≡ frame destination source kind (take len (drop ETHER_HEADER buffer.old)) }
     ensures long { result ≡ ETHER_HEADER + len }
 {
     let header = header(destination, source, kind);
-    put_bytes(room, 0, &header);
+    put_bytes(buffer, 0, &header);
     BODY + len
 }
 

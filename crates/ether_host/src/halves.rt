@@ -4,7 +4,7 @@ ghost use Rattle.params.specs.declared.TheConstants.{IP_MAX_PACKET};
 ghost use Rattle.flat_ether.specs.Claims.{address_state};
 ghost use Rattle.flat_ether.specs.Hosts.{TakesFrame, gives, last_error};
 ghost use Rattle.flat_ether.specs.declared.sizes.TheConstants.{ETHER_HEADER, ETHER_MTU};
-ghost use Rattle.ether_host.specs.Fronts.{room_front};
+ghost use Rattle.ether_host.specs.Fronts.{buffer_front};
 ghost use Rattle.ether_host.specs.View.{halves, held_for};
 
 use crate::frames::{body_of, kind_of};
@@ -32,23 +32,23 @@ impl LinkLayer {
 
     /// The next frame for the link: see `EtherHost::transmit`. If `stack` isn't the one that this link was booted with,
     /// the caller first checks that its MTU is at most 1,500.
-    pub fn transmit(&mut self, stack: &mut Stack, room: &mut [u8]) -> Option<usize>
+    pub fn transmit(&mut self, stack: &mut Stack, buffer: &mut [u8]) -> Option<usize>
         requires mtu { stack.old.config.mtu ≤ ETHER_MTU }
-        requires room { ETHER_HEADER + ETHER_MTU ≤ length room.old }
-        ensures step { (room_front result room.new, halves stack.new (link_seen self.new))
+        requires room { ETHER_HEADER + ETHER_MTU ≤ length buffer.old }
+        ensures step { (buffer_front result buffer.new, halves stack.new (link_seen self.new))
             ≡ gives (halves stack.old (link_seen self.old)) }
-        ensures fits { IfSome result (λ n. n ≤ length room.new) }
+        ensures fits { IfSome result (λ n. n ≤ length buffer.new) }
     {
         if !self.claim.is_claimed() {
-            return self.give_claim(room);
+            return self.give_claim(buffer);
         }
-        if let Some(len) = self.give_own(room) {
+        if let Some(len) = self.give_own(buffer) {
             return Some(len);
         }
-        if let Some(len) = drain(stack, self, room) {
+        if let Some(len) = drain(stack, self, buffer) {
             return Some(len);
         }
-        self.give_own(room)
+        self.give_own(buffer)
     }
 
     /// What other hosts reported for the datagrams that a connected socket sent to its peer: see

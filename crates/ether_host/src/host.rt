@@ -6,7 +6,7 @@ ghost use Rattle.flat_ether.specs.Claims.{address_state};
 ghost use Rattle.flat_ether.specs.Hosts.{TakesFrame, Ticks, gives, host_up, last_error};
 ghost use Rattle.flat_ether.specs.declared.sizes.TheConstants.{ETHER_HEADER, ETHER_MTU};
 ghost use Rattle.net_stack.specs.Boots.{free_pool};
-ghost use Rattle.ether_host.specs.Fronts.{room_front};
+ghost use Rattle.ether_host.specs.Fronts.{buffer_front};
 ghost use Rattle.ether_host.specs.View.{IsHostUnbooted, LendsStack, held_for, host_of, host_view};
 
 use crate::layer::LinkLayer;
@@ -81,17 +81,17 @@ impl EtherHost {
     }
 
     /// The next frame for the link, until `None`: call it after each other call. Until the host uses its address it
-    /// sends only probes. The frame's bytes are at the front of `room`, and the result is how many they are. `room` has
+    /// sends only probes. The frame's bytes are at the front of `buffer`, and the result is how many they are. `buffer` has
     /// at least 1,514 bytes; its bytes after the frame, or all of them if there is no frame, are unspecified. The
     /// network card adds padding to a short frame, and the check sequence.
-    pub fn transmit(&mut self, room: &mut [u8]) -> Option<usize>
+    pub fn transmit(&mut self, buffer: &mut [u8]) -> Option<usize>
         requires mtu { (host_view self.old).stack.config.mtu ≤ ETHER_MTU }
-        requires room { ETHER_HEADER + ETHER_MTU ≤ length room.old }
-        ensures step { (room_front result room.new, host_of (host_view self.new))
+        requires room { ETHER_HEADER + ETHER_MTU ≤ length buffer.old }
+        ensures step { (buffer_front result buffer.new, host_of (host_view self.new))
             ≡ gives (host_of (host_view self.old)) }
-        ensures fits { IfSome result (λ n. n ≤ length room.new) }
+        ensures fits { IfSome result (λ n. n ≤ length buffer.new) }
     {
-        self.layer.transmit(&mut self.stack, room)
+        self.layer.transmit(&mut self.stack, buffer)
     }
 
     /// The clock ticks, each half second.

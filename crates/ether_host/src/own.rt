@@ -5,7 +5,7 @@ ghost use Rattle.flat_ether.specs.declared.sizes.TheConstants.{ETHER_HEADER, ETH
 ghost use Rattle.flat_ether.specs.Claims.{claim_sent};
 ghost use Rattle.flat_ether.specs.Frames.{ether_broadcast};
 ghost use Rattle.flat_ether.specs.Links.{first_ready, gives_answer, gives_claim, gives_held, gives_own, gives_reply, gives_request, request};
-ghost use Rattle.ether_host.specs.Fronts.{room_front};
+ghost use Rattle.ether_host.specs.Fronts.{buffer_front};
 ghost use Rattle.ether_host.specs.Buffers.{held_in};
 
 use crate::buffer::{PacketBuffer, drop_at};
@@ -31,11 +31,11 @@ fn first_ready(neighbours: &[Neighbour], held: &[PacketBuffer]) -> Option<(usize
 }
 
 /// Writes the body of a frame after the place of its header.
-fn put_body(room: &mut [u8], body: &[u8])
-    requires { ETHER_HEADER + length body.now ≤ length room.old }
-    ensures { take (length body.now) (drop ETHER_HEADER room.new) ≡ body.now }
+fn put_body(buffer: &mut [u8], body: &[u8])
+    requires { ETHER_HEADER + length body.now ≤ length buffer.old }
+    ensures { take (length body.now) (drop ETHER_HEADER buffer.new) ≡ body.now }
 {
-    put_bytes(room, BODY, body);
+    put_bytes(buffer, BODY, body);
 }
 
 impl LinkLayer {
@@ -43,50 +43,50 @@ impl LinkLayer {
 
     /// Writes an ARP request for an address, with `sender` as the sender's address. Returns how many bytes the frame
     /// has.
-    fn request(&self, room: &mut [u8], to: Mac, sender: u32, target: u32) -> usize
-        requires { ETHER_HEADER + ETHER_MTU ≤ length room.old }
-        ensures frame { take result room.new ≡ request (link_seen self.now) to sender target }
-        ensures fits { result ≤ length room.new }
+    fn request(&self, buffer: &mut [u8], to: Mac, sender: u32, target: u32) -> usize
+        requires { ETHER_HEADER + ETHER_MTU ≤ length buffer.old }
+        ensures frame { take result buffer.new ≡ request (link_seen self.now) to sender target }
+        ensures fits { result ≤ length buffer.new }
     {
         let body = arp_bytes(ARP_REQUEST, self.link.mac, sender, NO_MAC, target);
-        put_body(room, &body);
-        put_frame(room, to, self.link.mac, ETHER_TYPE_ARP, ARP)
+        put_body(buffer, &body);
+        put_frame(buffer, to, self.link.mac, ETHER_TYPE_ARP, ARP)
     }
 
     /// Writes a request for the host's own address, with `sender` as the sender's address: 0 makes it a probe, the
     /// host's address an announcement.
-    fn ask_for_own(&mut self, room: &mut [u8], sender: u32) -> usize
-        requires { ETHER_HEADER + ETHER_MTU ≤ length room.old }
-        ensures frame { take result room.new
+    fn ask_for_own(&mut self, buffer: &mut [u8], sender: u32) -> usize
+        requires { ETHER_HEADER + ETHER_MTU ≤ length buffer.old }
+        ensures frame { take result buffer.new
             ≡ request (link_seen self.old) ether_broadcast sender (link_seen self.old).config.addr }
         ensures link { link_seen self.new
             ≡ record (link_seen self.old) { claim = claim_sent (link_seen self.old).claim } }
-        ensures fits { result ≤ length room.new }
+        ensures fits { result ≤ length buffer.new }
     {
         self.claim = self.claim.sent();
-        self.request(room, ETHER_BROADCAST, sender, self.config.addr)
+        self.request(buffer, ETHER_BROADCAST, sender, self.config.addr)
     }
 
     /// A probe or an announcement of the host's address, if one is due.
-    pub(crate) fn give_claim(&mut self, room: &mut [u8]) -> Option<usize>
-        requires { ETHER_HEADER + ETHER_MTU ≤ length room.old }
-        ensures frame { room_front result room.new ≡ (gives_claim (link_seen self.old)).0 }
+    pub(crate) fn give_claim(&mut self, buffer: &mut [u8]) -> Option<usize>
+        requires { ETHER_HEADER + ETHER_MTU ≤ length buffer.old }
+        ensures frame { buffer_front result buffer.new ≡ (gives_claim (link_seen self.old)).0 }
         ensures link { link_seen self.new ≡ (gives_claim (link_seen self.old)).1 }
-        ensures fits { IfSome result (λ n. n ≤ length room.new) }
+        ensures fits { IfSome result (λ n. n ≤ length buffer.new) }
     {
         match self.claim.due() {
-            ClaimFrame::Probe => Some(self.ask_for_own(room, 0)),
-            ClaimFrame::Announcement => Some(self.ask_for_own(room, self.config.addr)),
+            ClaimFrame::Probe => Some(self.ask_for_own(buffer, 0)),
+            ClaimFrame::Announcement => Some(self.ask_for_own(buffer, self.config.addr)),
             ClaimFrame::Nothing => None,
         }
     }
 
     /// The ARP reply that has been due longest.
-    fn give_reply(&mut self, room: &mut [u8]) -> Option<usize>
-        requires { ETHER_HEADER + ETHER_MTU ≤ length room.old }
-        ensures frame { room_front result room.new ≡ (gives_reply (link_seen self.old)).0 }
+    fn give_reply(&mut self, buffer: &mut [u8]) -> Option<usize>
+        requires { ETHER_HEADER + ETHER_MTU ≤ length buffer.old }
+        ensures frame { buffer_front result buffer.new ≡ (gives_reply (link_seen self.old)).0 }
         ensures link { link_seen self.new ≡ (gives_reply (link_seen self.old)).1 }
-        ensures fits { IfSome result (λ n. n ≤ length room.new) }
+        ensures fits { IfSome result (λ n. n ≤ length buffer.new) }
     {
         if self.replies.is_empty() {
             return None;
@@ -99,70 +99,70 @@ impl LinkLayer {
             asker.mac,
             asker.ip,
         );
-        put_body(room, &body);
-        Some(put_frame(room, asker.mac, self.link.mac, ETHER_TYPE_ARP, ARP))
+        put_body(buffer, &body);
+        Some(put_frame(buffer, asker.mac, self.link.mac, ETHER_TYPE_ARP, ARP))
     }
 
     /// A request for the first neighbour for which one is due.
-    fn give_request(&mut self, room: &mut [u8]) -> Option<usize>
-        requires { ETHER_HEADER + ETHER_MTU ≤ length room.old }
-        ensures frame { room_front result room.new ≡ (gives_request (link_seen self.old)).0 }
+    fn give_request(&mut self, buffer: &mut [u8]) -> Option<usize>
+        requires { ETHER_HEADER + ETHER_MTU ≤ length buffer.old }
+        ensures frame { buffer_front result buffer.new ≡ (gives_request (link_seen self.old)).0 }
         ensures link { link_seen self.new ≡ (gives_request (link_seen self.old)).1 }
-        ensures fits { IfSome result (λ n. n ≤ length room.new) }
+        ensures fits { IfSome result (λ n. n ≤ length buffer.new) }
     {
         let at = due(self.neighbours.as_slice())?;
         let neighbour = self.neighbours[at];
         let to = asked_at(neighbour.mac);
         self.neighbours[at] = asked_again(neighbour);
-        Some(self.request(room, to, self.config.addr, neighbour.ip))
+        Some(self.request(buffer, to, self.config.addr, neighbour.ip))
     }
 
     /// The first packet that waited and whose next hop is known now.
-    fn give_held(&mut self, room: &mut [u8]) -> Option<usize>
-        requires { ETHER_HEADER + ETHER_MTU ≤ length room.old }
-        ensures frame { room_front result room.new ≡ (gives_held (link_seen self.old)).0 }
+    fn give_held(&mut self, buffer: &mut [u8]) -> Option<usize>
+        requires { ETHER_HEADER + ETHER_MTU ≤ length buffer.old }
+        ensures frame { buffer_front result buffer.new ≡ (gives_held (link_seen self.old)).0 }
         ensures link { link_seen self.new ≡ (gives_held (link_seen self.old)).1 }
-        ensures fits { IfSome result (λ n. n ≤ length room.new) }
+        ensures fits { IfSome result (λ n. n ≤ length buffer.new) }
     {
         let (at, mac) = first_ready(self.neighbours.as_slice(), self.held.as_slice())?;
-        let buffer = &self.held[at];
-        let bytes = buffer.bytes();
+        let waiting = &self.held[at];
+        let bytes = waiting.bytes();
         let len = bytes.len();
-        put_body(room, bytes);
+        put_body(buffer, bytes);
         drop_at(&mut self.held, at);
-        Some(self.framed(room, mac, len))
+        Some(self.framed(buffer, mac, len))
     }
 
     /// The next packet of the reply that waits; it's sent like any other packet.
-    fn give_answer(&mut self, room: &mut [u8]) -> Option<usize>
-        requires { ETHER_HEADER + ETHER_MTU ≤ length room.old }
-        ensures frame { room_front result room.new ≡ (gives_answer (link_seen self.old)).0 }
+    fn give_answer(&mut self, buffer: &mut [u8]) -> Option<usize>
+        requires { ETHER_HEADER + ETHER_MTU ≤ length buffer.old }
+        ensures frame { buffer_front result buffer.new ≡ (gives_answer (link_seen self.old)).0 }
         ensures link { link_seen self.new ≡ (gives_answer (link_seen self.old)).1 }
-        ensures fits { IfSome result (λ n. n ≤ length room.new) }
+        ensures fits { IfSome result (λ n. n ≤ length buffer.new) }
     {
-        let len = self.answer.next(room)?;
-        self.send(room, len)
+        let len = self.answer.next(buffer)?;
+        self.send(buffer, len)
     }
 
     /// The next of these frames.
-    pub(crate) fn give_own(&mut self, room: &mut [u8]) -> Option<usize>
-        requires { ETHER_HEADER + ETHER_MTU ≤ length room.old }
-        ensures frame { room_front result room.new ≡ (gives_own (link_seen self.old)).0 }
+    pub(crate) fn give_own(&mut self, buffer: &mut [u8]) -> Option<usize>
+        requires { ETHER_HEADER + ETHER_MTU ≤ length buffer.old }
+        ensures frame { buffer_front result buffer.new ≡ (gives_own (link_seen self.old)).0 }
         ensures link { link_seen self.new ≡ (gives_own (link_seen self.old)).1 }
-        ensures fits { IfSome result (λ n. n ≤ length room.new) }
+        ensures fits { IfSome result (λ n. n ≤ length buffer.new) }
     {
-        if let Some(len) = self.give_claim(room) {
+        if let Some(len) = self.give_claim(buffer) {
             return Some(len);
         }
-        if let Some(len) = self.give_reply(room) {
+        if let Some(len) = self.give_reply(buffer) {
             return Some(len);
         }
-        if let Some(len) = self.give_request(room) {
+        if let Some(len) = self.give_request(buffer) {
             return Some(len);
         }
-        if let Some(len) = self.give_held(room) {
+        if let Some(len) = self.give_held(buffer) {
             return Some(len);
         }
-        self.give_answer(room)
+        self.give_answer(buffer)
     }
 }

@@ -10,7 +10,7 @@ ghost use Rattle.flat_ether.specs.Icmp.{counted_more};
 ghost use Rattle.flat_ether.specs.Hosts.{answers, drained, with_output_left};
 ghost use Rattle.flat_ether.specs.declared.sizes.TheConstants.{ETHER_HEADER, ETHER_MTU};
 ghost use Rattle.net_stack.specs.Stack.{state_of};
-ghost use Rattle.ether_host.specs.Fronts.{room_front};
+ghost use Rattle.ether_host.specs.Fronts.{buffer_front};
 ghost use Rattle.ether_host.specs.Inside.{link_seen};
 
 use crate::answer::answer_by;
@@ -54,28 +54,28 @@ pub(crate) fn take_packet(stack: &mut Stack, layer: &mut LinkLayer, frame: &[u8]
 }
 
 /// Takes the packet that has waited longest from the stack, and puts it after the place of a header.
-fn take(stack: &mut Stack, room: &mut [u8]) -> Option<usize>
+fn take(stack: &mut Stack, buffer: &mut [u8]) -> Option<usize>
     requires mtu { stack.old.config.mtu ≤ ETHER_MTU }
-    requires room { ETHER_HEADER + ETHER_MTU ≤ length room.old }
-    ensures step { Step (state_of stack.old) Transmit (given_reply result (drop ETHER_HEADER room.new))
+    requires room { ETHER_HEADER + ETHER_MTU ≤ length buffer.old }
+    ensures step { Step (state_of stack.old) Transmit (given_reply result (drop ETHER_HEADER buffer.new))
         (state_of stack.new) }
-    ensures fits { IfSome result (λ n. ETHER_HEADER + n ≤ length room.new) }
+    ensures fits { IfSome result (λ n. ETHER_HEADER + n ≤ length buffer.new) }
 {
-    stack.tx(&mut room[BODY..])
+    stack.tx(&mut buffer[BODY..])
 }
 
 /// Takes packets from the stack until one is sent.
-pub(crate) fn drain(stack: &mut Stack, layer: &mut LinkLayer, room: &mut [u8]) -> Option<usize>
+pub(crate) fn drain(stack: &mut Stack, layer: &mut LinkLayer, buffer: &mut [u8]) -> Option<usize>
     requires mtu { stack.old.config.mtu ≤ ETHER_MTU }
-    requires room { ETHER_HEADER + ETHER_MTU ≤ length room.old }
-    ensures frame { room_front result room.new ≡ (drained (state_of stack.old).output (link_seen layer.old)).frame }
+    requires room { ETHER_HEADER + ETHER_MTU ≤ length buffer.old }
+    ensures frame { buffer_front result buffer.new ≡ (drained (state_of stack.old).output (link_seen layer.old)).frame }
     ensures link { link_seen layer.new ≡ (drained (state_of stack.old).output (link_seen layer.old)).link }
     ensures stack { state_of stack.new
         ≡ with_output_left (state_of stack.old) (drained (state_of stack.old).output (link_seen layer.old)).output }
-    ensures fits { IfSome result (λ n. n ≤ length room.new) }
+    ensures fits { IfSome result (λ n. n ≤ length buffer.new) }
 {
-    while let Some(len) = take(stack, room) {
-        if let Some(len) = layer.send(room, len) {
+    while let Some(len) = take(stack, buffer) {
+        if let Some(len) = layer.send(buffer, len) {
             return Some(len);
         }
     }

@@ -33,12 +33,12 @@ pub(crate) struct Reply {
 }
 
 /// Writes bytes, and others after them, over the front of a buffer.
-pub(crate) fn put_both(room: &mut [u8], front: &[u8], rest: &[u8])
-    requires { length front.now + length rest.now ≤ length room.old }
-    ensures { take (length front.now + length rest.now) room.new ≡ front.now ++ rest.now }
+pub(crate) fn put_both(buffer: &mut [u8], front: &[u8], rest: &[u8])
+    requires { length front.now + length rest.now ≤ length buffer.old }
+    ensures { take (length front.now + length rest.now) buffer.new ≡ front.now ++ rest.now }
 {
-    put_bytes(room, 0, front);
-    put_bytes(room, front.len(), rest);
+    put_bytes(buffer, 0, front);
+    put_bytes(buffer, front.len(), rest);
 }
 
 impl Reply {
@@ -73,7 +73,7 @@ impl Reply {
         ensures { packets_left self.new ≡ reflected config.now came.now (message kind code rest.now) }
     {
         let front = message_head(kind, code, rest);
-        put_both(&mut self.message.room, &front, rest);
+        put_both(&mut self.message.buffer, &front, rest);
         self.message.len = 4 + rest.len();
         self.source = config.addr;
         self.destination = u32_at(came, 12);
@@ -130,12 +130,12 @@ impl Reply {
     }
 
     /// Writes the next packet after the place of a frame's header. Returns how many bytes it has.
-    pub(crate) fn next(&mut self, room: &mut [u8]) -> Option<usize>
-        requires { ETHER_HEADER + ETHER_MTU ≤ length room.old }
-        ensures packet { option_map (λ n. take n (drop ETHER_HEADER room.new)) result
+    pub(crate) fn next(&mut self, buffer: &mut [u8]) -> Option<usize>
+        requires { ETHER_HEADER + ETHER_MTU ≤ length buffer.old }
+        ensures packet { option_map (λ n. take n (drop ETHER_HEADER buffer.new)) result
             ≡ slice_get (packets_left self.old) 0 }
         ensures left { packets_left self.new ≡ drop 1 (packets_left self.old) }
-        ensures fits { IfSome result (λ n. ETHER_HEADER + n ≤ length room.new) }
+        ensures fits { IfSome result (λ n. ETHER_HEADER + n ≤ length buffer.new) }
     {
         if !self.waits {
             return None;
@@ -143,7 +143,7 @@ impl Reply {
         let share = self.share();
         let head = self.head(&share);
         let data = &self.message.bytes()[share.offset..share.offset + share.size];
-        put_both(&mut room[BODY..], &head, data);
+        put_both(&mut buffer[BODY..], &head, data);
         self.waits = share.more;
         self.gone += 1;
         Some(HEADER + share.size)

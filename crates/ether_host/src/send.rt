@@ -5,7 +5,7 @@ ghost use Rattle.flat_ether.specs.declared.sizes.TheConstants.{ETHER_HEADER, ETH
 ghost use Rattle.flat_ether.specs.Frames.{frame};
 ghost use Rattle.flat_ether.specs.Links.{asks, holds_packet, sends, route_of};
 ghost use Rattle.ether_host.specs.Buffers.{held_in};
-ghost use Rattle.ether_host.specs.Fronts.{room_front};
+ghost use Rattle.ether_host.specs.Fronts.{buffer_front};
 
 use crate::buffer::{PacketBuffer, ROOM, drop_at};
 use crate::bytes::u32_at;
@@ -78,16 +78,16 @@ impl LinkLayer {
 
     /// Sends the packet of `len` bytes that is in the buffer after the place of a header. Returns how many bytes the
     /// frame has, or `None` if the packet waits or has no route.
-    pub(crate) fn send(&mut self, room: &mut [u8], len: usize) -> Option<usize>
-        requires { ETHER_HEADER + len ≤ length room.old }
-        ensures frame { room_front result room.new
-            ≡ (sends (take len (drop ETHER_HEADER room.old)) (link_seen self.old)).0 }
-        ensures link { link_seen self.new ≡ (sends (take len (drop ETHER_HEADER room.old)) (link_seen self.old)).1 }
-        ensures fits { IfSome result (λ n. n ≤ length room.new) }
+    pub(crate) fn send(&mut self, buffer: &mut [u8], len: usize) -> Option<usize>
+        requires { ETHER_HEADER + len ≤ length buffer.old }
+        ensures frame { buffer_front result buffer.new
+            ≡ (sends (take len (drop ETHER_HEADER buffer.old)) (link_seen self.old)).0 }
+        ensures link { link_seen self.new ≡ (sends (take len (drop ETHER_HEADER buffer.old)) (link_seen self.old)).1 }
+        ensures fits { IfSome result (λ n. n ≤ length buffer.new) }
     {
-        let route = self.route_of(&room[BODY..BODY + len]);
+        let route = self.route_of(&buffer[BODY..BODY + len]);
         let hop = match route {
-            Route::All => return Some(self.framed(room, ETHER_BROADCAST, len)),
+            Route::All => return Some(self.framed(buffer, ETHER_BROADCAST, len)),
             Route::Hop(hop) => hop,
             Route::NoRoute => {
                 self.tallies.no_route = self.tallies.no_route.saturating_add(1);
@@ -95,9 +95,9 @@ impl LinkLayer {
             }
         };
         match mac_of(self.neighbours.as_slice(), hop) {
-            Some(mac) => Some(self.framed(room, mac, len)),
+            Some(mac) => Some(self.framed(buffer, mac, len)),
             None => {
-                self.hold(hop, &room[BODY..BODY + len]);
+                self.hold(hop, &buffer[BODY..BODY + len]);
                 self.ask(hop);
                 None
             }
@@ -105,12 +105,12 @@ impl LinkLayer {
     }
 
     /// Makes a frame of the packet of `len` bytes in the buffer.
-    pub(crate) fn framed(&self, room: &mut [u8], mac: Mac, len: usize) -> usize
-        requires { ETHER_HEADER + len ≤ length room.old }
-        ensures frame { take result room.new
-            ≡ frame mac self.now.link.mac ETHER_TYPE_IP (take len (drop ETHER_HEADER room.old)) }
+    pub(crate) fn framed(&self, buffer: &mut [u8], mac: Mac, len: usize) -> usize
+        requires { ETHER_HEADER + len ≤ length buffer.old }
+        ensures frame { take result buffer.new
+            ≡ frame mac self.now.link.mac ETHER_TYPE_IP (take len (drop ETHER_HEADER buffer.old)) }
         ensures long { result ≡ ETHER_HEADER + len }
     {
-        put_frame(room, mac, self.link.mac, ETHER_TYPE_IP, len)
+        put_frame(buffer, mac, self.link.mac, ETHER_TYPE_IP, len)
     }
 }

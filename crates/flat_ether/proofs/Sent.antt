@@ -16,7 +16,7 @@ use Rattle.flat_model.specs.declared.address.Addr.{Addr}
 use Rattle.flat_ether.specs.Frames.{arp_bytes, arp_of, body_of, ether_broadcast, frame, kind_of, no_mac}
 use Rattle.flat_ether.specs.Icmp.{echo_reply, port_unreachable}
 use Rattle.flat_ether.specs.Laws.{IsMade, IsRoute, IsFrameSent, arp_if, last_given, tells, given_in}
-use Rattle.flat_ether.specs.Links.{Gives, WaitingPacket, LinkState, neighbour_aged, answers_with, asked_at, asks, asks_at, by_route, claim_frame, counts_echo, counts_unreachable, drops_first, counts_bad_arp, counts_conflict, counts_too_long, counts_no_place, first_ready, gives_answer, gives_claim, gives_held, gives_own, gives_reply, gives_request, is_resolvable, has_ip, heard, receives_arp, holds_packet, ignores, is_answering, is_asked, is_conflict, is_request_due, is_rival, is_sound_arp, learns, limits, mac_known, mac_in, notes, notes_error, takes_at, takes_error, mac_of, or_then, queues_reply, neighbour_place, put, puts_answer, ready_or, refuses, replies_to, sends, sends_answer, sends_at, sends_held, neighbour_stays, takes_place, reports_unreachable, ticks, to_hop, unknown, route_of, route_to}
+use Rattle.flat_ether.specs.Links.{Gives, WaitingPacket, LinkState, neighbour_aged, answers_with, asked_at, asks, asks_at, by_route, claim_frame, counts_echo, counts_unreachable, drops_first, counts_bad_arp, counts_conflict, counts_too_long, counts_no_place, first_ready, gives_answer, gives_claim, gives_held, gives_own, gives_reply, gives_request, is_resolvable, has_ip, neighbour_from, receives_arp, holds_packet, ignores, is_answering, is_asked, is_conflict, is_request_due, is_rival, is_sound_arp, learns, limits, mac_known, mac_in, notes, notes_error, takes_at, takes_error, mac_of, or_then, queues_reply, neighbour_place, put, puts_answer, ready_or, refuses, replies_to, sends, sends_answer, sends_at, sends_held, neighbour_stays, takes_place, reports_unreachable, ticks, to_hop, unknown, route_of, route_to}
 use Rattle.flat_ether.specs.Routes.{is_near, is_neighbour}
 use Rattle.flat_ether.specs.declared.answer.Answer.{Answer}
 use Rattle.flat_ether.specs.declared.answer.Answer.TheVariants.{Echo, Unreachable, Silence}
@@ -627,7 +627,7 @@ module _ (c : Config) (l : Link) (F G : List (List ℕ)) (f : List ℕ) where
             ap (λ (x : Config). is_neighbour x s.link a.ip) good.config
             ∙ ap (λ (x : Link). is_neighbour c x a.ip) good.link
 
-        known : is_neighbour c l a.ip ≡ true → IsKnown c l (f ∷ F) G (heard a)
+        known : is_neighbour c l a.ip ≡ true → IsKnown c l (f ∷ F) G (neighbour_from a)
         known near = record {
           told =
               λ mac e. told_here a.ip true (ap (λ x. x && ((arp_of (body_of f)).ip == a.ip)) sound ∙ eq-eqb _ _ refl)
@@ -635,13 +635,13 @@ module _ (c : Config) (l : Link) (F G : List (List ℕ)) (f : List ℕ) where
           near = λ mac e. near;
         }
 
-        puts : is_neighbour c l a.ip ≡ true → Good (f ∷ F) (record s { neighbours = put (heard a) s.neighbours })
+        puts : is_neighbour c l a.ip ≡ true → Good (f ∷ F) (record s { neighbours = put (neighbour_from a) s.neighbours })
         puts near =
             later_good s _ good refl refl refl refl
-            (put_each (IsKnown c l (f ∷ F) G) (heard a) s.neighbours (known near) good.distinct
+            (put_each (IsKnown c l (f ∷ F) G) (neighbour_from a) s.neighbours (known near) good.distinct
             (each-weaker (λ n is other. known_later n (λ mac e. other_told n.ip other) is) s.neighbours
             good.neighbours))
-            (put_distinct (heard a) s.neighbours good.distinct)
+            (put_distinct (neighbour_from a) s.neighbours good.distinct)
 
         stays_new : neighbour_place a.ip s.neighbours ≡ None → Good (f ∷ F) s
         stays_new e =
@@ -655,7 +655,7 @@ module _ (c : Config) (l : Link) (F G : List (List ℕ)) (f : List ℕ) where
 
         go : (near place target : Bool) → is_neighbour s.config s.link a.ip ≡ near
             → is_some (neighbour_place a.ip s.neighbours) ≡ place
-            → Good (f ∷ F) (cond (near && (place || target)) (record s { neighbours = put (heard a) s.neighbours }) s)
+            → Good (f ∷ F) (cond (near && (place || target)) (record s { neighbours = put (neighbour_from a) s.neighbours }) s)
         go false place target n p =
             others_good s good (λ m near same. false≢true (sym n ∙ near_is ∙ ap (is_neighbour c l) (sym same) ∙ near))
         go true true target n p = puts (sym near_is ∙ n)

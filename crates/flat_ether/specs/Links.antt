@@ -126,8 +126,8 @@ put n ns = put_at (neighbour_place n.ip ns) n ns
 -- ---- an ARP packet arrives (`in_arpinput` of volume 2, chapter 21)
 
 -- one with a hardware address that was received now
-abbrev pub heard : Arp → Neighbour
-heard a = record { ip = a.ip; mac = Some a.mac; ticks = ARP_KEEP_TICKS; tries = 0 }
+abbrev pub neighbour_from : Arp → Neighbour
+neighbour_from a = record { ip = a.ip; mac = Some a.mac; ticks = ARP_KEEP_TICKS; tries = 0 }
 
 -- Its sender is learned if it's in the table already, or if the packet is for this host (RFC 826, "Packet Reception").
 abbrev pub is_learned : LinkState → Arp → Bool
@@ -135,7 +135,7 @@ is_learned s a =
     is_neighbour s.config s.link a.ip && (is_some (neighbour_place a.ip s.neighbours) || (a.target == s.config.addr))
 
 abbrev pub learns : Arp → LinkState → LinkState
-learns a s = if is_learned s a then record s { neighbours = put (heard a) s.neighbours } else s
+learns a s = if is_learned s a then record s { neighbours = put (neighbour_from a) s.neighbours } else s
 
 -- a request for the address that this host uses
 abbrev pub is_asked : LinkState → Arp → Bool

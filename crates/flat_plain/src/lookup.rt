@@ -139,7 +139,7 @@ pub fn best(q: LookupKey, pcbs: &[Pcb]) -> Option<Pcb>
 }
 
 /// Adds the control blocks that receive a broadcast.
-fn hear(found: &mut Vec<Pcb>, q: LookupKey, pcbs: &[Pcb]) -> Result<(), AllocError>
+fn add_matching(found: &mut Vec<Pcb>, q: LookupKey, pcbs: &[Pcb]) -> Result<(), AllocError>
     ensures { OnOk result (sockets_of found.new.items
         ≡ sockets_of found.old.items ++ Lookup.receivers q (sockets_of pcbs.now)) }
 {
@@ -152,7 +152,7 @@ fn hear(found: &mut Vec<Pcb>, q: LookupKey, pcbs: &[Pcb]) -> Result<(), AllocErr
                     return Ok(());
                 }
             }
-            hear(found, q, rest)?;
+            add_matching(found, q, rest)?;
             Ok(())
         }
     }
@@ -165,6 +165,6 @@ pub fn receivers(alloc: Global, q: LookupKey, pcbs: &[Pcb]) -> Result<Vec<Pcb>, 
         Lookup.receivers q (sockets_of pcbs.now)) }
 {
     let mut found = Vec::new(alloc);
-    hear(&mut found, q, pcbs)?;
+    add_matching(&mut found, q, pcbs)?;
     Ok(found)
 }

@@ -59,14 +59,14 @@ sender_after (Err errno) old = old
 
 -- `recvfrom`: the result is the number of bytes written to the front of the buffer, or the error; the rest of the
 -- buffer is unchanged
-pub record IsReceived (fd : ℕ) (answer : ℤ) (before room : List ℕ) (old from : CAddr) (s n : StackView) : Type 0 where
+pub record IsReceived (fd : ℕ) (answer : ℤ) (before buffer : List ℕ) (old from : CAddr) (s n : StackView) : Type 0 where
   pub reported : Result (Addr × ℕ) Errno
   pub is : answer ≡ received_code reported
   pub sender : from ≡ sender_after reported old
-  pub fits : FitsRoom reported room
-  pub same : OnErr reported (room ≡ before)
-  pub rest : IfOk reported (λ got. drop got.1 room ≡ drop got.1 before)
-  pub step : StepsTo (Receive fd (length before)) (received_reply reported room) s n
+  pub fits : FitsRoom reported buffer
+  pub same : OnErr reported (buffer ≡ before)
+  pub rest : IfOk reported (λ got. drop got.1 buffer ≡ drop got.1 before)
+  pub step : StepsTo (Receive fd (length before)) (received_reply reported buffer) s n
 
 -- `rx`: the result is 0, or -EMSGSIZE if the packet is too long, and then nothing changes
 pub record AnswersArrival (packet : List ℕ) (answer : ℤ) (s n : StackView) : Type 0 where
@@ -75,19 +75,19 @@ pub record AnswersArrival (packet : List ℕ) (answer : ℤ) (s n : StackView) :
 
 -- a packet for the link is at the front of the buffer, or the output queue is empty; the rest of the buffer is
 -- unchanged
-pub record GivesPacket (before room : List ℕ) (answer : ℤ) (s n : StackView) : Type 0 where
+pub record GivesPacket (before buffer : List ℕ) (answer : ℤ) (s n : StackView) : Type 0 where
   pub reported : Option ℕ
   pub is : answer ≡ given_code reported
-  pub fits : IfSome reported (λ len. len ≤ length room)
-  pub same : IfNone reported (room ≡ before)
-  pub rest : IfSome reported (λ len. drop len room ≡ drop len before)
-  pub step : StepsTo Transmit (given_reply reported room) s n
+  pub fits : IfSome reported (λ len. len ≤ length buffer)
+  pub same : IfNone reported (buffer ≡ before)
+  pub rest : IfSome reported (λ len. drop len buffer ≡ drop len before)
+  pub step : StepsTo Transmit (given_reply reported buffer) s n
 
 -- `tx`: the result is the packet's length, 0 if the output queue is empty, or -EMSGSIZE if the buffer is shorter than
 -- the MTU, and then nothing changes
-pub record AnswersTransmit (before room : List ℕ) (answer : ℤ) (s n : StackView) : Type 0 where
-  pub short : length before < s.config.mtu → (answer ≡ bad_length) × (n ≡ s) × (room ≡ before)
-  pub gives : s.config.mtu ≤ length before → GivesPacket before room answer s n
+pub record AnswersTransmit (before buffer : List ℕ) (answer : ℤ) (s n : StackView) : Type 0 where
+  pub short : length before < s.config.mtu → (answer ≡ bad_length) × (n ≡ s) × (buffer ≡ before)
+  pub gives : s.config.mtu ≤ length before → GivesPacket before buffer answer s n
 
 -- a query: the stack is unchanged, and the result describes it
 pub record AnswersQuestion (Says : StackView → Type 0) (s n : StackView) : Type 0 where

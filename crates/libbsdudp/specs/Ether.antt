@@ -14,7 +14,7 @@ use Rattle.flat_ether.specs.declared.neighbour.Neighbour.{Neighbour}
 use Rattle.flat_ether.specs.declared.sizes.TheConstants.{ETHER_HEADER, ETHER_MTU}
 use Rattle.flat_model.specs.declared.errno.Errno.{Errno}
 use Rattle.net_stack.specs.Stack.{StackView}
-use Rattle.ether_host.specs.Fronts.{room_front}
+use Rattle.ether_host.specs.Fronts.{buffer_front}
 use Rattle.ether_host.specs.Inside.{link_seen}
 use Rattle.ether_host.specs.View.{HostView, host_of}
 use Rattle.libbsdudp.specs.declared.link_handle.LinkHandle.{LinkHandle}
@@ -62,18 +62,18 @@ pub record Arrives (frame : List ℕ) (answer : ℤ) (h n : HostView) : Type 0 w
   pub takes : length frame ≤ ETHER_HEADER + IP_MAX_PACKET → (answer ≡ pos 0) × TakesFrame frame (host_of h) (host_of n)
 
 -- a frame is at the front of the buffer, or no frame is queued
-pub record GivesFrame (room : List ℕ) (answer : ℤ) (h n : HostView) : Type 0 where
+pub record GivesFrame (buffer : List ℕ) (answer : ℤ) (h n : HostView) : Type 0 where
   pub reported : Option ℕ
   pub is : answer ≡ given_code reported
-  pub fits : IfSome reported (λ len. len ≤ length room)
-  pub step : (room_front reported room, host_of n) ≡ gives (host_of h)
+  pub fits : IfSome reported (λ len. len ≤ length buffer)
+  pub step : (buffer_front reported buffer, host_of n) ≡ gives (host_of h)
 
 -- `transmit`: the result is the frame's length, 0 if no frame is queued, or -EMSGSIZE if the buffer is too short, or
 -- the stack's packets are too long for an Ethernet, and then nothing changes
-pub record IsFramed (before room : List ℕ) (answer : ℤ) (h n : HostView) : Type 0 where
-  pub short : length before < ETHER_HEADER + ETHER_MTU → (answer ≡ bad_length) × (n ≡ h) × (room ≡ before)
-  pub wide : ETHER_MTU < h.stack.config.mtu → (answer ≡ bad_length) × (n ≡ h) × (room ≡ before)
-  pub gives : ETHER_HEADER + ETHER_MTU ≤ length before → h.stack.config.mtu ≤ ETHER_MTU → GivesFrame room answer h n
+pub record IsFramed (before buffer : List ℕ) (answer : ℤ) (h n : HostView) : Type 0 where
+  pub short : length before < ETHER_HEADER + ETHER_MTU → (answer ≡ bad_length) × (n ≡ h) × (buffer ≡ before)
+  pub wide : ETHER_MTU < h.stack.config.mtu → (answer ≡ bad_length) × (n ≡ h) × (buffer ≡ before)
+  pub gives : ETHER_HEADER + ETHER_MTU ≤ length before → h.stack.config.mtu ≤ ETHER_MTU → GivesFrame buffer answer h n
 
 -- 0 if nothing was reported, ECONNREFUSED (61) or EHOSTUNREACH (65) as in 4.4BSD's `so_error`, or the error of the call
 abbrev pub fault_code : Result (Option NetFault) Errno → ℤ

@@ -61,10 +61,10 @@ pub(crate) fn send(stack: &mut Stack, fd: u32, to: Option<Addr>, bytes: &[u8]) -
 }
 
 /// Takes the oldest queued datagram.
-pub(crate) fn receive(stack: &mut Stack, fd: u32, room: &mut [u8], from: &mut CAddr) -> i32
-    ensures { IsReceived fd result room.old room.new from.old from.new stack.old stack.new }
+pub(crate) fn receive(stack: &mut Stack, fd: u32, buffer: &mut [u8], from: &mut CAddr) -> i32
+    ensures { IsReceived fd result buffer.old buffer.new from.old from.new stack.old stack.new }
 {
-    match stack.recvfrom(fd, room) {
+    match stack.recvfrom(fd, buffer) {
         Ok((sender, len)) => {
             *from = CAddr::of(sender);
             count(len)
@@ -93,24 +93,24 @@ pub(crate) fn rx(stack: &mut Stack, packet: &[u8]) -> i32
 }
 
 /// Takes the oldest packet of the output queue, into a buffer that is long enough.
-fn give(stack: &mut Stack, room: &mut [u8]) -> i32
-    requires { stack.old.config.mtu ≤ length room.old }
-    ensures { GivesPacket room.old room.new result stack.old stack.new }
+fn give(stack: &mut Stack, buffer: &mut [u8]) -> i32
+    requires { stack.old.config.mtu ≤ length buffer.old }
+    ensures { GivesPacket buffer.old buffer.new result stack.old stack.new }
 {
-    match stack.tx(room) {
+    match stack.tx(buffer) {
         Some(len) => count(len),
         None => 0,
     }
 }
 
 /// Takes the oldest packet of the output queue.
-pub(crate) fn tx(stack: &mut Stack, room: &mut [u8]) -> i32
-    ensures { AnswersTransmit room.old room.new result stack.old stack.new }
+pub(crate) fn tx(stack: &mut Stack, buffer: &mut [u8]) -> i32
+    ensures { AnswersTransmit buffer.old buffer.new result stack.old stack.new }
 {
-    if room.len() < stack.mtu() as usize {
+    if buffer.len() < stack.mtu() as usize {
         return BAD_LENGTH;
     }
-    give(stack, room)
+    give(stack, buffer)
 }
 
 /// Passes a clock tick to the stack.

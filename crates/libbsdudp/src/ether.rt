@@ -107,11 +107,11 @@ pub extern "C" fn bsdudp_core_ether_transmit(
     alloc: Global,
     handle: &mut Handle,
     link: &mut LinkHandle,
-    room: &mut [u8],
+    buffer: &mut [u8],
 ) -> i32
     ensures { AnswersHost (stack_in handle.old) (handle_link link.old) result (stack_in handle.new)
         (handle_link link.new)
-        (room.new ≡ room.old) (IsFramed room.old room.new result) }
+        (buffer.new ≡ buffer.old) (IsFramed buffer.old buffer.new result) }
 {
     let Some(mut stack) = handle.take(alloc) else {
         return NO_STACK;
@@ -120,7 +120,7 @@ pub extern "C" fn bsdudp_core_ether_transmit(
         handle.put(stack);
         return NO_LINK;
     };
-    let answer = ether_calls::transmit(&mut stack.stack, &mut layer.layer, room);
+    let answer = ether_calls::transmit(&mut stack.stack, &mut layer.layer, buffer);
     handle.put(stack);
     link.put(layer);
     answer

@@ -34,26 +34,26 @@ pub(crate) fn receive(stack: &mut Stack, layer: &mut LinkLayer, frame: &[u8]) ->
 }
 
 /// Takes the next frame, into a buffer that is long enough.
-fn give(stack: &mut Stack, layer: &mut LinkLayer, room: &mut [u8]) -> i32
+fn give(stack: &mut Stack, layer: &mut LinkLayer, buffer: &mut [u8]) -> i32
     requires mtu { stack.old.config.mtu ≤ ETHER_MTU }
-    requires room { ETHER_HEADER + ETHER_MTU ≤ length room.old }
-    ensures { GivesFrame room.new result (both stack.old (link_seen layer.old)) (both stack.new (link_seen layer.new)) }
+    requires room { ETHER_HEADER + ETHER_MTU ≤ length buffer.old }
+    ensures { GivesFrame buffer.new result (both stack.old (link_seen layer.old)) (both stack.new (link_seen layer.new)) }
 {
-    match layer.transmit(stack, room) {
+    match layer.transmit(stack, buffer) {
         Some(len) => count(len),
         None => 0,
     }
 }
 
 /// Takes the next frame.
-pub(crate) fn transmit(stack: &mut Stack, layer: &mut LinkLayer, room: &mut [u8]) -> i32
-    ensures { IsFramed room.old room.new result (both stack.old (link_seen layer.old))
+pub(crate) fn transmit(stack: &mut Stack, layer: &mut LinkLayer, buffer: &mut [u8]) -> i32
+    ensures { IsFramed buffer.old buffer.new result (both stack.old (link_seen layer.old))
         (both stack.new (link_seen layer.new)) }
 {
-    if room.len() < ROOM || u32::from(stack.mtu()) > ETHER_MTU {
+    if buffer.len() < ROOM || u32::from(stack.mtu()) > ETHER_MTU {
         return BAD_LENGTH;
     }
-    give(stack, layer, room)
+    give(stack, layer, buffer)
 }
 
 /// Returns what other hosts reported about a socket's datagrams: 0 for no report, ECONNREFUSED or EHOSTUNREACH, or a

@@ -53,11 +53,11 @@ pub extern "C" fn bsdudp_core_rx(alloc: Global, handle: &mut Handle, packet: &[u
 ///     int bsdudp_core_tx(struct bsdudp_core *, uint8_t *room, size_t len)
 #[tactic(auto, using(crate::proofs::Answered::answered))]
 #[unsafe(no_mangle)]
-pub extern "C" fn bsdudp_core_tx(alloc: Global, handle: &mut Handle, room: &mut [u8]) -> i32
-    ensures { Answers (stack_in handle.old) result (stack_in handle.new) (room.new ≡ room.old)
-        (AnswersTransmit room.old room.new result) }
+pub extern "C" fn bsdudp_core_tx(alloc: Global, handle: &mut Handle, buffer: &mut [u8]) -> i32
+    ensures { Answers (stack_in handle.old) result (stack_in handle.new) (buffer.new ≡ buffer.old)
+        (AnswersTransmit buffer.old buffer.new result) }
 {
-    with_held!(handle, alloc, NO_STACK, boxed => calls::tx(&mut boxed.stack, room))
+    with_held!(handle, alloc, NO_STACK, boxed => calls::tx(&mut boxed.stack, buffer))
 }
 
 /// Half a second has passed. Returns 0.
@@ -155,13 +155,13 @@ pub extern "C" fn bsdudp_core_recvfrom(
     alloc: Global,
     handle: &mut Handle,
     fd: u32,
-    room: &mut [u8],
+    buffer: &mut [u8],
     from: &mut CAddr,
 ) -> i32
     ensures { Answers (stack_in handle.old) result (stack_in handle.new)
-        ((room.new ≡ room.old) × (from.new ≡ from.old)) (IsReceived fd result room.old room.new from.old from.new) }
+        ((buffer.new ≡ buffer.old) × (from.new ≡ from.old)) (IsReceived fd result buffer.old buffer.new from.old from.new) }
 {
-    with_held!(handle, alloc, NO_STACK, boxed => calls::receive(&mut boxed.stack, fd, room, from))
+    with_held!(handle, alloc, NO_STACK, boxed => calls::receive(&mut boxed.stack, fd, buffer, from))
 }
 
 /// Closes a socket. Returns 0, or a negative error code.

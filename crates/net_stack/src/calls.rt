@@ -54,22 +54,22 @@ impl Stack {
         self.host.socks.setsockopt(fd, option, on)
     }
 
-    /// Removes the oldest datagram from a socket's queue, copies the bytes that fit into `room`, and returns its sender
+    /// Removes the oldest datagram from a socket's queue, copies the bytes that fit into `buffer`, and returns its sender
     /// and the number of bytes copied. The other bytes are lost, and all its buffers are freed (`soreceive` of volume
-    /// 2, chapter 16). The rest of `room` is unchanged. It never blocks.
+    /// 2, chapter 16). The rest of `buffer` is unchanged. It never blocks.
     ///
     /// # Errors
     ///
-    /// `BadDescriptor`; `WouldBlock` if no datagram is queued. Nothing changes then, nor does `room`.
-    pub fn recvfrom(&mut self, fd: u32, room: &mut [u8]) -> Result<(Addr, usize), Errno>
-        ensures step { Step (state_of self.old) (Receive fd (length room.old)) (received_reply result room.new)
+    /// `BadDescriptor`; `WouldBlock` if no datagram is queued. Nothing changes then, nor does `buffer`.
+    pub fn recvfrom(&mut self, fd: u32, buffer: &mut [u8]) -> Result<(Addr, usize), Errno>
+        ensures step { Step (state_of self.old) (Receive fd (length buffer.old)) (received_reply result buffer.new)
             (state_of self.new) }
-        ensures fits { FitsRoom result room.new }
-        ensures same { OnErr result (room.new ≡ room.old) }
-        ensures rest { IfOk result (λ r. drop r.1 room.new ≡ drop r.1 room.old) }
+        ensures fits { FitsRoom result buffer.new }
+        ensures same { OnErr result (buffer.new ≡ buffer.old) }
+        ensures rest { IfOk result (λ r. drop r.1 buffer.new ≡ drop r.1 buffer.old) }
     {
         let host = self.host.as_mut();
-        host.socks.recvfrom(&mut host.pool, fd, room)
+        host.socks.recvfrom(&mut host.pool, fd, buffer)
     }
 
     /// Closes a socket, and frees the datagrams in its queue. Packets that it sent stay in the output queue (volume 2
@@ -81,18 +81,18 @@ impl Stack {
         host.socks.close(&mut host.pool, fd)
     }
 
-    /// Removes the oldest packet from the output queue, for the link: copies its bytes to the front of `room`, frees
-    /// its buffers, and returns its length. `None` if the queue is empty. The rest of `room` is unchanged. `room` must
+    /// Removes the oldest packet from the output queue, for the link: copies its bytes to the front of `buffer`, frees
+    /// its buffers, and returns its length. `None` if the queue is empty. The rest of `buffer` is unchanged. `buffer` must
     /// be at least as long as the MTU, which `mtu` returns; 4,352 bytes are always enough.
-    pub fn tx(&mut self, room: &mut [u8]) -> Option<usize>
-        requires { self.old.config.mtu ≤ length room.old }
-        ensures step { Step (state_of self.old) Transmit (given_reply result room.new) (state_of self.new) }
-        ensures fits { IfSome result (λ n. n ≤ length room.new) }
-        ensures same { IfNone result (room.new ≡ room.old) }
-        ensures rest { IfSome result (λ n. drop n room.new ≡ drop n room.old) }
+    pub fn tx(&mut self, buffer: &mut [u8]) -> Option<usize>
+        requires { self.old.config.mtu ≤ length buffer.old }
+        ensures step { Step (state_of self.old) Transmit (given_reply result buffer.new) (state_of self.new) }
+        ensures fits { IfSome result (λ n. n ≤ length buffer.new) }
+        ensures same { IfNone result (buffer.new ≡ buffer.old) }
+        ensures rest { IfSome result (λ n. drop n buffer.new ≡ drop n buffer.old) }
     {
         let host = self.host.as_mut();
-        take_packet(&mut host.pool, &mut host.net.out, room)
+        take_packet(&mut host.pool, &mut host.net.out, buffer)
     }
 
     /// Advances the clock by a tick, in 4.4BSD half a second: each unfinished datagram loses one of its ticks. Those

@@ -94,19 +94,19 @@ impl Stack {
         host.net.out.next_len(&host.pool)
     }
 
-    /// Copies the packet at index `i` of the output queue to the front of `room`, and returns its length. `tx` returns
+    /// Copies the packet at index `i` of the output queue to the front of `buffer`, and returns its length. `tx` returns
     /// the same bytes after the packets before it. `None` exactly if no more than `i` packets are queued. The rest of
-    /// `room` is unchanged. `room` must be at least as long as the MTU, like that of `tx`. It takes one step for each
+    /// `buffer` is unchanged. `buffer` must be at least as long as the MTU, like that of `tx`. It takes one step for each
     /// packet before it.
-    pub fn output_packet(&self, i: u32, room: &mut [u8]) -> Option<usize>
-        requires { self.now.config.mtu ≤ length room.old }
-        ensures packet { option_map (λ n. take n room.new) result ≡ nth_packet i (state_of self.now).output }
-        ensures fits { IfSome result (λ n. n ≤ length room.new) }
-        ensures same { IfNone result (room.new ≡ room.old) }
-        ensures rest { IfSome result (λ n. drop n room.new ≡ drop n room.old) }
+    pub fn output_packet(&self, i: u32, buffer: &mut [u8]) -> Option<usize>
+        requires { self.now.config.mtu ≤ length buffer.old }
+        ensures packet { option_map (λ n. take n buffer.new) result ≡ nth_packet i (state_of self.now).output }
+        ensures fits { IfSome result (λ n. n ≤ length buffer.new) }
+        ensures same { IfNone result (buffer.new ≡ buffer.old) }
+        ensures rest { IfSome result (λ n. drop n buffer.new ≡ drop n buffer.old) }
     {
         let host = self.host.as_ref();
-        host.net.out.packet(&host.pool, i, room)
+        host.net.out.packet(&host.pool, i, buffer)
     }
 
     /// The number of unfinished datagrams, of which some fragments have arrived and others are missing.

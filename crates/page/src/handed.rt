@@ -31,12 +31,12 @@ pub(crate) fn kept_number_of(whole: bool, outcome: Result<(), RunFault>) -> u32
 }
 
 /// Copies the bytes to the front of the buffer, if they fit; otherwise nothing. Returns their number.
-pub(crate) fn hand_over(bytes: &[u8], room: &mut [u8]) -> usize
-    ensures handed { Handed bytes.now room.old room.new }
+pub(crate) fn hand_over(bytes: &[u8], buffer: &mut [u8]) -> usize
+    ensures handed { Handed bytes.now buffer.old buffer.new }
     ensures len { result ≡ length bytes.now }
 {
-    if bytes.len() <= room.len() {
-        room[..bytes.len()].copy_from_slice(bytes);
+    if bytes.len() <= buffer.len() {
+        buffer[..bytes.len()].copy_from_slice(bytes);
     }
     bytes.len()
 }

@@ -48,16 +48,16 @@ pub extern "C" fn bsdudp_page_run(
     alloc: Global,
     machine: &PageMachine,
     script: &[u8],
-    room: &mut [u8],
+    buffer: &mut [u8],
     len: &mut usize,
 ) -> u32
     ensures reported { PageRun (SaysBy Step) (boot (machine_config machine.now)) (BootsRun (machine_config machine.now))
-        script.now result len.new room.old room.new }
+        script.now result len.new buffer.old buffer.new }
 {
     let mut reader = script;
     let mut replies = Vec::new(alloc);
     let outcome = run(alloc, machine.config(), &mut reader, &mut replies);
-    *len = hand_over(replies.as_slice(), room);
+    *len = hand_over(replies.as_slice(), buffer);
     number_of(outcome)
 }
 
@@ -70,17 +70,17 @@ pub extern "C" fn bsdudp_page_chain(
     alloc: Global,
     pool: &PagePool,
     script: &[u8],
-    room: &mut [u8],
+    buffer: &mut [u8],
     len: &mut usize,
 ) -> u32
     ensures reported { PageRun chain_steps.Says (booted pool.now.mbufs pool.now.clusters)
         (chain_sizes.BootsChains (sizes_of pool.now))
-        script.now result len.new room.old room.new }
+        script.now result len.new buffer.old buffer.new }
 {
     let mut reader = script;
     let mut replies = Vec::new(alloc);
     let outcome = run_chains(alloc, pool.sizes(), &mut reader, &mut replies);
-    *len = hand_over(replies.as_slice(), room);
+    *len = hand_over(replies.as_slice(), buffer);
     number_of(outcome)
 }
 
@@ -99,10 +99,10 @@ pub extern "C" fn bsdudp_page_draw(
     pool: &PagePool,
     slot: u32,
     script: &[u8],
-    room: &mut [u8],
+    buffer: &mut [u8],
     len: &mut usize,
 ) -> u32
-    ensures drawn { Drawn pool.now slot script.now result len.new room.old room.new }
+    ensures drawn { Drawn pool.now slot script.now result len.new buffer.old buffer.new }
 {
     let mut reader = script;
     let mut replies = Vec::new(alloc);
@@ -114,7 +114,7 @@ pub extern "C" fn bsdudp_page_draw(
         slot as usize,
     ) {
         Ok(Some(text)) => {
-            *len = hand_over(text.as_slice(), room);
+            *len = hand_over(text.as_slice(), buffer);
             number_of(Ok(()))
         }
         Ok(None) => {

@@ -45,35 +45,35 @@ pub extern "C" fn bsdudp_page_play(
     alloc: Global,
     machine: &PageMachine,
     script: &[u8],
-    room: &mut [u8],
+    buffer: &mut [u8],
     len: &mut usize,
 ) -> u32
     ensures reported { (traced : Traced) × PageRun (one_machine.Reports Step no_folder)
         (one_machine.started (boot (machine_config machine.now)) traced Json (take NAME (codes "script")))
         (BootsRun (machine_config machine.now))
-        script.now result len.new room.old room.new }
+        script.now result len.new buffer.old buffer.new }
 {
     let mut reader = script;
     let mut objects = Vec::new(alloc);
     let played = play(alloc, machine.config(), style(), &mut reader, &mut objects);
-    *len = hand_over(objects.as_slice(), room);
+    *len = hand_over(objects.as_slice(), buffer);
     number_of(played.outcome)
 }
 
 /// Plays a script of several hosts in the same way, with 1 as the seed of its wire until the script sets another one:
-/// `uint32_t bsdudp_page_hosts(const uint8_t *script, size_t, uint8_t *room, size_t, size_t *len)`.
+/// `uint32_t bsdudp_page_hosts(const uint8_t *script, size_t, uint8_t *buffer, size_t, size_t *len)`.
 ///
 /// The faults: 3 `Memory`, 4 `TooManyLines`, 6 `Write`, each as `play_wire::play_hosts` defines it.
 #[unsafe(no_mangle)]
 pub extern "C" fn bsdudp_page_hosts(
     alloc: Global,
     script: &[u8],
-    room: &mut [u8],
+    buffer: &mut [u8],
     len: &mut usize,
 ) -> u32
     ensures reported { PageRun many_machines.Reports
         (many_machines.wire_started 1 Json (take NAME (codes "script"))) IsServed
-        script.now result len.new room.old room.new }
+        script.now result len.new buffer.old buffer.new }
 {
     let mut reader = script;
     let mut objects = Vec::new(alloc);
@@ -82,7 +82,7 @@ pub extern "C" fn bsdudp_page_hosts(
         capture: Nowhere,
     };
     let done = play_hosts(alloc, style(), start, &mut reader, &mut objects);
-    *len = hand_over(objects.as_slice(), room);
+    *len = hand_over(objects.as_slice(), buffer);
     number_of(done.played.outcome)
 }
 
@@ -98,11 +98,11 @@ pub extern "C" fn bsdudp_page_capture(
     alloc: Global,
     machine: &PageMachine,
     script: &[u8],
-    room: &mut [u8],
+    buffer: &mut [u8],
     len: &mut usize,
 ) -> u32
-    ensures kept { Kept (machine_config machine.now) script.now result len.new room.old room.new
-        ⊎ IsUnkept result len.new room.old room.new }
+    ensures kept { Kept (machine_config machine.now) script.now result len.new buffer.old buffer.new
+        ⊎ IsUnkept result len.new buffer.old buffer.new }
 {
     let Ok(record) = Buffer::new(alloc) else {
         *len = 0;
@@ -124,6 +124,6 @@ pub extern "C" fn bsdudp_page_capture(
     );
     let whole = trace.is_whole();
     let capture = trace.end();
-    *len = hand_over(capture.as_slice(), room);
+    *len = hand_over(capture.as_slice(), buffer);
     kept_number_of(whole, played.outcome)
 }

@@ -138,8 +138,8 @@ fn read_file(alloc: Global, file: &[u8]) -> Result<Text, AllocError>
 {
     let mut head = Buffer::new(alloc)?;
     let mut bytes = Vec::new(alloc);
-    let room: Buffer<LONGEST_RECORD> = Buffer::new(alloc)?;
-    let mut records = Records::new(file, room);
+    let buffer: Buffer<LONGEST_RECORD> = Buffer::new(alloc)?;
+    let mut records = Records::new(file, buffer);
     let read = put_records(&mut records, &mut head, &mut bytes);
     let (_file, _room) = records.end();
     let (count, fault) = read?;
@@ -168,16 +168,16 @@ fn read_file(alloc: Global, file: &[u8]) -> Result<Text, AllocError>
 pub extern "C" fn bsdudp_page_records(
     alloc: Global,
     file: &[u8],
-    room: &mut [u8],
+    buffer: &mut [u8],
     len: &mut usize,
     capture: &mut PageCapture,
 ) -> u32
-    ensures recorded { Recorded file.now result len.new room.old room.new capture.new
-        ⊎ IsCaptureUnread result len.new room.old room.new capture.old capture.new }
+    ensures recorded { Recorded file.now result len.new buffer.old buffer.new capture.new
+        ⊎ IsCaptureUnread result len.new buffer.old buffer.new capture.old capture.new }
 {
     match read_file(alloc, file) {
         Ok(text) => {
-            *len = hand_over(text.bytes.as_slice(), room);
+            *len = hand_over(text.bytes.as_slice(), buffer);
             *capture = text.capture;
             number_of(Ok(()))
         }

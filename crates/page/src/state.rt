@@ -96,16 +96,16 @@ pub extern "C" fn bsdudp_page_state(
     alloc: Global,
     machine: &PageMachine,
     script: &[u8],
-    room: &mut [u8],
+    buffer: &mut [u8],
     len: &mut usize,
 ) -> u32
-    ensures pictured { Pictured (machine_config machine.now) script.now result len.new room.old room.new }
+    ensures pictured { Pictured (machine_config machine.now) script.now result len.new buffer.old buffer.new }
 {
     let mut reader = script;
     let mut replies = Vec::new(alloc);
     match picture(alloc, machine.config(), &mut reader, &mut replies) {
         Ok(Some(text)) => {
-            *len = hand_over(text.as_slice(), room);
+            *len = hand_over(text.as_slice(), buffer);
             number_of(Ok(()))
         }
         Ok(None) => {

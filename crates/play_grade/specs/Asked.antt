@@ -3,7 +3,7 @@ use Rattle.std.specs.Prelude.{ℕ, ◌==◌, ◌&&◌, ◌++◌, Bool, List, [],
 use Rattle.std.specs.Borrow.{Bor}
 use Rattle.std.specs.List.{slice_split}
 use Rattle.play_line.specs.Time.{TimedView, timed}
-use Rattle.play_line.specs.declared.fault.Slip.{Slip}
+use Rattle.play_line.specs.declared.fault.SyntaxError.{SyntaxError}
 use Rattle.play_script.specs.Lines.{Reading, Nothing, TooLong, Faulty, Asks, reading_part}
 
 -- the lines of a text, without the byte 10 that ends each but the last
@@ -28,12 +28,12 @@ ticks_front ticks = if ticks == 0 then [] else codes "+" ++ decimal ticks ++ cod
 abbrev pub with_ticks : ℕ → Reading → Reading
 with_ticks ticks Nothing = Nothing
 with_ticks ticks TooLong = TooLong
-with_ticks ticks (Faulty slip) = Faulty slip
+with_ticks ticks (Faulty syntax_error) = Faulty syntax_error
 with_ticks ticks (Asks shown plain wanted) = Asks shown (ticks_front ticks ++ plain) wanted
 
 -- a line with its time
-abbrev pub timed_on : List ℕ → Result TimedView Slip → Reading
-timed_on line (Err slip) = Faulty slip
+abbrev pub timed_on : List ℕ → Result TimedView SyntaxError → Reading
+timed_on line (Err syntax_error) = Faulty syntax_error
 timed_on line (Ok t) = with_ticks t.ticks (reading_part line t.part)
 
 -- a question is read like a line: the text after its `=>` is the answer

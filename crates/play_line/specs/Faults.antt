@@ -1,7 +1,7 @@
 -- The messages for errors in a line (this project's own).
 use Rattle.std.specs.Prelude.{ℕ, List, codes}
 use Rattle.play_line.specs.declared.fault.Fault.{Fault}
-use Rattle.play_line.specs.declared.fault.Fault.TheVariants.{NotHex, OddDigits, NoBytes, NotJoined, EmptyText, UnendedText, UnknownEscape, NoCount, ZeroCount, TooManyBytes, TooLong, NoEnd, NoAddress, NoPort, NoArrow, NoId, NoTtl, NoOffset, NoMore, NoSize, NotUpTo15, NotUpTo255, NotUpTo65535, UnknownWord, ToldTwice, PastEnd, TooLarge, NoTime}
+use Rattle.play_line.specs.declared.fault.Fault.TheVariants.{NotHex, OddDigits, NoBytes, NotJoined, EmptyText, UnendedText, UnknownEscape, NoCount, ZeroCount, TooManyBytes, TooLong, NoEnd, NoAddress, NoPort, NoArrow, NoId, NoTtl, NoOffset, NoMore, NoSize, NotUpTo15, NotUpTo255, NotUpTo65535, UnknownWord, GivenTwice, PastEnd, TooLarge, NoTime}
 
 abbrev pub misread_words : Fault → List ℕ
 misread_words NotHex = codes "not a hex digit (a text stands in quotes: \"hi\")"
@@ -28,7 +28,7 @@ misread_words NotUpTo15 = codes "not a number of 0 to 15"
 misread_words NotUpTo255 = codes "not a number of 0 to 255"
 misread_words NotUpTo65535 = codes "not a number of 0 to 65535"
 misread_words UnknownWord = codes "unknown word"
-misread_words ToldTwice = codes "this was told already"
+misread_words GivenTwice = codes "this was given already"
 misread_words PastEnd = codes "the datagram has no such bytes"
 misread_words TooLarge = codes "more bytes than a packet has room for"
 misread_words NoTime = codes "a time is +0.5s or +2s, and a line follows it"

@@ -5,7 +5,7 @@ use Rattle.std.specs.Borrow.{Bor}
 use Rattle.play_line.specs.Bytes.{stop, next, is_next, front, skip, part_at}
 use Rattle.play_line.specs.declared.bytes.Class.TheVariants.{Word}
 use Rattle.play_line.specs.declared.fault.Fault.TheVariants.{NoBytes, TooManyBytes, TooLong}
-use Rattle.play_line.specs.declared.fault.Slip.{Slip}
+use Rattle.play_line.specs.declared.fault.SyntaxError.{SyntaxError}
 use Rattle.play_line.specs.declared.fault.Misread.{Misread}
 use Rattle.play_line.specs.declared.line.Reader.{Reader}
 use Rattle.play_line.specs.declared.line.TheConstants.{LONGEST, WHOLE}
@@ -133,12 +133,12 @@ line_read goal line = line_after (length line) goal (fresh_front line)
 abbrev pub column_at : List ℕ → ℕ → ℕ
 column_at line left = 1 + (length line - left)
 
-abbrev pub plain_of : List ℕ → Result LineFront Misread → Result (List ℕ) Slip
+abbrev pub plain_of : List ℕ → Result LineFront Misread → Result (List ℕ) SyntaxError
 plain_of line (Ok f) = Ok f.plain
 plain_of line (Err e) = Err (record { fault = e.fault; column = column_at line e.left })
 
 -- the plain line of a line, or the error in it
-abbrev pub expanded : List ℕ → Result (List ℕ) Slip
+abbrev pub expanded : List ℕ → Result (List ℕ) SyntaxError
 expanded line = plain_of line (line_read WHOLE line)
 
 abbrev pub left_of : Result LineFront Misread → ℕ
@@ -163,11 +163,11 @@ front_or (Ok left) r = Ok (reader_front r left.now)
 front_or (Err e) r = Err e
 
 -- the bytes of a slice
-abbrev pub now_or : Result (Bor (List ℕ)) Slip → Result (List ℕ) Slip
+abbrev pub now_or : Result (Bor (List ℕ)) SyntaxError → Result (List ℕ) SyntaxError
 now_or (Ok text) = Ok text.now
-now_or (Err slip) = Err slip
+now_or (Err syntax_error) = Err syntax_error
 
 -- a plain line has 262,144 bytes at most
-abbrev pub IsShort : Result (Bor (List ℕ)) Slip → Type 0
+abbrev pub IsShort : Result (Bor (List ℕ)) SyntaxError → Type 0
 IsShort (Ok text) = length text.now ≤ LONGEST
-IsShort (Err slip) = Unit {0}
+IsShort (Err syntax_error) = Unit {0}

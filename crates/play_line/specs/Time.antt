@@ -4,7 +4,7 @@ use Rattle.play_line.specs.Bytes.{digits_value, front, is_blank, is_next, place_
 use Rattle.play_line.specs.Line.{column_at, is_end}
 use Rattle.play_line.specs.declared.bytes.Class.TheVariants.{Decimal}
 use Rattle.play_line.specs.declared.fault.Fault.TheVariants.{NoTime}
-use Rattle.play_line.specs.declared.fault.Slip.{Slip}
+use Rattle.play_line.specs.declared.fault.SyntaxError.{SyntaxError}
 use Rattle.play_line.specs.declared.time.Timed.{Timed}
 use Rattle.play_line.specs.declared.time.TheConstants.{MOST_TICKS, MOST_WORD}
 
@@ -35,17 +35,17 @@ abbrev pub word_end : List ℕ → ℕ
 word_end left = place_or_end (position (λ byte. is_blank byte) left) left
 
 -- the column is that of `+`
-abbrev pub no_time : List ℕ → List ℕ → Result TimedView Slip
+abbrev pub no_time : List ℕ → List ℕ → Result TimedView SyntaxError
 no_time line at = Err (record { fault = NoTime; column = column_at line (length at) })
 
 -- a time, and a line after it that isn't empty
-abbrev pub with_time : List ℕ → List ℕ → Option ℕ → List ℕ → Result TimedView Slip
+abbrev pub with_time : List ℕ → List ℕ → Option ℕ → List ℕ → Result TimedView SyntaxError
 with_time line at (Some n) part =
     if is_end part then no_time line at else Ok (record { ticks = n; part = part })
 with_time line at None part = no_time line at
 
 -- the text after the leading blanks of a line
-abbrev pub timed_at : List ℕ → List ℕ → Result TimedView Slip
+abbrev pub timed_at : List ℕ → List ℕ → Result TimedView SyntaxError
 timed_at line at =
     if is_next 43 at
     then with_time line at (ticks_in (take (word_end (drop 1 at)) (drop 1 at)))
@@ -53,11 +53,11 @@ timed_at line at =
     else Ok (record { ticks = 0; part = line })
 
 -- the time at the beginning of a line after `+`, and the line; or the error in it
-abbrev pub timed : List ℕ → Result TimedView Slip
+abbrev pub timed : List ℕ → Result TimedView SyntaxError
 timed line = timed_at line (skip line)
 
 -- ---- the values in the code
 
-abbrev pub timed_or : Result Timed Slip → Result TimedView Slip
+abbrev pub timed_or : Result Timed SyntaxError → Result TimedView SyntaxError
 timed_or (Ok t) = Ok (record { ticks = t.ticks; part = t.part.now })
-timed_or (Err slip) = Err slip
+timed_or (Err syntax_error) = Err syntax_error

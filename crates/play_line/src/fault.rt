@@ -54,7 +54,7 @@ pub enum Fault {
     /// A word in the description of a packet has no meaning.
     UnknownWord,
     /// A word repeats what another one specifies.
-    ToldTwice,
+    GivenTwice,
     /// The range of bytes for a packet isn't in the datagram.
     PastEnd,
     /// The datagram or the packet would exceed its maximum length.
@@ -65,7 +65,7 @@ pub enum Fault {
 
 /// A syntax error, and its position.
 #[derive(Clone, Copy)]
-pub struct Slip {
+pub struct SyntaxError {
     /// The error.
     pub fault: Fault,
     /// The column of the first byte that is wrong, or the column after the line's last byte if a byte is missing there.
@@ -123,7 +123,7 @@ impl Fault {
             Fault::NotUpTo255 => "not a number of 0 to 255",
             Fault::NotUpTo65535 => "not a number of 0 to 65535",
             Fault::UnknownWord => "unknown word",
-            Fault::ToldTwice => "this was told already",
+            Fault::GivenTwice => "this was given already",
             Fault::PastEnd => "the datagram has no such bytes",
             Fault::TooLarge => "more bytes than a packet has room for",
             Fault::NoTime => "a time is +0.5s or +2s, and a line follows it",

@@ -9,7 +9,7 @@ mod part;
 mod shown;
 mod time;
 
-pub use fault::{Fault, Slip};
+pub use fault::{Fault, SyntaxError};
 pub use line::{LONGEST, Reader};
 pub use shown::put_shown;
 pub use time::{Timed, read_time};

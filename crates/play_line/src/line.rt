@@ -3,7 +3,7 @@ ghost use Rattle.std.specs.Prelude.{◌≡◌, ◌≤◌, ◌<◌, ◌+◌, ◌*
 ghost use Rattle.play_line.specs.Line as line_specs;
 
 use crate::bytes::{Class, front, is_next, skip};
-use crate::fault::{Fault, Misread, Slip, stop};
+use crate::fault::{Fault, Misread, SyntaxError, stop};
 use crate::part::{MOST_DIGITS, Part};
 use script_loop::Buffer;
 use std::alloc::{AllocError, Global};
@@ -282,7 +282,7 @@ impl Reader {
     /// # Errors
     ///
     /// The syntax error of the line, with its column.
-    pub fn plain_line(&mut self, line: &[u8]) -> Result<&[u8], Slip>
+    pub fn plain_line(&mut self, line: &[u8]) -> Result<&[u8], SyntaxError>
         ensures is { line_specs.now_or result ≡ line_specs.expanded line.now }
         ensures short { line_specs.IsShort result }
     {
@@ -291,7 +291,7 @@ impl Reader {
                 let len = self.plain.len();
                 Ok(&self.plain.as_slice()[..len])
             }
-            Err(e) => Err(Slip {
+            Err(e) => Err(SyntaxError {
                 fault: e.fault,
                 column: column_at(line, e.left),
             }),

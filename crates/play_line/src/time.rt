@@ -4,7 +4,7 @@ ghost use Rattle.play_line.specs.Bytes as bytes;
 ghost use Rattle.play_line.specs.Time as times;
 
 use crate::bytes::{Class, front, is_in, is_next, skip, value_of};
-use crate::fault::{Fault, Slip};
+use crate::fault::{Fault, SyntaxError};
 use crate::line::{column_at, is_end};
 
 /// The most ticks that can pass before a line.
@@ -96,7 +96,7 @@ fn word_end(left: &[u8]) -> usize
 ///
 /// `Fault::NoTime` if a line begins with `+` in any other way, or if no line follows its time. The column is that of
 /// the `+`.
-pub fn read_time(line: &[u8]) -> Result<Timed<'_>, Slip>
+pub fn read_time(line: &[u8]) -> Result<Timed<'_>, SyntaxError>
     ensures is { times.timed_or result ≡ times.timed line.now }
     ensures most { IfOk result (λ t. t.ticks ≤ 65535) }
     ensures shorter { IfOk result (λ t. length t.part.now ≤ length line.now) }
@@ -113,7 +113,7 @@ pub fn read_time(line: &[u8]) -> Result<Timed<'_>, Slip>
     let part = skip(rest);
     match ticks_in(word) {
         Some(ticks) if !is_end(part) => Ok(Timed { ticks, part }),
-        _ => Err(Slip {
+        _ => Err(SyntaxError {
             fault: Fault::NoTime,
             column: column_at(line, at.len()),
         }),

@@ -6,7 +6,7 @@ use Rattle.flat_model.specs.Packets.Header.{Head, address_bytes, flag, not_zero,
 use Rattle.flat_model.specs.Scripts.Texts.{hex_text}
 use Rattle.play_line.specs.Line.{column_of}
 use Rattle.play_line.specs.declared.fault.Fault.TheVariants.{NoBytes, PastEnd, TooLarge}
-use Rattle.play_line.specs.declared.fault.Slip.{Slip}
+use Rattle.play_line.specs.declared.fault.SyntaxError.{SyntaxError}
 use Rattle.play_packet.specs.Forms.{misfit, and_then, form_of, payload_of, word_place}
 use Rattle.play_packet.specs.Numbers.{word_bytes}
 use Rattle.play_packet.specs.declared.form.Form.{Form}
@@ -15,15 +15,15 @@ use Rattle.play_packet.specs.declared.form.Sum.TheVariants.{Right, Wrong, Given}
 use Rattle.play_packet.specs.declared.mark.Payload.{Payload}
 use Rattle.play_packet.specs.declared.mark.Payload.TheVariants.{Udp, Raw}
 use Rattle.play_packet.specs.declared.places.Misfit.{Misfit}
-use Rattle.play_packet.specs.declared.places.Told.{Told}
+use Rattle.play_packet.specs.declared.places.NumberAt.{NumberAt}
 
 -- one more than a checksum: always different from it, and never 0
 abbrev pub wrong : ℕ → ℕ
 wrong sum = sum % 65535 + 1
 
-abbrev pub value_or : ℕ → Option Told → ℕ
+abbrev pub value_or : ℕ → Option NumberAt → ℕ
 value_or default None = default
-value_or default (Some told) = told.value
+value_or default (Some number) = number.value
 
 -- ---- the datagram
 
@@ -93,9 +93,9 @@ pub record IsOwn (f : Form) : Type 0 where
 
 -- ---- what can't be built
 
-abbrev pub told_place : Option Told → ℕ
-told_place None = 0
-told_place (Some told) = told.place
+abbrev pub place_or_zero : Option NumberAt → ℕ
+place_or_zero None = 0
+place_or_zero (Some number) = number.place
 
 -- the packet carries the selected part of a datagram or of the line's bytes, or all the rest
 abbrev pub cut_of : Form → ℕ → List ℕ → Result (List ℕ) Misfit
@@ -103,8 +103,8 @@ cut_of f place whole =
     let start : ℕ = value_or 0 f.start in
     let left : ℕ = length whole - start in
     let size : ℕ = value_or left f.size in
-    if left == 0 && nat_lt 0 start then misfit PastEnd (told_place f.start)
-    else if nat_lt left size then misfit PastEnd (told_place f.size)
+    if left == 0 && nat_lt 0 start then misfit PastEnd (place_or_zero f.start)
+    else if nat_lt left size then misfit PastEnd (place_or_zero f.size)
     else if nat_lt IP_MAX_DATA size then misfit TooLarge place
     else Ok (packet_of f (take size (drop start whole)))
 
@@ -125,16 +125,16 @@ abbrev pub packet_named : Payload → List ℕ → Result (List ℕ) Misfit
 packet_named payload text = and_then (form_of payload text) (λ t.
     built t.0 t.1.place (word_bytes (take t.1.len (drop t.1.place text))))
 
-abbrev pub plain_packet : List ℕ → List ℕ → Result (List ℕ) Misfit → Result (List ℕ) Slip
+abbrev pub plain_packet : List ℕ → List ℕ → Result (List ℕ) Misfit → Result (List ℕ) SyntaxError
 plain_packet line text (Ok bytes) = Ok (codes "rx " ++ hex_text bytes)
 plain_packet line text (Err e) = Err (record { fault = e.fault; column = column_of line (word_place text e.place) })
 
-abbrev pub named_as : Option Payload → List ℕ → List ℕ → Result (List ℕ) Slip
+abbrev pub named_as : Option Payload → List ℕ → List ℕ → Result (List ℕ) SyntaxError
 named_as None line text = Ok text
 named_as (Some payload) line text = plain_packet line text (packet_named payload text)
 
 -- The plain line for the words of the line `line`: `rx` with the packet that they describe, or the words unchanged if
 -- they don't describe one. If there is an error, it is returned with the column of the wrong word, or of the last word
 -- if one is missing.
-abbrev pub named : List ℕ → List ℕ → Result (List ℕ) Slip
+abbrev pub named : List ℕ → List ℕ → Result (List ℕ) SyntaxError
 named line text = named_as (payload_of text) line text

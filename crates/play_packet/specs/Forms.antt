@@ -5,7 +5,7 @@ use Rattle.std.specs.Prelude.{ℕ, ◌+◌, ◌%◌, ◌==◌, ◌||◌, Bool, t
 use Rattle.flat_model.specs.declared.address.Addr.{Addr}
 use Rattle.play_line.specs.Bytes.{place_or_end}
 use Rattle.play_line.specs.declared.fault.Fault.{Fault}
-use Rattle.play_line.specs.declared.fault.Fault.TheVariants.{NoArrow, NoBytes, NoCount, NoOffset, NoMore, NoSize, UnknownWord, ToldTwice}
+use Rattle.play_line.specs.declared.fault.Fault.TheVariants.{NoArrow, NoBytes, NoCount, NoOffset, NoMore, NoSize, UnknownWord, GivenTwice}
 use Rattle.play_packet.specs.Ends.{end_as, missing_end}
 use Rattle.play_packet.specs.Marks.{mark_named, most_number, number_fault}
 use Rattle.play_packet.specs.Numbers.{number_in}
@@ -20,7 +20,7 @@ use Rattle.play_packet.specs.declared.mark.Payload.{Payload}
 use Rattle.play_packet.specs.declared.mark.Payload.TheVariants.{Udp, Raw}
 use Rattle.play_packet.specs.declared.places.Misfit.{Misfit}
 use Rattle.play_packet.specs.declared.places.Span.{Span}
-use Rattle.play_packet.specs.declared.places.Told.{Told}
+use Rattle.play_packet.specs.declared.places.NumberAt.{NumberAt}
 
 abbrev pub misfit : {A : Type 0} → Fault → ℕ → Result A Misfit
 misfit fault place = Err (record { fault = fault; place = place })
@@ -89,15 +89,15 @@ arrow_at text at = needs NoArrow text at (λ word after.
 abbrev pub span_at : List ℕ → ℕ → Result (Span × ℕ) Misfit
 span_at text at = needs NoBytes text at (λ word after. Ok (record { place = at; len = length word }, after))
 
-abbrev pub told_or_misfit : Option ℕ → Fault → ℕ → ℕ → Result (Told × ℕ) Misfit
-told_or_misfit (Some value) fault at after = Ok (record { value = value; place = at }, after)
-told_or_misfit None fault at after = misfit fault at
+abbrev pub number_or_misfit : Option ℕ → Fault → ℕ → ℕ → Result (NumberAt × ℕ) Misfit
+number_or_misfit (Some value) fault at after = Ok (record { value = value; place = at }, after)
+number_or_misfit None fault at after = misfit fault at
 
-abbrev pub number_at : Fault → ℕ → List ℕ → ℕ → Result (Told × ℕ) Misfit
-number_at fault most text at = needs NoCount text at (λ word after. told_or_misfit (number_in most word) fault at after)
+abbrev pub number_at : Fault → ℕ → List ℕ → ℕ → Result (NumberAt × ℕ) Misfit
+number_at fault most text at = needs NoCount text at (λ word after. number_or_misfit (number_in most word) fault at after)
 
 -- the offset of a fragment, a multiple of 8
-abbrev pub offset_at : List ℕ → ℕ → Result (Told × ℕ) Misfit
+abbrev pub offset_at : List ℕ → ℕ → Result (NumberAt × ℕ) Misfit
 offset_at text at = and_then (number_at NoOffset 65528 text at) (λ t.
     if t.0.value % 8 == 0 then Ok (t.0, t.1) else misfit NoOffset t.0.place)
 
@@ -212,7 +212,7 @@ with_mark f flag text at = Ok (flagged f flag, at)
 
 abbrev pub marked : Form → Option Mark → List ℕ → ℕ → ℕ → Result (Form × ℕ) Misfit
 marked f None text at after = misfit UnknownWord at
-marked f (Some m) text at after = if has f m then misfit ToldTwice at else with_mark f m text after
+marked f (Some m) text at after = if has f m then misfit GivenTwice at else with_mark f m text after
 
 -- after this word at this position, and its arguments
 unfoldable pub with_word_at : Form → List ℕ → List ℕ → ℕ → Result (Form × ℕ) Misfit

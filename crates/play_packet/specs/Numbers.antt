@@ -20,5 +20,5 @@ word_bytes word = if bytes_eq word (codes "-") then Some [] else some_bytes (dec
 
 -- this many bytes from the front of a buffer, if any
 abbrev pub front_of_room : List ℕ → Option ℕ → Option (List ℕ)
-front_of_room room None = None
-front_of_room room (Some n) = Some (take n room)
+front_of_room buffer None = None
+front_of_room buffer (Some n) = Some (take n buffer)

@@ -10,7 +10,7 @@ ghost use Rattle.play_packet.specs.Reads.{put_or};
 use crate::form::{Form, Sum};
 use crate::mark::Payload;
 use crate::numbers::bytes_in;
-use crate::places::{Misfit, Told, refuse};
+use crate::places::{Misfit, NumberAt, refuse};
 use byteorder::{BigEndian, ByteOrder};
 use flat_model::fold;
 use params::{IP_DEFAULT_TTL, IP_HEADER, IP_MAX_DATA, IP_MAX_PACKET, PROTOCOL_UDP, UDP_HEADER};
@@ -167,21 +167,21 @@ fn put_udp(form: &Form, sent: &[u8], covered: &mut Buffer<ROOM>, out: &mut Buffe
 }
 
 /// Returns the number of the line, or a default.
-fn value_or(default: usize, told: Option<Told>) -> usize
-    ensures { result ≡ builds.value_or default told }
+fn value_or(default: usize, number: Option<NumberAt>) -> usize
+    ensures { result ≡ builds.value_or default number }
 {
-    match told {
-        Some(told) => told.value as usize,
+    match number {
+        Some(number) => number.value as usize,
         None => default,
     }
 }
 
 /// Returns the position of the number in the line.
-fn place_of(told: Option<Told>) -> usize
-    ensures { result ≡ builds.told_place told }
+fn place_of(number: Option<NumberAt>) -> usize
+    ensures { result ≡ builds.place_or_zero number }
 {
-    match told {
-        Some(told) => told.place,
+    match number {
+        Some(number) => number.place,
         None => 0,
     }
 }

@@ -5,7 +5,7 @@ ghost use Rattle.play_packet.specs.Marks.{most_number};
 
 use crate::mark::{Field, Mark, Payload, mark_of};
 use crate::places::{
-    Misfit, Span, Told, arrow_at, bytes_at, end_at, more_at, number_at, offset_at, refuse,
+    Misfit, NumberAt, Span, arrow_at, bytes_at, end_at, more_at, number_at, offset_at, refuse,
 };
 use crate::words::word_at;
 use flat_model::Addr;
@@ -44,8 +44,8 @@ pub(crate) struct Form {
     pub(crate) protocol: Option<u8>,
     pub(crate) sum: Sum,
     /// The start in the datagram of the data that the packet carries, and its length.
-    pub(crate) start: Option<Told>,
-    pub(crate) size: Option<Told>,
+    pub(crate) start: Option<NumberAt>,
+    pub(crate) size: Option<NumberAt>,
     pub(crate) udp_len: Option<u16>,
     pub(crate) udp_sum: Sum,
 }
@@ -273,7 +273,7 @@ impl Form {
             return refuse(Fault::UnknownWord, at);
         };
         if self.has(mark) {
-            return refuse(Fault::ToldTwice, at);
+            return refuse(Fault::GivenTwice, at);
         }
         self.with_mark(mark, text, at + word.len() + 1)
     }

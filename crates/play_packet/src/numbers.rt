@@ -14,12 +14,12 @@ pub(crate) fn number_in(word: &[u8], most: u32) -> Option<u32>
     number(word, most)
 }
 
-/// Decodes a word into `room`, and returns the number of bytes.
-pub(crate) fn bytes_in(word: &[u8], room: &mut [u8]) -> Option<usize>
-    requires { length room.old ≡ IP_MAX_PACKET }
-    ensures is { numbers.front_of_room room.new result ≡ numbers.word_bytes word.now }
+/// Decodes a word into `buffer`, and returns the number of bytes.
+pub(crate) fn bytes_in(word: &[u8], buffer: &mut [u8]) -> Option<usize>
+    requires { length buffer.old ≡ IP_MAX_PACKET }
+    ensures is { numbers.front_of_room buffer.new result ≡ numbers.word_bytes word.now }
     ensures most { IfSome result (λ n. n ≤ IP_MAX_PACKET) }
-    ensures len { length room.new ≡ IP_MAX_PACKET }
+    ensures len { length buffer.new ≡ IP_MAX_PACKET }
 {
-    bytes(word, room)
+    bytes(word, buffer)
 }

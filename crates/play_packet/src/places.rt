@@ -11,7 +11,7 @@ use play_line::Fault;
 
 /// A number of the line, and the position where its word begins.
 #[derive(Clone, Copy)]
-pub(crate) struct Told {
+pub(crate) struct NumberAt {
     pub(crate) value: u32,
     pub(crate) place: usize,
 }
@@ -107,7 +107,7 @@ pub(crate) fn number_at(
     most: u32,
     text: &[u8],
     at: usize,
-) -> Result<(Told, usize), Misfit>
+) -> Result<(NumberAt, usize), Misfit>
     requires { most ≤ 65535 }
     ensures is { result ≡ forms.number_at fault most text.now at }
     ensures most { IfOk result (λ t. t.0.value ≤ most) }
@@ -116,13 +116,13 @@ pub(crate) fn number_at(
         return refuse(Fault::NoCount, at);
     };
     match number_in(word, most) {
-        Some(value) => Ok((Told { value, place: at }, at + word.len() + 1)),
+        Some(value) => Ok((NumberAt { value, place: at }, at + word.len() + 1)),
         None => refuse(fault, at),
     }
 }
 
 /// Parses the offset of a fragment. Also returns the position after it.
-pub(crate) fn offset_at(text: &[u8], at: usize) -> Result<(Told, usize), Misfit>
+pub(crate) fn offset_at(text: &[u8], at: usize) -> Result<(NumberAt, usize), Misfit>
     ensures is { result ≡ forms.offset_at text.now at }
     ensures most { IfOk result (λ t. t.0.value ≤ 65535) }
 {

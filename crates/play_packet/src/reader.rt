@@ -7,7 +7,7 @@ ghost use Rattle.play_packet.specs.Reads.{plain_or};
 use crate::build::{Builder, PACKET};
 use crate::places::payload_of;
 use crate::words::place_in;
-use play_line::{Reader, Slip};
+use play_line::{Reader, SyntaxError};
 use script_loop::Buffer;
 use std::alloc::{AllocError, Global};
 
@@ -37,7 +37,7 @@ impl LineReader {
     /// # Errors
     ///
     /// The error in the bytes of the line, with its column.
-    pub fn plain_line(&mut self, line: &[u8]) -> Result<&[u8], Slip>
+    pub fn plain_line(&mut self, line: &[u8]) -> Result<&[u8], SyntaxError>
         ensures is { now_or result ≡ expanded line.now }
         ensures short { IsShort result }
     {
@@ -55,7 +55,7 @@ impl LineReader {
         line: &[u8],
         words: &[u8],
         packet: &mut Buffer<PACKET>,
-    ) -> Result<bool, Slip>
+    ) -> Result<bool, SyntaxError>
         ensures { plain_or words.now result packet.new ≡ named line.now words.now }
     {
         let Some(payload) = payload_of(words) else {
@@ -63,7 +63,7 @@ impl LineReader {
         };
         match self.builder.build(payload, words, packet) {
             Ok(()) => Ok(true),
-            Err(misfit) => Err(Slip {
+            Err(misfit) => Err(SyntaxError {
                 fault: misfit.fault,
                 column: self.reader.column_of(line, place_in(words, misfit.place)),
             }),

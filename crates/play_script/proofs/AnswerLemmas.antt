@@ -3,7 +3,7 @@ use Rattle.std.proofs.Common.{◌≡◌, ℕ, ◌&&◌, Bool, true, false, List,
 use Rattle.flat_model.specs.Machine.Event.{Event, Reply}
 use Rattle.flat_model.specs.Machine.State.{State}
 use Rattle.play_line.specs.Time.{TimedView, timed}
-use Rattle.play_line.specs.declared.fault.Slip.{Slip}
+use Rattle.play_line.specs.declared.fault.SyntaxError.{SyntaxError}
 use Rattle.play_text.specs.Texts.{fault_text}
 use Rattle.std.proofs.lemmas.Bool.{false≢true}
 use Rattle.flat_model.specs.Scripts.Texts.{hex_text}
@@ -106,8 +106,8 @@ Reading-reports step has now new ticks before read is text same said =
 -- a line whose time was read so
 pub Timed-reports : (step : State → Event → Reply → State → Type 0) (has : List ℕ → List ℕ → Type 0) (old now new :
     Play)
-    (line text : List ℕ) (t : Result TimedView Slip) → now ≡ next_line line old → t ≡ timed line
+    (line text : List ℕ) (t : Result TimedView SyntaxError) → now ≡ next_line line old → t ≡ timed line
     → ReportsTimed step has now line t text new → Reports step has old line text new
 Timed-reports step has old now new line text t counted is said =
-    subst (λ (r : Result TimedView Slip). ReportsTimed step has (next_line line old) line r text new) is
+    subst (λ (r : Result TimedView SyntaxError). ReportsTimed step has (next_line line old) line r text new) is
     (subst (λ (p : Play). ReportsTimed step has p line t text new) counted said)

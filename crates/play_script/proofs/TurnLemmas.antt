@@ -2,7 +2,7 @@
 use Rattle.std.proofs.Common.{◌≡◌, ◌⊎◌, ℕ, zero, suc, ◌-◌, ◌<◌, ◌==◌, ◌&&◌, Bool, true, false, List, [], ◌∷◌, ◌++◌, length, replicate, Option, Some, None, Result, Ok, Err, inl, inr, refl, sym, ap, ◌∙◌, arith, subst}
 use Rattle.std.proofs.lemmas.Bool.{eqb-true, false≢true}
 use Rattle.play_line.specs.Time.{TimedView, timed}
-use Rattle.play_line.specs.declared.fault.Slip.{Slip}
+use Rattle.play_line.specs.declared.fault.SyntaxError.{SyntaxError}
 use Rattle.flat_model.specs.Machine.Count.{more_by}
 use Rattle.flat_model.specs.Machine.Event.{Event, Reply, Tick, Done}
 use Rattle.flat_model.specs.Machine.Ledger.{exact_ledger}
@@ -301,8 +301,8 @@ Reports-line join has now new n before TooLong text (is, same) =
     inl (Idle (ArePlayedTurns has n TooLong) now new refl (ap (λ (p : Play). p.machine) same)
     (ap (λ (p : Play). p.traced) same)
     (ap (λ (p : Play). p.number) same) (ap (λ (p : Play). p.config) same) (ap (λ (p : Play). p.head) same))
-Reports-line join has now new n before (Faulty slip) text (is, same) =
-    inl (Idle (ArePlayedTurns has n (Faulty slip)) now new refl (ap (λ (p : Play). p.machine) same)
+Reports-line join has now new n before (Faulty syntax_error) text (is, same) =
+    inl (Idle (ArePlayedTurns has n (Faulty syntax_error)) now new refl (ap (λ (p : Play). p.machine) same)
     (ap (λ (p : Play). p.traced) same)
     (ap (λ (p : Play). p.number) same) (ap (λ (p : Play). p.config) same) (ap (λ (p : Play). p.head) same))
 Reports-line join has now new n before (Asks shown plain wanted) text (mid, waited, reported) =
@@ -310,10 +310,10 @@ Reports-line join has now new n before (Asks shown plain wanted) text (mid, wait
     (Asked-line join has mid new shown plain text wanted reported)
 
 Timed-line : Joins → (has : List ℕ → List ℕ → Type 0) (now new : Play) (line text : List ℕ)
-    (t : Result TimedView Slip) → ReportsTimed Step has now line t text new
+    (t : Result TimedView SyntaxError) → ReportsTimed Step has now line t text new
     → Asked (AreTimedTurns has line t) now new ⊎ Settled (AreTimedTurns has line t) (MayTimedSet line t) now new
-Timed-line join has now new line text (Err slip) (is, same) =
-    inl (Idle (AreTimedTurns has line (Err slip)) now new refl
+Timed-line join has now new line text (Err syntax_error) (is, same) =
+    inl (Idle (AreTimedTurns has line (Err syntax_error)) now new refl
     (ap (λ (p : Play). p.machine) same) (ap (λ (p : Play). p.traced) same)
     (ap (λ (p : Play). p.number) same) (ap (λ (p : Play). p.config) same) (ap (λ (p : Play). p.head) same))
 Timed-line join has now new line text (Ok t) reported =
@@ -324,11 +324,11 @@ Timed-line join has now new line text (Ok t) reported =
 MaySet-same : (line : Reading) (c : Config) → MaySet line c c
 MaySet-same Nothing c = refl
 MaySet-same TooLong c = refl
-MaySet-same (Faulty slip) c = refl
+MaySet-same (Faulty syntax_error) c = refl
 MaySet-same (Asks shown plain wanted) c = inl refl
 
-MayTimedSet-same : (line : List ℕ) (t : Result TimedView Slip) (c : Config) → MayTimedSet line t c c
-MayTimedSet-same line (Err slip) c = refl
+MayTimedSet-same : (line : List ℕ) (t : Result TimedView SyntaxError) (c : Config) → MayTimedSet line t c c
+MayTimedSet-same line (Err syntax_error) c = refl
 MayTimedSet-same line (Ok t) c = MaySet-same (reading_part line t.part) c
 
 MaySetAll-same : (lines : List (List ℕ)) (c : Config) → MaySetAll lines c c

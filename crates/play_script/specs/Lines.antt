@@ -3,7 +3,7 @@ use Rattle.std.specs.Prelude.{ℕ, ◌+◌, ◌-◌, ◌==◌, ◌||◌, Bool, f
 use Rattle.flat_model.specs.Machine.Count.{more_by}
 use Rattle.play_line.specs.Line.{expanded}
 use Rattle.play_line.specs.Shown.{shown}
-use Rattle.play_line.specs.declared.fault.Slip.{Slip}
+use Rattle.play_line.specs.declared.fault.SyntaxError.{SyntaxError}
 use Rattle.play_packet.specs.Builds.{named}
 use Rattle.play_line.specs.declared.line.TheConstants.{LONGEST}
 
@@ -49,7 +49,7 @@ expected text = back_at text (position (λ byte. byte == 61) text)
 pub data Reading : Type 0 where
   Nothing : Reading  -- a blank line, or only a comment
   TooLong : Reading  -- more than 262,144 bytes
-  Faulty : (slip : Slip) → Reading  -- bytes that can't be read, or words that name no packet
+  Faulty : (syntax_error : SyntaxError) → Reading  -- bytes that can't be read, or words that name no packet
   -- the line as it's written, the plain line that it stands for, and the reply that is expected
   Asks : (shown plain : List ℕ) (wanted : Option (List ℕ)) → Reading
 
@@ -64,15 +64,15 @@ reading_of shown [] (Some wanted) = Asks shown [] (Some wanted)
 reading_of shown (byte ∷ bytes) wanted = Asks shown (byte ∷ bytes) wanted
 
 -- the words of a line, with the bytes of a packet instead of the words that name it, and what is expected
-abbrev pub reading_words : List ℕ → Result (List ℕ) Slip → Option (List ℕ) → Reading
+abbrev pub reading_words : List ℕ → Result (List ℕ) SyntaxError → Option (List ℕ) → Reading
 reading_words shown (Ok words) wanted = reading_of shown words wanted
-reading_words shown (Err slip) wanted = Faulty slip
+reading_words shown (Err syntax_error) wanted = Faulty syntax_error
 
 -- a line as it's written, and the plain line of a part of it
-abbrev pub reading_plain : List ℕ → List ℕ → Result (List ℕ) Slip → Reading
+abbrev pub reading_plain : List ℕ → List ℕ → Result (List ℕ) SyntaxError → Reading
 reading_plain line part (Ok text) =
     reading_words (shown line) (named part (untailed (asked text))) (unheaded_option (expected text))
-reading_plain line part (Err slip) = Faulty slip
+reading_plain line part (Err syntax_error) = Faulty syntax_error
 
 -- a line whose front, a time or the name of a host, was read before: this part is read, and the line is shown whole
 abbrev pub reading_part : List ℕ → List ℕ → Reading
@@ -81,5 +81,5 @@ reading_part line part =
     else reading_plain line part (expanded part)
 
 -- an error in a part of a line that `before` bytes precede
-abbrev pub shifted : ℕ → Slip → Slip
-shifted before slip = record slip { column = more_by before slip.column }
+abbrev pub shifted : ℕ → SyntaxError → SyntaxError
+shifted before syntax_error = record syntax_error { column = more_by before syntax_error.column }

@@ -33,7 +33,7 @@ pub use fault::SettingFault;
 pub use fits::meets;
 pub use flat_model::Config;
 pub use law::{asks_law, runs_law};
-pub use line::{Kind, Line, read_part, shift};
+pub use line::{Kind, Line, read_part, shift_column};
 pub use link_script::DEFAULTS;
 pub use outcome::{DROPS, REPLY_LINE, put_drops};
 pub use play_pcap::{CaptureFault, Folder, NoFolder, RECORD, Trace};

@@ -10,7 +10,7 @@ ghost use Rattle.play_script.specs.Views.{IsSoundAsk, ask_of as ask_value, asked
 use crate::ask::Ask;
 use crate::read::ask_of;
 use crate::report::bytes_of;
-use play_line::{LONGEST, Slip, put_shown};
+use play_line::{LONGEST, SyntaxError, put_shown};
 use play_packet::{LineReader, PACKET};
 use play_pcap::lines_law;
 use request::Request;
@@ -25,7 +25,7 @@ pub enum Kind {
     /// It has more bytes than a line may have.
     TooLong,
     /// It has bytes that can't be read, or words that name no packet.
-    Faulty(Slip),
+    Faulty(SyntaxError),
     /// A line with a request or an expectation.
     Asks,
 }
@@ -69,7 +69,7 @@ impl Line {
     }
 
     /// Replaces the words by the plain line, with the digits of a packet that they name.
-    pub(crate) fn spell(&mut self, digits: &mut [u8])
+    pub(crate) fn write_number(&mut self, digits: &mut [u8])
         requires { length digits.old ≡ 2 * IP_MAX_PACKET }
         ensures { self.new ≡ record (self.old) { words = plain_line self.old } }
     {
@@ -165,12 +165,12 @@ fn cut(text: &[u8]) -> (&[u8], Option<&[u8]>)
 }
 
 /// Moves the column of an error in a part of a line, which `before` bytes precede.
-pub fn shift(slip: Slip, before: u64) -> Slip
-    ensures { result ≡ lines.shifted before slip }
+pub fn shift_column(syntax_error: SyntaxError, before: u64) -> SyntaxError
+    ensures { result ≡ lines.shifted before syntax_error }
 {
-    Slip {
-        fault: slip.fault,
-        column: slip.column.saturating_add(before),
+    SyntaxError {
+        fault: syntax_error.fault,
+        column: syntax_error.column.saturating_add(before),
     }
 }
 
@@ -186,7 +186,7 @@ pub fn read_part(whole: &[u8], text: &[u8], reader: &mut LineReader, line: &mut 
     put_shown(whole, &mut line.shown);
     let plain = match reader.plain_line(text) {
         Ok(plain) => plain,
-        Err(slip) => return Kind::Faulty(slip),
+        Err(syntax_error) => return Kind::Faulty(syntax_error),
     };
     let (front, back) = cut(plain);
     line.words.clear();
@@ -207,6 +207,6 @@ pub fn read_part(whole: &[u8], text: &[u8], reader: &mut LineReader, line: &mut 
         }
         Ok(false) if line.expects || !line.words.is_empty() => Kind::Asks,
         Ok(false) => Kind::Nothing,
-        Err(slip) => Kind::Faulty(slip),
+        Err(syntax_error) => Kind::Faulty(syntax_error),
     }
 }

@@ -11,7 +11,7 @@ ghost use Rattle.stack_call.specs.Moves.{StackSteps};
 
 use crate::captured::CapturedStack;
 use crate::execute::{Executed, execute_line};
-use crate::line::{Kind, Line, read_part, shift};
+use crate::line::{Kind, Line, read_part, shift_column};
 use crate::print::OUTPUT;
 use crate::printer::{Printer, both};
 use crate::replay::Files;
@@ -167,9 +167,10 @@ impl<T: Sink, F: Folder> Player<T, F> {
         match read_part(line, timed.part, &mut self.reader, &mut self.line) {
             Kind::Nothing => {}
             Kind::TooLong => self.printer.put_too_long(text),
-            Kind::Faulty(slip) => {
+            Kind::Faulty(syntax_error) => {
                 let before = (line.len() - timed.part.len()) as u64;
-                self.printer.put_slip(text, shift(slip, before));
+                self.printer
+                    .put_syntax_error(text, shift_column(syntax_error, before));
             }
             Kind::Asks => {
                 self.wait(timed.ticks);
@@ -190,7 +191,7 @@ impl<T: Sink, F: Folder> Answers<OUTPUT> for Player<T, F> {
         self.printer.next_line(line);
         match read_time(line) {
             Ok(timed) => self.execute_timed(line, timed, text),
-            Err(slip) => self.printer.put_slip(text, slip),
+            Err(syntax_error) => self.printer.put_syntax_error(text, syntax_error),
         }
     }
 }

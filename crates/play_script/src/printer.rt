@@ -2,7 +2,7 @@
 ghost use Rattle.std.specs.Prelude.{◌≡◌, ◌≤◌, ◌++◌, ◌&&◌, ◌||◌, IfOk, codes, false, length, take, true};
 ghost use Rattle.flat_model.specs.Machine.Count.{more_by};
 ghost use Rattle.play_forms.specs.declared.text.TheConstants.{ADVICE};
-ghost use Rattle.play_text.specs.Texts.{fault_text, slip_text};
+ghost use Rattle.play_text.specs.Texts.{fault_text, syntax_error_text};
 ghost use Rattle.play_script.specs.Lines as lines;
 ghost use Rattle.play_script.specs.Reports.{is_sound, reply_line_text};
 ghost use Rattle.play_script.specs.Views.{expected_on};
@@ -12,7 +12,7 @@ use crate::line::{Line, has_text};
 use crate::print::{LABELLED, NAME, OUTPUT};
 use crate::report::{Report, bytes_of};
 use play_forms::ADVICE;
-use play_line::Slip;
+use play_line::SyntaxError;
 use play_text::{Form, Outcome};
 use script_loop::{Buffer, HELD};
 use std::alloc::{AllocError, Global};
@@ -116,12 +116,18 @@ impl Printer {
     }
 
     /// Appends what is wrong with a byte of the line.
-    pub fn put_slip(&mut self, text: &mut Buffer<OUTPUT>, slip: Slip)
+    pub fn put_syntax_error(&mut self, text: &mut Buffer<OUTPUT>, syntax_error: SyntaxError)
         requires { length text.old ≤ HELD }
-        ensures text { text.new ≡ text.old ++ slip_text self.old.form self.old.name self.old.number slip }
+        ensures text { text.new ≡ text.old ++ syntax_error_text self.old.form self.old.name self.old.number syntax_error }
         ensures printer { self.new ≡ record self.old { sound = false } }
     {
-        play_text::put_slip(text, self.form, bytes_of(&self.name), self.number, slip);
+        play_text::put_syntax_error(
+            text,
+            self.form,
+            bytes_of(&self.name),
+            self.number,
+            syntax_error,
+        );
         self.sound = false;
     }
 

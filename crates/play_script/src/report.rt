@@ -85,7 +85,7 @@ impl Report {
         ensures quiet { self.new.quiet ≡ self.old.quiet }
         ensures line { line.new ≡ record (line.old) { words = plain_line line.old } }
     {
-        line.spell(self.digits.as_mut_slice());
+        line.write_number(self.digits.as_mut_slice());
         put_advice(&mut self.advice, &advice_on(player, bytes_of(&line.words)));
     }
 

@@ -1,7 +1,7 @@
 -- The output for a line of a script (this project's own).
 use Rattle.std.specs.Prelude.{ℕ, Bool, true, false, List, [], ◌++◌, if◌then◌else◌, codes, decimal, Option, Some, None, is_some}
 use Rattle.play_line.specs.Faults.{misread_words}
-use Rattle.play_line.specs.declared.fault.Slip.{Slip}
+use Rattle.play_line.specs.declared.fault.SyntaxError.{SyntaxError}
 use Rattle.play_text.specs.Bytes.{difference, seen}
 use Rattle.play_text.specs.Forms.{byte_form, is_quiet, is_coloured, is_json, if_coloured, red, ended, coloured_reply}
 use Rattle.play_text.specs.Pieces.{number_or}
@@ -74,8 +74,8 @@ abbrev pub fault_text : Form → List ℕ → ℕ → List ℕ → List ℕ
 fault_text form name number what = spot_fault form name number None what
 
 -- bytes that can't be parsed, with their column
-abbrev pub slip_text : Form → List ℕ → ℕ → Slip → List ℕ
-slip_text form name number slip = spot_fault form name number (Some slip.column) (misread_words slip.fault)
+abbrev pub syntax_error_text : Form → List ℕ → ℕ → SyntaxError → List ℕ
+syntax_error_text form name number syntax_error = spot_fault form name number (Some syntax_error.column) (misread_words syntax_error.fault)
 
 -- the output for a line and the notes below it, and the expectation, if it differs from the output
 abbrev pub outcome_text : Form → Bool → List ℕ → ℕ → List ℕ → Option (List ℕ) → Bool → List ℕ → List ℕ → List ℕ

@@ -3,7 +3,7 @@ use Rattle.std.proofs.Common.{◌≡◌, ◌⊎◌, inl, inr, ℕ, zero, suc, �
 use Rattle.std.specs.Prelude.{codes, slice_get, None, MatchResult, Result, Ok, Err}
 use Rattle.play_text.specs.Texts.{if_there}
 use Rattle.play_line.specs.Time.{TimedView, timed}
-use Rattle.play_line.specs.declared.fault.Slip.{Slip}
+use Rattle.play_line.specs.declared.fault.SyntaxError.{SyntaxError}
 use Rattle.play_script.specs.Lines.{Reading}
 use Rattle.flat_model.specs.Amounts.Choice.{Choice}
 use Rattle.segment.specs.Law.{Act, AreActs, IsAct}
@@ -102,12 +102,12 @@ reported_part now new host ticks before read is acts text same reports =
     subst (λ (r : Reading). ReportsPart now host ticks before r acts text new) (sym same) reports
 
 -- a line whose time was read so
-pub reported_timed : (old now new : WirePlay) (line : List ℕ) (t : Result TimedView Slip) (acts : List Act) (text : List
+pub reported_timed : (old now new : WirePlay) (line : List ℕ) (t : Result TimedView SyntaxError) (acts : List Act) (text : List
     ℕ)
     → now ≡ next_wire_line line old → t ≡ timed line → ReportsTimed now line t acts text new → Reports old line text new
 reported_timed old now new line t acts text counted is reports = (
   acts,
-  subst (λ (r : Result TimedView Slip). ReportsTimed (next_wire_line line old) line r acts text new) is
+  subst (λ (r : Result TimedView SyntaxError). ReportsTimed (next_wire_line line old) line r acts text new) is
       (subst (λ (p : WirePlay). ReportsTimed p line t acts text new) counted reports),
 )
 

@@ -1,7 +1,7 @@
 -- Whole scripts.
 use Rattle.std.proofs.Common.{◌≡◌, inl, inr, ℕ, zero, suc, List, [], ◌∷◌, ◌++◌, map, Option, Some, None, Result, Ok, Err, refl, sym, ap, subst}
 use Rattle.play_line.specs.Time.{TimedView, timed}
-use Rattle.play_line.specs.declared.fault.Slip.{Slip}
+use Rattle.play_line.specs.declared.fault.SyntaxError.{SyntaxError}
 use Rattle.play_script.specs.Lines.{Reading, Nothing, TooLong, Faulty, Asks, reading_part}
 use Rattle.script_loop.specs.Printed.{Prints}
 use Rattle.std.specs.Prelude.{slice_get}
@@ -73,7 +73,7 @@ part_acts now new host ticks before Nothing acts text (none, is, same) =
     none_are now.segment new.segment acts none (ap (λ (p : WirePlay). p.segment) same)
 part_acts now new host ticks before TooLong acts text (none, is, same) =
     none_are now.segment new.segment acts none (ap (λ (p : WirePlay). p.segment) same)
-part_acts now new host ticks before (Faulty slip) acts text (none, is, same) =
+part_acts now new host ticks before (Faulty syntax_error) acts text (none, is, same) =
     none_are now.segment new.segment acts none (ap (λ (p : WirePlay). p.segment) same)
 part_acts now new host ticks before (Asks shown plain wanted) acts text
     (first, rest, mid, joined, waited, (came, segment, names, done, is, same)) =
@@ -82,9 +82,9 @@ part_acts now new host ticks before (Asks shown plain wanted) acts text
     (acts_append now.segment mid segment first rest (waited_acts ticks now.segment mid first waited)
     (done_acts (record now { segment = mid }) host plain rest came segment names done)))
 
-timed_acts : (now new : WirePlay) (line : List ℕ) (t : Result TimedView Slip) (acts : List Act) (text : List ℕ)
+timed_acts : (now new : WirePlay) (line : List ℕ) (t : Result TimedView SyntaxError) (acts : List Act) (text : List ℕ)
     → ReportsTimed now line t acts text new → AreActs now.segment acts new.segment
-timed_acts now new line (Err slip) acts text (none, is, same) =
+timed_acts now new line (Err syntax_error) acts text (none, is, same) =
     none_are now.segment new.segment acts none (ap (λ (p : WirePlay). p.segment) same)
 timed_acts now new line (Ok t) acts text (host, part, parted, reports) =
     part_acts now new host t.ticks _ (reading_part line part) acts text reports

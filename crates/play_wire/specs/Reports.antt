@@ -3,9 +3,9 @@ use Rattle.std.specs.Prelude.{◌≡◌, ◌⊎◌, ℕ, ◌-◌, ◌&&◌, ◌|
 use Rattle.flat_model.specs.Amounts.Choice.{Choice}
 use Rattle.flat_model.specs.Machine.Count.{more_by}
 use Rattle.play_line.specs.Time.{TimedView, timed}
-use Rattle.play_line.specs.declared.fault.Slip.{Slip}
+use Rattle.play_line.specs.declared.fault.SyntaxError.{SyntaxError}
 use Rattle.play_script.specs.Lines.{Reading, Nothing, TooLong, Faulty, Asks, has_text, reading_part, shifted}
-use Rattle.play_text.specs.Texts.{fault_text, slip_text}
+use Rattle.play_text.specs.Texts.{fault_text, syntax_error_text}
 use Rattle.play_text.specs.Forms.{is_json}
 use Rattle.play_text.specs.declared.form.Form.{Form}
 use Rattle.play_script.specs.Reports.{is_sound, reply_line_text}
@@ -163,17 +163,17 @@ ReportsPart now host ticks before Nothing acts text new = (acts ≡ []) × (text
 ReportsPart now host ticks before TooLong acts text new =
     (acts ≡ []) × (text ≡ fault_text now.form now.name now.number (codes "the line is too long"))
     × (new ≡ record now { sound = false })
-ReportsPart now host ticks before (Faulty slip) acts text new =
-    (acts ≡ []) × (text ≡ slip_text now.form now.name now.number (shifted before slip))
+ReportsPart now host ticks before (Faulty syntax_error) acts text new =
+    (acts ≡ []) × (text ≡ syntax_error_text now.form now.name now.number (shifted before syntax_error))
     × (new ≡ record now { sound = false })
 ReportsPart now host ticks before (Asks shown plain wanted) acts text new =
     (first rest : List Act) × (mid : SegmentView) × (acts ≡ first ++ rest) × IsWaited ticks now.segment first mid
     × ReportsAsked (record now { segment = mid }) host shown plain wanted rest text new
 
 -- a line with its time, or what is wrong with that
-abbrev pub ReportsTimed : WirePlay → List ℕ → Result TimedView Slip → List Act → List ℕ → WirePlay → Type 0
-ReportsTimed now line (Err slip) acts text new =
-    (acts ≡ []) × (text ≡ slip_text now.form now.name now.number slip) × (new ≡ record now { sound = false })
+abbrev pub ReportsTimed : WirePlay → List ℕ → Result TimedView SyntaxError → List Act → List ℕ → WirePlay → Type 0
+ReportsTimed now line (Err syntax_error) acts text new =
+    (acts ≡ []) × (text ≡ syntax_error_text now.form now.name now.number syntax_error) × (new ≡ record now { sound = false })
 ReportsTimed now line (Ok t) acts text new =
     (host : Option (List ℕ)) × (part : List ℕ) × IsParted t.part host part
     × ReportsPart now host t.ticks (length line - length part) (reading_part line part) acts text new

@@ -32,7 +32,7 @@ fn counts_at(segment: &mut Segment, spare: &mut Stack, place: usize) -> Option<C
 }
 
 /// `frame BYTES`: gives a frame to the host at a place, which must have a link.
-fn hear(
+fn receive_frame(
     segment: &mut Segment,
     counting: &mut Counting,
     place: usize,
@@ -162,7 +162,7 @@ fn execute_there(
         (outcome_of result report.new.reply_line report.new.below) (view segment.new) }
 {
     match ask {
-        LinkAsk::Frame(frame) => hear(segment, counting, place, frame, report),
+        LinkAsk::Frame(frame) => receive_frame(segment, counting, place, frame, report),
         LinkAsk::LastError(fd) => ask_error(segment, &mut counting.stack, place, fd, report),
         LinkAsk::Neighbours => show_neighbours(segment, place, report),
         LinkAsk::Counts => show_link(segment, place, report),

@@ -278,14 +278,14 @@ impl Watch for Log {
         }
     }
 
-    fn comes(&mut self, number: usize, _place: usize, stack: &Stack, link: Tallies) {
+    fn arriving(&mut self, number: usize, _place: usize, stack: &Stack, link: Tallies) {
         self.before = None;
         if number < self.packets.len() {
             self.before = Some(Look::at(stack, link));
         }
     }
 
-    fn came(&mut self, number: usize, place: usize, stack: &Stack, link: Tallies) {
+    fn arrived(&mut self, number: usize, place: usize, stack: &Stack, link: Tallies) {
         if let Some(before) = &self.before {
             let verdict = Verdict::of(before, &Look::at(stack, link));
             self.note(number, Happened::Came(place, verdict));

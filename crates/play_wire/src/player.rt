@@ -17,7 +17,7 @@ use crate::target::Target;
 use play_forms::Player as Advised;
 use play_line::{Timed, read_time};
 use play_packet::LineReader;
-use play_script::{Form, Kind, Line, OUTPUT, Printer, Report, bytes_of, read_part, shift};
+use play_script::{Form, Kind, Line, OUTPUT, Printer, Report, bytes_of, read_part, shift_column};
 use script_loop::{Answers, Buffer, HELD, Sink};
 
 /// The player of a script.
@@ -166,9 +166,10 @@ impl<T: Sink + Drop> Player<T> {
         match read_part(line, part, &mut self.reader, &mut self.line) {
             Kind::Nothing => {}
             Kind::TooLong => self.printer.put_too_long(text),
-            Kind::Faulty(slip) => {
+            Kind::Faulty(syntax_error) => {
                 let before = (line.len() - part.len()) as u64;
-                self.printer.put_slip(text, shift(slip, before));
+                self.printer
+                    .put_syntax_error(text, shift_column(syntax_error, before));
             }
             Kind::Asks => {
                 self.hosts.wait(timed.ticks);
@@ -205,7 +206,7 @@ impl<T: Sink + Drop> Answers<OUTPUT> for Player<T> {
         self.hosts.log.set_line(number, form);
         match read_time(line) {
             Ok(timed) => self.execute_timed(line, timed, text),
-            Err(slip) => self.printer.put_slip(text, slip),
+            Err(syntax_error) => self.printer.put_syntax_error(text, syntax_error),
         }
     }
 }

@@ -134,12 +134,12 @@ fn has_bytes(rt: &impl Abort, pool: &mut Pool, table: &Reass, chain: Chain, byte
     requires ready { IsReady pool.old table.now }
     ensures { IsReady pool.new table.now }
 {
-    let mut room = [0; 64];
+    let mut buffer = [0; 64];
     let len = pool.len(&chain) as usize;
     assert!(rt; len <= 64);
-    m_copydata(pool, &chain, 0, &mut room[..len]);
+    m_copydata(pool, &chain, 0, &mut buffer[..len]);
     pool.free_chain(chain);
-    room.get(..len) == Some(bytes)
+    buffer.get(..len) == Some(bytes)
 }
 
 /// Returns whether this happens to a packet that arrives.

@@ -79,8 +79,8 @@ fn connect_of(rest: Option<&[u8]>) -> Option<Request<'static>>
     Some(Request::Connect(fd, end))
 }
 
-fn sendto_of<'a>(rest: Option<&[u8]>, room: &'a mut [u8]) -> Option<Request<'a>>
-    requires { length room.old ≡ IP_MAX_PACKET }
+fn sendto_of<'a>(rest: Option<&[u8]>, buffer: &'a mut [u8]) -> Option<Request<'a>>
+    requires { length buffer.old ≡ IP_MAX_PACKET }
     ensures form { ReadsForm line.SendTo (left rest.entry) result }
     ensures fits { IfSome result (λ request. room_of request ≤ IP_MAX_PACKET) }
 {
@@ -88,19 +88,19 @@ fn sendto_of<'a>(rest: Option<&[u8]>, room: &'a mut [u8]) -> Option<Request<'a>>
     let (ip, port, data) = three(rest)?;
     let fd = number(fd, u32::MAX)?;
     let end = end_of(ip, port)?;
-    let len = bytes(data, room)?;
-    Some(Request::Send(fd, Some(end), &room[..len]))
+    let len = bytes(data, buffer)?;
+    Some(Request::Send(fd, Some(end), &buffer[..len]))
 }
 
-fn send_of<'a>(rest: Option<&[u8]>, room: &'a mut [u8]) -> Option<Request<'a>>
-    requires { length room.old ≡ IP_MAX_PACKET }
+fn send_of<'a>(rest: Option<&[u8]>, buffer: &'a mut [u8]) -> Option<Request<'a>>
+    requires { length buffer.old ≡ IP_MAX_PACKET }
     ensures form { ReadsForm line.Send (left rest.entry) result }
     ensures fits { IfSome result (λ request. room_of request ≤ IP_MAX_PACKET) }
 {
     let (fd, data) = two(rest)?;
     let fd = number(fd, u32::MAX)?;
-    let len = bytes(data, room)?;
-    Some(Request::Send(fd, None, &room[..len]))
+    let len = bytes(data, buffer)?;
+    Some(Request::Send(fd, None, &buffer[..len]))
 }
 
 fn receive_of(rest: Option<&[u8]>) -> Option<Request<'static>>
@@ -135,19 +135,19 @@ fn set_option_of(rest: Option<&[u8]>) -> Option<Request<'static>>
     Some(Request::SetOption(fd, option, on))
 }
 
-fn packet_of<'a>(rest: Option<&[u8]>, room: &'a mut [u8]) -> Option<Request<'a>>
-    requires { length room.old ≡ IP_MAX_PACKET }
+fn packet_of<'a>(rest: Option<&[u8]>, buffer: &'a mut [u8]) -> Option<Request<'a>>
+    requires { length buffer.old ≡ IP_MAX_PACKET }
     ensures form { ReadsForm line.Rx (left rest.entry) result }
     ensures fits { IfSome result (λ request. room_of request ≤ IP_MAX_PACKET) }
 {
     let word = one(rest)?;
-    let len = bytes(word, room)?;
-    Some(Request::Packet(&room[..len]))
+    let len = bytes(word, buffer)?;
+    Some(Request::Packet(&buffer[..len]))
 }
 
 /// Parses the words after a keyword.
-fn form_of<'a>(word: Keyword, rest: Option<&[u8]>, room: &'a mut [u8]) -> Option<Request<'a>>
-    requires { length room.old ≡ IP_MAX_PACKET }
+fn form_of<'a>(word: Keyword, rest: Option<&[u8]>, buffer: &'a mut [u8]) -> Option<Request<'a>>
+    requires { length buffer.old ≡ IP_MAX_PACKET }
     ensures form { ReadsForm word (left rest.entry) result }
     ensures fits { IfSome result (λ request. room_of request ≤ IP_MAX_PACKET) }
 {
@@ -155,12 +155,12 @@ fn form_of<'a>(word: Keyword, rest: Option<&[u8]>, room: &'a mut [u8]) -> Option
         Keyword::Socket => alone(rest, Request::Socket),
         Keyword::Bind => bind_of(rest),
         Keyword::Connect => connect_of(rest),
-        Keyword::SendTo => sendto_of(rest, room),
-        Keyword::Send => send_of(rest, room),
+        Keyword::SendTo => sendto_of(rest, buffer),
+        Keyword::Send => send_of(rest, buffer),
         Keyword::RecvFrom => receive_of(rest),
         Keyword::Close => close_of(rest),
         Keyword::SetSockOpt => set_option_of(rest),
-        Keyword::Rx => packet_of(rest, room),
+        Keyword::Rx => packet_of(rest, buffer),
         Keyword::Tx => alone(rest, Request::Transmit),
         Keyword::Tick => alone(rest, Request::Tick),
         Keyword::Stat => alone(rest, Request::Counters),
@@ -169,8 +169,8 @@ fn form_of<'a>(word: Keyword, rest: Option<&[u8]>, room: &'a mut [u8]) -> Option
 }
 
 /// Returns the request of the line, if the line is well-formed.
-pub fn request_of<'a>(line: &[u8], room: &'a mut [u8]) -> Option<Request<'a>>
-    requires { length room.old ≡ IP_MAX_PACKET }
+pub fn request_of<'a>(line: &[u8], buffer: &'a mut [u8]) -> Option<Request<'a>>
+    requires { length buffer.old ≡ IP_MAX_PACKET }
     ensures event { MatchOption result ((event : Event) → Asks all_events line.now event → ⊥)
         (λ request. Asks all_events line.now (event_of request)) }
     ensures fits { IfSome result (λ request. room_of request ≤ IP_MAX_PACKET) }
@@ -180,5 +180,5 @@ pub fn request_of<'a>(line: &[u8], room: &'a mut [u8]) -> Option<Request<'a>>
     }
     let (word, rest) = first_word(line);
     let word = keyword_of(word)?;
-    form_of(word, rest, room)
+    form_of(word, rest, buffer)
 }

@@ -20,7 +20,7 @@ pub struct LineBuffers {
 }
 
 /// Allocates memory of this many bytes.
-fn room(alloc: Global, len: usize) -> Result<Vec<u8>, AllocError>
+fn buffer(alloc: Global, len: usize) -> Result<Vec<u8>, AllocError>
     ensures { IfOk result (λ bytes. vec_len bytes ≡ len) }
 {
     vec![in alloc; 0; len]
@@ -30,8 +30,8 @@ impl LineBuffers {
     /// Allocates all the memory. Returns `AllocError` only if the host refuses a part of it.
     pub fn new(alloc: Global) -> Result<LineBuffers, AllocError> {
         Ok(LineBuffers {
-            bytes: room(alloc, MOST_BYTES)?,
-            digits: room(alloc, 2 * MOST_BYTES)?,
+            bytes: buffer(alloc, MOST_BYTES)?,
+            digits: buffer(alloc, 2 * MOST_BYTES)?,
         })
     }
 }

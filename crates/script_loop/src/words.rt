@@ -85,23 +85,23 @@ pub fn number(word: &[u8], most: u32) -> Option<u32>
     Some(value)
 }
 
-/// Decodes a word into `room`, which has exactly 65,535 bytes, and returns the number of bytes: `-` for none, or two
+/// Decodes a word into `buffer`, which has exactly 65,535 bytes, and returns the number of bytes: `-` for none, or two
 /// hexadecimal digits of either case for each of 1 to 65,535 bytes. Returns `None` for any other word; the contents of
-/// `room` may be lost then.
-pub fn bytes(word: &[u8], room: &mut [u8]) -> Option<usize>
-    requires { length room.old ≡ IP_MAX_PACKET }
+/// `buffer` may be lost then.
+pub fn bytes(word: &[u8], buffer: &mut [u8]) -> Option<usize>
+    requires { length buffer.old ≡ IP_MAX_PACKET }
     ensures bytes { MatchOption result ((xs : List ℕ) → IsHex word.now xs → ⊥)
-        (λ n. IsHex word.now (take n room.new)) }
+        (λ n. IsHex word.now (take n buffer.new)) }
     ensures fits { IfSome result (λ n. n ≤ IP_MAX_PACKET) }
 {
     if word == b"-".as_slice() {
         return Some(0);
     }
     let len = word.len() / 2;
-    if len == 0 || len > room.len() {
+    if len == 0 || len > buffer.len() {
         return None;
     }
-    match hex::decode_to_slice(word, &mut room[..len]) {
+    match hex::decode_to_slice(word, &mut buffer[..len]) {
         Ok(()) => Some(len),
         Err(_) => None,
     }

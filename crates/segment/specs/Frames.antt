@@ -21,7 +21,7 @@ use Rattle.net_stack.specs.declared.stack.BootFault.TheVariants.{Memory}
 use Rattle.segment.specs.Chances.{entering, no_chances}
 use Rattle.segment.specs.Flying.{Flying, flying_aged, is_early, sent_by}
 use Rattle.segment.specs.Segment.{SegmentView, AtEach, are_apart, leaving}
-use Rattle.segment.specs.Tallies.{hears, nothing_counted, tallied}
+use Rattle.segment.specs.Tallies.{with_received, nothing_counted, tallied}
 use Rattle.segment.specs.declared.links.TheConstants.{FRAMES}
 use Rattle.segment.specs.declared.segment.JoinFault.{JoinFault}
 use Rattle.segment.specs.declared.segment.JoinFault.TheVariants.{TooManyHosts, AddressTaken, Unbooted, OtherLink, MacTaken, BadLink}
@@ -88,9 +88,9 @@ abbrev pub frames_to : ℕ → Mac → List Flying → List (List ℕ)
 frames_to place mac flight =
     filter_map (λ (f : Flying). if frame_goes_to place mac f then Some f.packet else None) flight
 
-abbrev pub frames_heard : ℕ → Option LinkState → List Flying → List (List ℕ)
-frames_heard place None flight = []
-frames_heard place (Some l) flight = frames_to place l.link.mac flight
+abbrev pub frames_received : ℕ → Option LinkState → List Flying → List (List ℕ)
+frames_received place None flight = []
+frames_received place (Some l) flight = frames_to place l.link.mac flight
 
 -- a frame arrives at a host
 abbrev pub FrameComes : List ℕ → Host → Host → Type 0
@@ -111,7 +111,7 @@ pub record AreFramesDelivered (old new : SegmentView) : Type 0 where
   pub flight : new.flight ≡ map flying_aged (filter is_early old.flight)
   pub random : new.random ≡ (leaving old).1
   pub tallies : AtEach (λ place t u. u
-      ≡ hears (length (frames_heard place (slice_get old.links place) (leaving old).0)) t) old.tallies new.tallies
+      ≡ with_received (length (frames_received place (slice_get old.links place) (leaving old).0)) t) old.tallies new.tallies
   pub hosts : AtEach (λ place h k. ReceiveEach (frames_to place h.link.link.mac (leaving old).0) h k)
       (hosts_in old) (hosts_in new)
 

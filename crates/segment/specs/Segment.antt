@@ -15,7 +15,7 @@ use Rattle.rand_pcg.specs.Lcg.{Lcg}
 use Rattle.segment.specs.declared.chances.Chances.{Chances}
 use Rattle.segment.specs.Flying.{Flying, flying_aged, comes, transmits_of, is_due, is_early, received, sent_by, waiting}
 use Rattle.segment.specs.declared.tally.Tally.{Tally}
-use Rattle.segment.specs.Tallies.{hears, nothing_counted, tallied}
+use Rattle.segment.specs.Tallies.{with_received, nothing_counted, tallied}
 use Rattle.segment.specs.Chances.{entering, no_chances, seeded, shuffled}
 
 -- its hosts by their places, the links of those that are on an Ethernet, what is under way, the capacity for packets
@@ -101,7 +101,7 @@ pub record HasComeDue (old new : SegmentView) : Type 0 where
   pub flight : new.flight ≡ map flying_aged (filter is_early old.flight)
   pub random : new.random ≡ (leaving old).1
   pub tallies : AtEach (λ place t u. u
-      ≡ hears (length (received_in place (slice_get old.configs place) (leaving old).0)) t) old.tallies new.tallies
+      ≡ with_received (length (received_in place (slice_get old.configs place) (leaving old).0)) t) old.tallies new.tallies
   pub hosts : AtEach (λ place s t. AreCalls s (comes (received_in place (slice_get old.configs place) (leaving old).0))
       t) old.stacks new.stacks
 

@@ -20,8 +20,8 @@ tally_counted (Once wait) t = record t { sent = more_by 1 t.sent }
 tally_counted (Twice first second) t = record t { sent = more_by 1 t.sent; repeated = more_by 1 t.repeated }
 
 -- this many packets arrived
-abbrev pub hears : ℕ → Tally → Tally
-hears packets t = record t { received = more_by packets t.received }
+abbrev pub with_received : ℕ → Tally → Tally
+with_received packets t = record t { received = more_by packets t.received }
 
 -- with the count at a place changed by this function, if there is one
 abbrev pub set_if : List Tally → ℕ → Fate → Option Tally → List Tally

@@ -4,9 +4,9 @@ ghost use Rattle.params.specs.declared.TheConstants.{MAX_MTU};
 ghost use Rattle.ether_host.specs.Inside.{link_seen};
 ghost use Rattle.ether_host.specs.View.{halves};
 ghost use Rattle.segment.specs.Flying.{sent_by};
-ghost use Rattle.segment.specs.Frames.{AreFramesCollected, AreFramesDelivered, ReceiveEach, frames_below, frames_given, frames_heard, frames_to, gives_short, hosts_of};
+ghost use Rattle.segment.specs.Frames.{AreFramesCollected, AreFramesDelivered, ReceiveEach, frames_below, frames_given, frames_received, frames_to, gives_short, hosts_of};
 ghost use Rattle.segment.specs.Segment.{AtEach};
-ghost use Rattle.segment.specs.Tallies.{hears};
+ghost use Rattle.segment.specs.Tallies.{with_received};
 ghost use Rattle.segment.specs.Inside.{sent_after, flying, random_after, tallies_after, under_way, view};
 
 use crate::chances::Impairment;
@@ -141,8 +141,8 @@ fn count_to(due: &[Frame], place: usize, mac: Mac) -> u64
 }
 
 /// How many of these frames are for the host at a place.
-fn heard(due: &[Frame], place: usize, links: &[LinkLayer]) -> u64
-    ensures { result ≡ length (frames_heard place (slice_get (map link_seen links.now) place) (map flying due.now)) }
+fn received_count(due: &[Frame], place: usize, links: &[LinkLayer]) -> u64
+    ensures { result ≡ length (frames_received place (slice_get (map link_seen links.now) place) (map flying due.now)) }
 {
     match links.get(place) {
         Some(link) => count_to(due, place, link.link().mac),
@@ -153,12 +153,12 @@ fn heard(due: &[Frame], place: usize, links: &[LinkLayer]) -> u64
 /// Counts at each host the frames that arrive at it.
 fn count_frames(due: &[Frame], links: &[LinkLayer], tallies: &mut Vec<Tally>)
     ensures { AtEach (λ place t u.
-        u ≡ hears (length (frames_heard place (slice_get (map link_seen links.now) place) (map flying due.now))) t)
+        u ≡ with_received (length (frames_received place (slice_get (map link_seen links.now) place) (map flying due.now))) t)
         tallies.old.items tallies.new.items }
 {
     for place in 0..tallies.len() {
-        let frames = heard(due, place, links);
-        tallies[place] = tallies[place].hears(frames);
+        let frames = received_count(due, place, links);
+        tallies[place] = tallies[place].with_received(frames);
     }
 }
 
@@ -174,9 +174,9 @@ fn hand_over<W: Watch>(
     ensures { ReceiveEach (frame.now ∷ []) (halves stack.old (link_seen link.old))
         (halves stack.new (link_seen link.new)) }
 {
-    watch.comes(at.number, at.place, stack, link.tallies());
+    watch.arriving(at.number, at.place, stack, link.tallies());
     link.receive(stack, frame);
-    watch.came(at.number, at.place, stack, link.tallies());
+    watch.arrived(at.number, at.place, stack, link.tallies());
 }
 
 /// Passes to the host at a place all of these frames that are for it.

@@ -100,7 +100,7 @@ impl Segment {
         requires { length frame.now ≤ ETHER_HEADER + IP_MAX_PACKET }
         ensures is { result
             ≡ nat_lt place (length (view self.old).stacks) && nat_lt place (length (view self.old).links) }
-        ensures heard { Choice result (HasReceived place frame.now (view self.old) (view self.new))
+        ensures received { Choice result (HasReceived place frame.now (view self.old) (view self.new))
             (view self.new ≡ view self.old) }
     {
         if place >= self.stacks.len() || place >= self.links.len() {

@@ -1,7 +1,7 @@
 //! The counters of each host's packets.
 ghost use Rattle.std.specs.Prelude.{◌≡◌, length, map, slice_get};
 ghost use Rattle.segment.specs.Flying.{received};
-ghost use Rattle.segment.specs.Tallies.{tally_counted, with_tally, hears};
+ghost use Rattle.segment.specs.Tallies.{tally_counted, with_tally, with_received};
 ghost use Rattle.segment.specs.Segment.{AtEach, received_in};
 ghost use Rattle.segment.specs.Inside.{flying};
 
@@ -47,8 +47,8 @@ impl Tally {
     }
 
     /// This many more packets arrived.
-    pub(crate) fn hears(self, packets: u64) -> Tally
-        ensures { result ≡ hears packets self }
+    pub(crate) fn with_received(self, packets: u64) -> Tally
+        ensures { result ≡ with_received packets self }
     {
         let received = self.received.saturating_add(packets);
         Tally { received, ..self }
@@ -78,7 +78,7 @@ fn count_to(due: &[Frame], place: usize, config: &Config) -> u64
 }
 
 /// How many of these packets are for the host at a place.
-fn heard(due: &[Frame], place: usize, configs: &[Config]) -> u64
+fn received_count(due: &[Frame], place: usize, configs: &[Config]) -> u64
     ensures { result ≡ length (received_in place (slice_get configs.now place) (map flying due.now)) }
 {
     match configs.get(place) {
@@ -90,11 +90,11 @@ fn heard(due: &[Frame], place: usize, configs: &[Config]) -> u64
 /// Counts at each host the packets that arrive at it.
 pub(crate) fn count_all(due: &[Frame], configs: &[Config], tallies: &mut Vec<Tally>)
     ensures { AtEach (λ place t u.
-        u ≡ hears (length (received_in place (slice_get configs.now place) (map flying due.now))) t)
+        u ≡ with_received (length (received_in place (slice_get configs.now place) (map flying due.now))) t)
         tallies.old.items tallies.new.items }
 {
     for place in 0..tallies.len() {
-        let packets = heard(due, place, configs);
-        tallies[place] = tallies[place].hears(packets);
+        let packets = received_count(due, place, configs);
+        tallies[place] = tallies[place].with_received(packets);
     }
 }

@@ -16,10 +16,10 @@ pub trait Watch {
 
     /// The due packet with this number is about to arrive at the host at a place, which has this stack. If the host has
     /// no link, the link's counters are 0.
-    fn comes(&mut self, number: usize, place: usize, stack: &Stack, link: Tallies);
+    fn arriving(&mut self, number: usize, place: usize, stack: &Stack, link: Tallies);
 
     /// It has arrived, and this is the stack now.
-    fn came(&mut self, number: usize, place: usize, stack: &Stack, link: Tallies);
+    fn arrived(&mut self, number: usize, place: usize, stack: &Stack, link: Tallies);
 }
 
 /// No watcher.
@@ -31,7 +31,7 @@ impl Watch for NoWatcher {
 
     fn due(&mut self, _number: usize, _sender: usize, _packet: &[u8]) {}
 
-    fn comes(&mut self, _number: usize, _place: usize, _stack: &Stack, _link: Tallies) {}
+    fn arriving(&mut self, _number: usize, _place: usize, _stack: &Stack, _link: Tallies) {}
 
-    fn came(&mut self, _number: usize, _place: usize, _stack: &Stack, _link: Tallies) {}
+    fn arrived(&mut self, _number: usize, _place: usize, _stack: &Stack, _link: Tallies) {}
 }

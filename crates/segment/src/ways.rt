@@ -79,9 +79,9 @@ fn hand_over<W: Watch>(stack: &mut Stack, packet: &[u8], at: Arrival, watch: &mu
     requires { length packet.now ≤ MAX_MTU }
     ensures { AreCalls stack.old (comes (packet.now ∷ [])) stack.new }
 {
-    watch.comes(at.number, at.place, stack, Tallies::default());
+    watch.arriving(at.number, at.place, stack, Tallies::default());
     stack.rx(packet);
-    watch.came(at.number, at.place, stack, Tallies::default());
+    watch.arrived(at.number, at.place, stack, Tallies::default());
 }
 
 /// Passes to the host at a place all of these packets that are for it.

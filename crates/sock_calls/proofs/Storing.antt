@@ -11,7 +11,7 @@ use Rattle.flat_model.specs.Amounts.Layout.{is_cluster, laid_on, need_of, wire}
 use Rattle.flat_model.specs.Machine.State.{State, Socket, Unfinished, ends}
 use Rattle.flat_model.specs.Machine.Count.{counted}
 use Rattle.flat_model.specs.Machine.Ledger.{AreTaken, IsFree, exact_ledger}
-use Rattle.flat_model.specs.Machine.Arrival.{Delivers, GoesTo, hearers}
+use Rattle.flat_model.specs.Machine.Arrival.{Delivers, GoesTo, matching_sockets}
 use Rattle.flat_model.specs.declared.address.Addr.{Addr}
 use Rattle.flat_model.specs.declared.counters.Counters.{Counters}
 use Rattle.flat_model.specs.declared.lookup_key.LookupKey.{LookupKey}
@@ -184,7 +184,7 @@ delivers_whole {p} {q} {r} {t} {u} {bs} {cs} {us} {vs} {ws} {xs} {ys} {zs} {c} {
           let five = subst (λ (l : List Socket). GoesTo exact_ledger nothing from item to.ip l mid new)
           (sym (matching.sockets (record rest { unfinished = vs; counters = c }) (queues_of q bs))) four in
           let six = subst (λ (m : State). GoesTo exact_ledger nothing from item to.ip
-          (hearers m to.ip (packet_key to.ip to.port from)) m new) (now rest) five in (
+          (matching_sockets m to.ip (packet_key to.ip to.port from)) m new) (now rest) five in (
             stored.clusters,
             taken packet a stored.free stored.number,
             arrives_as packet end from to item.weight old new checked six,
@@ -230,7 +230,7 @@ ends_whole : {p : PoolView} {t : Table} {bs : List SockBufView} {us : List Unfin
     → IsChecked packet end from to → Has p (wire (length packet)) → e ≡ counted why c
     → ((rest : State) (w : Weight) → (let old : State = with_net p (record { pcbs = t; queues = bs }) us c rest in
     GoesTo exact_ledger nothing from (record { bytes = drop 28 (take end packet); weight = w }) to.ip
-    (hearers old to.ip (packet_key to.ip to.port from)) old (ends why old)))
+    (matching_sockets old to.ip (packet_key to.ip to.port from)) old (ends why old)))
     → DeliversWhole (seen p (record { pcbs = t; queues = bs }) us xs c) packet
     (seen p (record { pcbs = t; queues = bs }) us xs e)
 ends_whole {p} {t} {bs} {us} {xs} {c} {e} {end} {packet} {from} {to} why socks checked has is_e goes =
@@ -268,7 +268,7 @@ unmatched_ends {p} {t} {bs} {us} {xs} {fds} {c} {e} {end} {packet} {from} {to} w
     ends_whole why socks checked has is_e (λ rest w.
     let old : State = with_net p (record { pcbs = t; queues = bs }) us c rest in
     let item : Item = record { bytes = drop 28 (take end packet); weight = w } in
-    let nobody : hearers old to.ip (packet_key to.ip to.port from) ≡ [] =
+    let nobody : matching_sockets old to.ip (packet_key to.ip to.port from) ≡ [] =
     matching.sockets (record rest { unfinished = us; counters = c }) (queues_of p bs)
     ∙ none_found (queues_of p bs) matching.found
     (omega (arith, none, ap (λ (l : List ℕ). length l) matching.named)) in
@@ -309,7 +309,7 @@ full_ends {p} {t} {bs} {us} {xs} {fds} {c} {e} {end} {fd} {packet} {from} {to} s
     let item : Item = record { bytes = drop 28 (take end packet); weight = w } in
     let f : Queues = queues_of p bs in
     let only = only_found f matching.found fd (sym matching.named ∙ one) in
-    let lone : hearers old to.ip (packet_key to.ip to.port from) ≡ socket_with f only.0 ∷ [] =
+    let lone : matching_sockets old to.ip (packet_key to.ip to.port from) ≡ socket_with f only.0 ∷ [] =
     matching.sockets (record rest { unfinished = us; counters = c }) f ∙ only.2 in
     subst (λ (l : List Socket). GoesTo exact_ledger nothing from item to.ip l old (ends UdpFullSocket old)) (sym lone)
     (record {

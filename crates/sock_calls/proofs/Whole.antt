@@ -18,7 +18,7 @@ use Rattle.flat_model.specs.Sockets.Lookup.{best, receivers}
 use Rattle.flat_model.specs.Machine.State.{State, Socket, Datagram, change_socket, ends}
 use Rattle.flat_model.specs.Machine.Ledger as state
 use Rattle.flat_model.specs.Machine.Ledger.{IsFree, exact_ledger, has_enough, need_mbufs}
-use Rattle.flat_model.specs.Machine.Arrival.{Appends, GoesTo, WholeArrives, hearers, with_datagram}
+use Rattle.flat_model.specs.Machine.Arrival.{Appends, GoesTo, WholeArrives, matching_sockets, with_datagram}
 use Rattle.flat_model.proofs.Laws.{count_cons}
 use Rattle.mbuf_chain.specs.Chain.{PoolView, references}
 use Rattle.ledger.specs.Accounts.{IsAccounted}
@@ -75,19 +75,19 @@ bag p false (Some c) n h = absurd h
 -- It arrives as its data are delivered, whatever buffers it takes.
 pub arrives_as : (packet : List ℕ) (end : ℕ) (from to : Addr) (w : Weight) (old new : State) → IsChecked packet end from to
     → GoesTo exact_ledger nothing from (record { bytes = drop 28 (take end packet); weight = w }) to.ip
-    (hearers old to.ip (packet_key to.ip to.port from)) old new
+    (matching_sockets old to.ip (packet_key to.ip to.port from)) old new
     → ArrivesWhole packet (record { bytes = carried_of packet; weight = w }) old new
 arrives_as packet end from to w old new is one =
     let s : List ℕ = carried_of packet in
     let two = subst (λ (n : ℕ). GoesTo exact_ledger nothing from (record { bytes = drop 28 (take end packet); weight = w })
-    to.ip (hearers old to.ip (packet_key to.ip n from)) old new) (sym is.port) one in
+    to.ip (matching_sockets old to.ip (packet_key to.ip n from)) old new) (sym is.port) one in
     let three = subst (λ (n : ℕ). GoesTo exact_ledger nothing (record { ip = from.ip; port = n })
     (record { bytes = drop 28 (take end packet); weight = w }) to.ip
-    (hearers old to.ip (packet_key to.ip (u16_at 2 s) (record { ip = from.ip; port = n }))) old new)
+    (matching_sockets old to.ip (packet_key to.ip (u16_at 2 s) (record { ip = from.ip; port = n }))) old new)
     (sym is.source_port) two in
     let goes = subst (λ (xs : List ℕ). GoesTo exact_ledger nothing (record { ip = from.ip; port = u16_at 0 s })
     (record { bytes = xs; weight = w }) to.ip
-    (hearers old to.ip (packet_key to.ip (u16_at 2 s) (record { ip = from.ip; port = u16_at 0 s }))) old new)
+    (matching_sockets old to.ip (packet_key to.ip (u16_at 2 s) (record { ip = from.ip; port = u16_at 0 s }))) old new)
     (sym is.bytes) three in
     let whole : WholeArrives exact_ledger nothing from.ip to.ip 17 (record { bytes = s; weight = w }) old new = record {
       yes = λ _. record { none = λ _. goes; some = λ why e. absurd (none-some why (sym is.faultless ∙ e)) };
@@ -122,7 +122,7 @@ module _ (p : PoolView) (t : Table) (bs : List SockBufView) (packet : List ℕ) 
   abbrev f : Queues
   f = queues_of p bs
 
-  matching_are : (rest : State) → hearers (machine rest f t) to.ip (packet_key to.ip to.port from)
+  matching_are : (rest : State) → matching_sockets (machine rest f t) to.ip (packet_key to.ip to.port from)
       ≡ option_to_list (best (packet_key to.ip to.port from) (sockets_with f t))
   matching_are rest = λ i. cond (one i) (receivers (packet_key to.ip to.port from) (sockets_with f t))
       (option_to_list (best (packet_key to.ip to.port from) (sockets_with f t)))
@@ -131,7 +131,7 @@ module _ (p : PoolView) (t : Table) (bs : List SockBufView) (packet : List ℕ) 
       → EndsWhole p (record { pcbs = t; queues = bs }) packet UdpNoPort
   unmatched found = λ rest w.
       let old : State = machine rest f t in
-      let none : hearers old to.ip (packet_key to.ip to.port from) ≡ [] =
+      let none : matching_sockets old to.ip (packet_key to.ip to.port from) ≡ [] =
       matching_are rest ∙ ap option_to_list (found f) in
       arrives_as packet end from to w old (ends UdpNoPort old) checked
       (subst (λ (l : List Socket). GoesTo exact_ledger nothing from
@@ -139,7 +139,7 @@ module _ (p : PoolView) (t : Table) (bs : List SockBufView) (packet : List ℕ) 
       (ap (λ (b : Bool). ends (cond b UdpNoPortBroadcast UdpNoPort) old) (sym one)))
 
   matched : {fd : ℕ} (rest : State) (found : Finds (best (packet_key to.ip to.port from)) t (Some fd))
-      → hearers (machine rest f t) to.ip (packet_key to.ip to.port from) ≡ socket_with f found.0 ∷ []
+      → matching_sockets (machine rest f t) to.ip (packet_key to.ip to.port from) ≡ socket_with f found.0 ∷ []
   matched rest found = matching_are rest ∙ ap option_to_list (found.3 f)
 
   pub full : {fd : ℕ} → Finds (best (packet_key to.ip to.port from)) t (Some fd)

@@ -51,8 +51,8 @@ fn in_mbuf(pool: &mut Pool, headers: &[u8; IP_UDP_HEADERS as usize], bytes: &[u8
     ensures stored { IsStored pool.old bytes.now pool.new result }
     ensures string { string (chain_of pool.new result) ≡ headers.now ++ bytes.now }
 {
-    let room = (bytes.len() as u32 + 3) / 4 * 4;
-    let Ok(chain) = pool.new_plain_with(true, MSIZE - IP_UDP_HEADERS - room, headers) else {
+    let buffer = (bytes.len() as u32 + 3) / 4 * 4;
+    let Ok(chain) = pool.new_plain_with(true, MSIZE - IP_UDP_HEADERS - buffer, headers) else {
         unreachable!()
     };
     let at = pool.first(&chain);

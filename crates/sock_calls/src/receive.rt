@@ -15,22 +15,22 @@ use params::MAX_SOCKETS;
 use pcb_table::Pcbs;
 use sockbuf::SockBuf;
 
-/// Removes the oldest datagram of a queue, and copies as many of its bytes as fit into `room`; the others are lost.
+/// Removes the oldest datagram of a queue, and copies as many of its bytes as fit into `buffer`; the others are lost.
 /// Returns the sender and the number of bytes copied; `None` if the queue is empty.
-fn take_oldest(pool: &mut Pool, queue: &mut SockBuf, room: &mut [u8]) -> Option<(Addr, usize)>
+fn take_oldest(pool: &mut Pool, queue: &mut SockBuf, buffer: &mut [u8]) -> Option<(Addr, usize)>
     requires ready { IsSockBuf pool.old queue.old }
     ensures taken { MatchOption result ((datagrams pool.old queue.old ≡ []) × (datagrams pool.new queue.new ≡ []))
         (λ found. (d : Datagram) × (datagrams pool.old queue.old ≡ d ∷ datagrams pool.new queue.new)
-        × (found.0 ≡ d.sender) × (take found.1 room.new ≡ take (length room.old) d.item.bytes)) }
-    ensures within { MatchOption result (Unit {0}) (λ found. found.1 ≤ length room.new) }
-    ensures same { IfNone result (room.new ≡ room.old) }
-    ensures rest { IfSome result (λ found. drop found.1 room.new ≡ drop found.1 room.old) }
+        × (found.0 ≡ d.sender) × (take found.1 buffer.new ≡ take (length buffer.old) d.item.bytes)) }
+    ensures within { MatchOption result (Unit {0}) (λ found. found.1 ≤ length buffer.new) }
+    ensures same { IfNone result (buffer.new ≡ buffer.old) }
+    ensures rest { IfSome result (λ found. drop found.1 buffer.new ≡ drop found.1 buffer.old) }
     ensures ready { IsSockBuf pool.new queue.new }
     ensures moves { Moves pool.old (chains_of pool.old queue.old) pool.new (chains_of pool.new queue.new) }
 {
     let (sender, chain) = queue.take(pool)?;
-    let len = (pool.len(&chain) as usize).min(room.len());
-    m_copydata(pool, &chain, 0, &mut room[..len]);
+    let len = (pool.len(&chain) as usize).min(buffer.len());
+    m_copydata(pool, &chain, 0, &mut buffer[..len]);
     pool.free_chain(chain);
     Some((sender, len))
 }
@@ -52,7 +52,7 @@ impl ReceiveQueues {
         &mut self,
         pool: &mut Pool,
         place: usize,
-        room: &mut [u8],
+        buffer: &mut [u8],
     ) -> Option<(Addr, usize)>
         requires each { (k : ℕ) → IsSockBuf pool.old (queue_at self.old k) }
         requires owned { IsOwned pool.old (queued_chains pool.old self.old) }
@@ -61,12 +61,12 @@ impl ReceiveQueues {
         ensures taken { MatchOption result
             ((queues_of pool.old self.old place ≡ []) × (queues_of pool.new self.new place ≡ []))
             (λ found. (d : Datagram) × (queues_of pool.old self.old place ≡ d ∷ queues_of pool.new self.new place)
-            × (found.0 ≡ d.sender) × (take found.1 room.new ≡ take (length room.old) d.item.bytes)) }
-        ensures within { MatchOption result (Unit {0}) (λ found. found.1 ≤ length room.new) }
-        ensures same { IfNone result (room.new ≡ room.old) }
-        ensures rest { IfSome result (λ found. drop found.1 room.new ≡ drop found.1 room.old) }
+            × (found.0 ≡ d.sender) × (take found.1 buffer.new ≡ take (length buffer.old) d.item.bytes)) }
+        ensures within { MatchOption result (Unit {0}) (λ found. found.1 ≤ length buffer.new) }
+        ensures same { IfNone result (buffer.new ≡ buffer.old) }
+        ensures rest { IfSome result (λ found. drop found.1 buffer.new ≡ drop found.1 buffer.old) }
     {
-        take_oldest(pool, &mut self.queues[place], room)
+        take_oldest(pool, &mut self.queues[place], buffer)
     }
 
     /// Frees all datagrams in the queue at index `place`.

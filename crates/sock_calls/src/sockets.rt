@@ -249,25 +249,25 @@ impl Socks {
         self.parts.send_any(pool, net, fd, to, bytes)
     }
 
-    /// Removes the oldest datagram from a socket's queue, copies as many of its bytes as fit into `room`, and returns
+    /// Removes the oldest datagram from a socket's queue, copies as many of its bytes as fit into `buffer`, and returns
     /// its sender and the number of bytes copied. The other bytes are lost, and all its buffers are freed (`soreceive`
-    /// of volume 2, chapter 16). The rest of `room` is unchanged. It never blocks.
+    /// of volume 2, chapter 16). The rest of `buffer` is unchanged. It never blocks.
     ///
     /// # Errors
     ///
-    /// `BadDescriptor`; `WouldBlock` if no datagram is queued. Nothing changes then, nor does `room`.
+    /// `BadDescriptor`; `WouldBlock` if no datagram is queued. Nothing changes then, nor does `buffer`.
     pub fn recvfrom(
         &mut self,
         pool: &mut Pool,
         fd: u32,
-        room: &mut [u8],
+        buffer: &mut [u8],
     ) -> Result<(Addr, usize), Errno>
         requires ready { IsSocks pool.old self.old }
-        ensures step { (rest : State) → Step (with_sockets pool.old self.old rest) (Receive fd (length room.old))
-            (received_reply result room.new) (with_sockets pool.new self.new rest) }
-        ensures fits { FitsRoom result room.new }
-        ensures same { OnErr result (room.new ≡ room.old) }
-        ensures rest { IfOk result (λ r. drop r.1 room.new ≡ drop r.1 room.old) }
+        ensures step { (rest : State) → Step (with_sockets pool.old self.old rest) (Receive fd (length buffer.old))
+            (received_reply result buffer.new) (with_sockets pool.new self.new rest) }
+        ensures fits { FitsRoom result buffer.new }
+        ensures same { OnErr result (buffer.new ≡ buffer.old) }
+        ensures rest { IfOk result (λ r. drop r.1 buffer.new ≡ drop r.1 buffer.old) }
         ensures ready { IsSocks pool.new self.new }
         ensures moves { Moves pool.old (queued_chains pool.old self.old.queues)
             pool.new (queued_chains pool.new self.new.queues) }
@@ -277,7 +277,7 @@ impl Socks {
             return Err(Errno::BadDescriptor);
         }
         // only an open socket has a queued datagram, so this is tested only if the queue is empty
-        match self.parts.queues.take_at(pool, place_of(fd), room) {
+        match self.parts.queues.take_at(pool, place_of(fd), buffer) {
             Some(taken) => Ok(taken),
             None => Err(refusal(&self.parts.pcbs, fd)),
         }

@@ -45,38 +45,38 @@ fn sent(outcome: Result<usize, Errno>) -> Reply<'static>
     }
 }
 
-/// Receives at most `room.len()` bytes.
+/// Receives at most `buffer.len()` bytes.
 #[tactic(auto, unfolding(crate::specs::Moves::StackSteps))]
-fn receive<'r>(stack: &mut Stack, fd: u32, room: &'r mut [u8]) -> Reply<'r>
-    ensures step { StackSteps (state_of stack.old) (Receive fd (length room.old)) (reply_of result)
+fn receive<'r>(stack: &mut Stack, fd: u32, buffer: &'r mut [u8]) -> Reply<'r>
+    ensures step { StackSteps (state_of stack.old) (Receive fd (length buffer.old)) (reply_of result)
         (state_of stack.new) }
-    ensures len { len_of result ≤ length room.old }
+    ensures len { len_of result ≤ length buffer.old }
 {
-    match stack.recvfrom(fd, room) {
-        Ok((sender, len)) => Reply::Received(sender, &room[..len]),
+    match stack.recvfrom(fd, buffer) {
+        Ok((sender, len)) => Reply::Received(sender, &buffer[..len]),
         Err(errno) => Reply::Refused(errno),
     }
 }
 
 /// Lets the link take the oldest packet.
 #[tactic(auto, unfolding(crate::specs::Moves::StackSteps))]
-fn transmit<'r>(stack: &mut Stack, room: &'r mut [u8]) -> Reply<'r>
-    requires { MAX_MTU ≤ length room.old }
+fn transmit<'r>(stack: &mut Stack, buffer: &'r mut [u8]) -> Reply<'r>
+    requires { MAX_MTU ≤ length buffer.old }
     ensures step { StackSteps (state_of stack.old) Transmit (reply_of result) (state_of stack.new) }
-    ensures len { len_of result ≤ length room.old }
+    ensures len { len_of result ≤ length buffer.old }
 {
     stack.laws();
-    match stack.tx(room) {
-        Some(len) => Reply::Given(Some(&room[..len])),
+    match stack.tx(buffer) {
+        Some(len) => Reply::Given(Some(&buffer[..len])),
         None => Reply::Given(None),
     }
 }
 
-/// Makes the call that a request describes, and returns its reply. The bytes of the reply are at the front of `room`.
+/// Makes the call that a request describes, and returns its reply. The bytes of the reply are at the front of `buffer`.
 #[tactic(auto, unfolding(crate::specs::Moves::StackSteps))]
-pub fn call<'r>(stack: &mut Stack, request: Request<'_>, room: &'r mut [u8]) -> Reply<'r>
+pub fn call<'r>(stack: &mut Stack, request: Request<'_>, buffer: &'r mut [u8]) -> Reply<'r>
     requires fits { room_of request ≤ IP_MAX_PACKET }
-    requires room { length room.old ≡ IP_MAX_PACKET }
+    requires room { length buffer.old ≡ IP_MAX_PACKET }
     ensures step { StackSteps (state_of stack.old) (event_of request.entry) (reply_of result) (state_of stack.new) }
     ensures len { len_of result ≤ IP_MAX_PACKET }
 {
@@ -85,14 +85,14 @@ pub fn call<'r>(stack: &mut Stack, request: Request<'_>, room: &'r mut [u8]) -> 
         Request::Bind(fd, local) => done(stack.bind(fd, local)),
         Request::Connect(fd, peer) => done(stack.connect(fd, peer)),
         Request::Send(fd, to, bytes) => sent(stack.sendto(fd, to, bytes)),
-        Request::Receive(fd, most) => receive(stack, fd, &mut room[..most]),
+        Request::Receive(fd, most) => receive(stack, fd, &mut buffer[..most]),
         Request::Close(fd) => done(stack.close(fd)),
         Request::SetOption(fd, option, on) => done(stack.setsockopt(fd, option, on)),
         Request::Packet(bytes) => {
             stack.rx(bytes);
             Reply::Done
         }
-        Request::Transmit => transmit(stack, room),
+        Request::Transmit => transmit(stack, buffer),
         Request::Tick => {
             stack.tick();
             Reply::Done

@@ -6,7 +6,7 @@ use Rattle.flat_model.specs.declared.lookup_key.LookupKey.{LookupKey}
 use Rattle.flat_model.specs.Amounts.Weight.{times}
 use Rattle.flat_model.specs.Machine.State.{State}
 use Rattle.flat_model.specs.Packets.Header.{udp, udp_fault, udp_bytes, u16_at}
-use Rattle.flat_model.specs.Machine.Arrival.{hearers, no_port}
+use Rattle.flat_model.specs.Machine.Arrival.{matching_sockets, no_port}
 use Rattle.flat_model.specs.declared.address.Addr.{Addr}
 use Rattle.flat_model.specs.declared.counters.Why.{Why}
 use Rattle.flat_model.specs.declared.counters.Why.TheVariants.{NoProtocol}
@@ -51,7 +51,7 @@ pub record AreMatching (t : Table) (destination : ℕ) (q : LookupKey) (fds : Li
   pub once : (fd : ℕ) → times fd fds ≤ 1
   pub are_open : All (λ b. block_at b.fd t ≡ Some b) found
   pub sockets : (rest : State) (queues : Queues)
-      → hearers (machine rest queues t) destination q ≡ map (socket_with queues) found
+      → matching_sockets (machine rest queues t) destination q ≡ map (socket_with queues) found
 
 -- From p to q, chain c became the data of a datagram for these sockets.
 pub record IsForSockets (p : PoolView) (c : ℕ) (h : IpHead) (t : Table) (q : PoolView) (to : List ℕ) (from : Addr)

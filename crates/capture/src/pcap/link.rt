@@ -3,7 +3,7 @@ ghost use Rattle.std.specs.Prelude.{◌≡◌, ◌+◌, ◌≤◌, length};
 ghost use Rattle.std.specs.Int.{w32};
 ghost use Rattle.capture.specs.File.{ReturnsBy, number_of};
 ghost use Rattle.capture.specs.declared.pcap.header.Order.TheVariants.{Big};
-ghost use Rattle.capture.specs.Frames.{behind, by_family, by_protocol, by_version, host_family, packet_in_frame, unpadded, untagged};
+ghost use Rattle.capture.specs.Frames.{after, by_family, by_protocol, by_version, host_family, packet_in_frame, unpadded, untagged};
 
 use crate::pcap::link_type::LinkType;
 use byteorder::{BigEndian, ByteOrder, LittleEndian};
@@ -69,9 +69,9 @@ fn without_tag(protocol: u16, rest: &[u8]) -> Result<(u16, &[u8]), NoPacket>
 }
 
 /// Returns the packet after a protocol and at most two tags.
-#[tactic(auto, unfolding(crate::specs::Frames::behind))]
-fn behind_protocol(protocol: u16, rest: &[u8]) -> Result<&[u8], NoPacket>
-    ensures { ReturnsBy (λ p. p.now) result (behind protocol rest.now) }
+#[tactic(auto, unfolding(crate::specs::Frames::after))]
+fn after_protocol(protocol: u16, rest: &[u8]) -> Result<&[u8], NoPacket>
+    ensures { ReturnsBy (λ p. p.now) result (after protocol rest.now) }
 {
     let (protocol, rest) = without_tag(protocol, rest)?;
     let (protocol, rest) = without_tag(protocol, rest)?;
@@ -89,11 +89,11 @@ fn in_frame(frame: &[u8], at: usize, header: usize) -> Result<&[u8], NoPacket>
     if frame.len() < header {
         return Err(NoPacket::FrameCut);
     }
-    behind_protocol(BigEndian::read_u16(&frame[at..]), &frame[header..])
+    after_protocol(BigEndian::read_u16(&frame[at..]), &frame[header..])
 }
 
 /// Returns the packet after a protocol family in the byte order of some host.
-fn behind_host_family(frame: &[u8]) -> Result<&[u8], NoPacket>
+fn after_host_family(frame: &[u8]) -> Result<&[u8], NoPacket>
     ensures { ReturnsBy (λ p. p.now) result (by_family host_family frame.now) }
 {
     if frame.len() < 4 {
@@ -110,7 +110,7 @@ fn behind_host_family(frame: &[u8]) -> Result<&[u8], NoPacket>
 }
 
 /// Returns the packet after a protocol family with its high byte first.
-fn behind_family(frame: &[u8]) -> Result<&[u8], NoPacket>
+fn after_family(frame: &[u8]) -> Result<&[u8], NoPacket>
     ensures { ReturnsBy (λ p. p.now) result (by_family (number_of Big w32) frame.now) }
 {
     if frame.len() < 4 {
@@ -146,8 +146,8 @@ pub fn ipv4_packet(link: LinkType, frame: &[u8]) -> Result<&[u8], NoPacket>
         LinkType::Ethernet => in_frame(frame, 12, 14),
         LinkType::LinuxCooked => in_frame(frame, 14, 16),
         LinkType::LinuxCooked2 => in_frame(frame, 0, 20),
-        LinkType::Null => behind_host_family(frame),
-        LinkType::Loop => behind_family(frame),
+        LinkType::Null => after_host_family(frame),
+        LinkType::Loop => after_family(frame),
         LinkType::Raw => of_version(frame),
         LinkType::Ipv4 => Ok(without_padding(frame)),
     }

@@ -33,7 +33,7 @@ pub fn first_u32(order: Order, bytes: &[u8]) -> (u32, &[u8])
     requires { 4 ≤ length bytes.now }
     ensures front { bytes.now ≡ number order w32 result.0 ++ result.1.now }
     ensures number { result.0 ≡ number_of order w32 bytes.now }
-    ensures behind { result.1.now ≡ drop 4 bytes.now }
+    ensures after { result.1.now ≡ drop 4 bytes.now }
 {
     (u32_at(order, bytes, 0), &bytes[4..])
 }

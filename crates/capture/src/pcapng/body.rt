@@ -107,7 +107,7 @@ fn ticks_in(order: Order, options: &[u8], most: usize) -> Result<u64, BodyFault>
     let mut left = most;
     'options: while left > 0 {
         match pass_option(order, rest) {
-            Ok(behind) => rest = behind,
+            Ok(after) => rest = after,
             Err(said) => return said,
         }
         left -= 1;

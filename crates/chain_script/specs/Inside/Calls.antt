@@ -7,19 +7,19 @@ use Rattle.chain_script.specs.declared.line.Call.{Call}
 use Rattle.chain_script.specs.declared.line.Call.TheVariants.{User, Wire, Copy, Prepend, PullUp, Adjust, Split, Join, WriteOver, ReadOut, Show, Free, Usage}
 
 abbrev pub request_of : Call → List ℕ → lines.Request
-request_of (User slot len) room = lines.User slot (take len room)
-request_of (Wire slot len) room = lines.Wire slot (take len room)
-request_of (Copy to slot extent) room = lines.Copy to slot extent
-request_of (Prepend slot len) room = lines.Prepend slot (take len room)
-request_of (PullUp slot n) room = lines.Pull_up slot n
-request_of (Adjust slot n) room = lines.Adjust slot n
-request_of (Split to slot at) room = lines.Split to slot at
-request_of (Join slot other) room = lines.Join slot other
-request_of (WriteOver slot off len) room = lines.Write_over slot off (take len room)
-request_of (ReadOut slot off len) room = lines.Read_out slot off len
-request_of (Show slot) room = lines.Show slot
-request_of (Free slot) room = lines.Free slot
-request_of Usage room = lines.Ask_usage
+request_of (User slot len) buffer = lines.User slot (take len buffer)
+request_of (Wire slot len) buffer = lines.Wire slot (take len buffer)
+request_of (Copy to slot extent) buffer = lines.Copy to slot extent
+request_of (Prepend slot len) buffer = lines.Prepend slot (take len buffer)
+request_of (PullUp slot n) buffer = lines.Pull_up slot n
+request_of (Adjust slot n) buffer = lines.Adjust slot n
+request_of (Split to slot at) buffer = lines.Split to slot at
+request_of (Join slot other) buffer = lines.Join slot other
+request_of (WriteOver slot off len) buffer = lines.Write_over slot off (take len buffer)
+request_of (ReadOut slot off len) buffer = lines.Read_out slot off len
+request_of (Show slot) buffer = lines.Show slot
+request_of (Free slot) buffer = lines.Free slot
+request_of Usage buffer = lines.Ask_usage
 
 -- its slots exist, and its numbers are within the limits of a line
 abbrev pub IsSlotCall : Call → Type 0
@@ -43,5 +43,5 @@ IsChainForm name args request = (lines.chain_keyword request ≡ name) × lines.
 
 -- the result of parsing the words after the keyword
 abbrev pub ReadsChainForm : List ℕ → List (List ℕ) → List ℕ → Option Call → Type 0
-ReadsChainForm name args room (Some call) = IsChainForm name args (request_of call room) × IsSlotCall call
-ReadsChainForm name args room None = (request : lines.Request) → IsChainForm name args request → ⊥
+ReadsChainForm name args buffer (Some call) = IsChainForm name args (request_of call buffer) × IsSlotCall call
+ReadsChainForm name args buffer None = (request : lines.Request) → IsChainForm name args request → ⊥

@@ -17,5 +17,5 @@ chain_done_reply (Ok done) = Ready
 chain_done_reply (Err f) = fault_reply f
 
 abbrev pub held_reply : Result Unit Fault → List ℕ → ChainReply
-held_reply (Ok done) room = Held room
-held_reply (Err f) room = fault_reply f
+held_reply (Ok done) buffer = Held buffer
+held_reply (Err f) buffer = fault_reply f

@@ -30,7 +30,7 @@ use Rattle.flat_model.proofs.Machine.Sockets.{find-changed}
 use Rattle.flat_model.proofs.Lists.Each.{by_choice, by_case, each-map, each-map_to, each-both, each-append, each-filter, each-find}
 use Rattle.flat_model.proofs.Lists.Totals.{count_cons, each_sub_bag, count-append}
 use Rattle.flat_model.proofs.Fragments.Overlaid.{carries_less, pieces_bag, pieces_none, overlay_is, overlay_mbufs}
-use Rattle.flat_model.proofs.Machine.KeptLists.{count-map, count-same, count-filter, none_found, find_after, mbufs-append, mbufs-without, mbufs-changed, mbufs-replaced, AreIn, Apart, the_one, hearers_in}
+use Rattle.flat_model.proofs.Machine.KeptLists.{count-map, count-same, count-filter, none_found, find_after, mbufs-append, mbufs-without, mbufs-changed, mbufs-replaced, AreIn, Apart, the_one, matching_in}
 
 -- ---- the state while a step holds h mbufs beside it
 
@@ -420,9 +420,9 @@ module _ (c : Config) where
       (λ e g.
       let sender : Addr = record { ip = source; port = u16_at 0 item.bytes } in
       let q : LookupKey = record { local = Some destination; port = Some (u16_at 2 item.bytes); peer = Some sender } in
-      let heard = hearers_in old destination q (good.distinct) in
+      let heard = matching_in old destination q (good.distinct) in
       good_goes held sender (record item { bytes = udp_bytes item.bytes }) destination
-      (Arrival.hearers old destination q) old new good shorter heard.0 heard.1 g)
+      (Arrival.matching_sockets old destination q) old new good shorter heard.0 heard.1 g)
       (λ why e g. good_ends held.mbufs (held.mbufs + item.weight.mbufs) old new why (omega arith) good g))
       (λ e g. good_ends held.mbufs (held.mbufs + item.weight.mbufs) old new _ (omega arith) good g)
     where

@@ -279,10 +279,10 @@ apart_some None = tt
 apart_some (Some x) = (tt, tt)
 
 -- those who hear a datagram are open sockets, no two the same
-pub hearers_in : (s : State) (destination : ℕ) (q : LookupKey)
+pub matching_in : (s : State) (destination : ℕ) (q : LookupKey)
     → ((fd : ℕ) → count_by (λ (x : Socket). x.fd == fd) s.sockets ≤ 1)
-    → Each (AreIn s) (Arrival.hearers s destination q) × Apart (Arrival.hearers s destination q)
-hearers_in s destination q distinct = go (Arrival.is_broadcast s.config destination)
+    → Each (AreIn s) (Arrival.matching_sockets s destination q) × Apart (Arrival.matching_sockets s destination q)
+matching_in s destination q distinct = go (Arrival.is_broadcast s.config destination)
   where
     all : Apart s.sockets
     all = apart_all s.sockets distinct

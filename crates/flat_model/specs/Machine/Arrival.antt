@@ -37,8 +37,8 @@ abbrev pub with_datagram : Datagram → Socket → Socket
 with_datagram d socket = record socket { queue = socket.queue ++ d ∷ [] }
 
 -- the sockets that receive a datagram: any number for a broadcast, otherwise one
-abbrev pub hearers : State → ℕ → LookupKey → List Socket
-hearers s destination q =
+abbrev pub matching_sockets : State → ℕ → LookupKey → List Socket
+matching_sockets s destination q =
     if is_broadcast s.config destination then receivers q s.sockets else option_to_list (best q s.sockets)
 
 -- the cause with which a datagram ends that no socket receives
@@ -140,7 +140,7 @@ module _ (L : Ledger) where
       (Case (udp_fault source destination item.bytes)
       (let sender : Addr = record { ip = source; port = u16_at 0 item.bytes } in
       let q : LookupKey = record { local = Some destination; port = Some (u16_at 2 item.bytes); peer = Some sender } in
-      GoesTo held sender (record item { bytes = udp_bytes item.bytes }) destination (hearers old destination q) old new)
+      GoesTo held sender (record item { bytes = udp_bytes item.bytes }) destination (matching_sockets old destination q) old new)
       (λ why. new ≡ ends why old))
       (new ≡ ends NoProtocol old)
 

@@ -92,12 +92,12 @@ impl Host {
         sent
     }
 
-    /// The packet that has waited longest, at the front of `room`.
-    pub(super) fn tx(&mut self, rt: &impl Abort, room: &mut [u8]) -> Option<usize> {
+    /// The packet that has waited longest, at the front of `buffer`.
+    pub(super) fn tx(&mut self, rt: &impl Abort, buffer: &mut [u8]) -> Option<usize> {
         let packet = self.net.out.pop(&mut self.pool)?;
         let len = self.pool.len(&packet) as usize;
-        assert!(rt; len <= room.len());
-        m_copydata(&self.pool, &packet, 0, &mut room[..len]);
+        assert!(rt; len <= buffer.len());
+        m_copydata(&self.pool, &packet, 0, &mut buffer[..len]);
         self.pool.free_chain(packet);
         Some(len)
     }

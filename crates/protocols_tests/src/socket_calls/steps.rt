@@ -35,8 +35,8 @@ fn opens(host: &mut Host, last: u32) -> bool {
 }
 
 fn goes_out(rt: &impl Abort, host: &mut Host, packet: &[u8]) -> bool {
-    let mut room = [0; 30];
-    host.tx(rt, &mut room) == Some(packet.len()) && room.as_slice() == packet
+    let mut buffer = [0; 30];
+    host.tx(rt, &mut buffer) == Some(packet.len()) && buffer.as_slice() == packet
 }
 
 /// Whether the call returns its expected result.

@@ -7,12 +7,12 @@ use Rattle.chain_script.proofs.caller.put_answer.Goals as goal
 pub returns-in-Some-clause-says : goal.returns-in-Some-clause-says
 returns-in-Some-clause-says c =
     let called = c.make_call.ensures.step in
-    let len : length c.call_of.new.room ≡ c.args.buffers.now.bytes.len = omega arith in
-    let same = take-written _ c.call_of.new.room c.args.buffers.now.bytes.items len in (
+    let len : length c.call_of.new.buffer ≡ c.args.buffers.now.bytes.len = omega arith in
+    let same = take-written _ c.call_of.new.buffer c.args.buffers.now.bytes.items len in (
       chain_answer_text (Some called.0),
       (
         Some called.0,
-        (request_of c.in-Some.call c.call_of.new.room, c.in-Some.ensures.call, rw same at called.1),
+        (request_of c.in-Some.call c.call_of.new.buffer, c.in-Some.ensures.call, rw same at called.1),
         refl,
       ),
       called.2,

@@ -10,14 +10,14 @@ use Rattle.ether_host.proofs.packets.drain.Goals as goal
 pub returns-in-Some-send-clause-frame : goal.returns-in-Some-send-clause-frame
 returns-in-Some-send-clause-frame c =
     sym (ap (λ (d : Drained). d.frame)
-    (went _ (state_of c.loop-len.stack) (state_of c.take.new.stack) (take c.in-Some.len (drop 14 c.take.new.room))
+    (went _ (state_of c.loop-len.stack) (state_of c.take.new.stack) (take c.in-Some.len (drop 14 c.take.new.buffer))
     (link_seen c.loop-len.layer) (link_seen c.send.new.self)
     c.loop-len.invariant.same c.in-Some.ensures.step c.in-Some-send.ensures.link _ c.in-Some-send.ensures.frame))
 
 pub returns-in-Some-send-clause-link : goal.returns-in-Some-send-clause-link
 returns-in-Some-send-clause-link c =
     sym (ap (λ (d : Drained). d.link)
-    (went _ (state_of c.loop-len.stack) (state_of c.take.new.stack) (take c.in-Some.len (drop 14 c.take.new.room))
+    (went _ (state_of c.loop-len.stack) (state_of c.take.new.stack) (take c.in-Some.len (drop 14 c.take.new.buffer))
     (link_seen c.loop-len.layer) (link_seen c.send.new.self)
     c.loop-len.invariant.same c.in-Some.ensures.step c.in-Some-send.ensures.link _ c.in-Some-send.ensures.frame))
 
@@ -26,11 +26,11 @@ returns-in-Some-send-clause-stack c =
     let t : State = state_of c.take.new.stack in
     sym (
     ap (λ (d : Drained). with_output_left (state_of c.args.stack.now) d.output)
-    (went _ (state_of c.loop-len.stack) t (take c.in-Some.len (drop 14 c.take.new.room)) (link_seen c.loop-len.layer)
+    (went _ (state_of c.loop-len.stack) t (take c.in-Some.len (drop 14 c.take.new.buffer)) (link_seen c.loop-len.layer)
     (link_seen c.send.new.self)
     c.loop-len.invariant.same c.in-Some.ensures.step c.in-Some-send.ensures.link _ c.in-Some-send.ensures.frame)
     ∙ c.loop-len.invariant.rest t.output
-    ∙ same_rest (state_of c.loop-len.stack) t (take c.in-Some.len (drop 14 c.take.new.room)) c.in-Some.ensures.step
+    ∙ same_rest (state_of c.loop-len.stack) t (take c.in-Some.len (drop 14 c.take.new.buffer)) c.in-Some.ensures.step
     t.output
     )
 
@@ -38,7 +38,7 @@ pub loop-len-preserved : goal.loop-len-preserved
 loop-len-preserved c =
     let s : State = state_of c.loop-len.stack in
     let t : State = state_of c.take.new.stack in
-    let p : List ℕ = take c.in-Some.len (drop 14 c.take.new.room) in
+    let p : List ℕ = take c.in-Some.len (drop 14 c.take.new.buffer) in
     let config : t.config.mtu ≡ s.config.mtu =
     ap (λ (x : State). x.config.mtu) (sym (same_rest s t p c.in-Some.ensures.step [])) in
     let mtu : s.config.mtu ≤ 1500 = c.loop-len.invariant.mtu in

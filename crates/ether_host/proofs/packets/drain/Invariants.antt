@@ -11,7 +11,7 @@ invariant-loop-len l = record {
       ≡ drained (state_of l.stack).output (link_seen l.layer);
   rest : (items : List Item) → with_output_left (state_of l.fn.stack) items ≡ with_output_left (state_of l.stack) items;
   mtu : l.stack.config.mtu ≤ 1500;
-  room : 1514 ≤ length l.room;
+  room : 1514 ≤ length l.buffer;
 }
 
 abbrev pub decreases-loop-len : goal.decreases-loop-len

@@ -12,10 +12,10 @@ bytes c =
     c.m_copydata.ensures
     (omega (
       arith,
-      length-take c.len-len.result c.args.room.now,
+      length-take c.len-len.result c.args.buffer.now,
       c.len-len.ensures,
       first_within c.args.pool.now c.pop.new.pool c.args.out.now c.pop.new.self c.in_ok-packet.packet
-          (length c.args.room.now) c.requires.within c.in_ok-packet.ensures.packets,
+          (length c.args.buffer.now) c.requires.within c.in_ok-packet.ensures.packets,
     ))
     c.len-len.ensures
 
@@ -26,8 +26,8 @@ returns-clause-given c =
     c.in_ok-packet.ensures.queue c.in_ok-packet.ensures.moves
     c.free_chain.ensures
     (in_front (string (chain_of c.pop.new.pool c.in_ok-packet.packet)) c.m_copydata.new.to
-    (drop c.len-len.result c.args.room.now) c.len-len.result c.len-len.ensures (bytes c))
+    (drop c.len-len.result c.args.buffer.now) c.len-len.result c.len-len.ensures (bytes c))
 
 pub returns-clause-rest : goal.returns-clause-rest
-returns-clause-rest c = drop-append-drop c.len-len.result c.args.room.now c.m_copydata.new.to c.len-len.result
+returns-clause-rest c = drop-append-drop c.len-len.result c.args.buffer.now c.m_copydata.new.to c.len-len.result
     (omega arith) (ap (λ (xs : List ℕ). length xs) (bytes c) ∙ sym c.len-len.ensures)

@@ -5,9 +5,9 @@ use Rattle.play_pcap.proofs.files.load_named.Goals as goal
 
 pub returns-in-Some : goal.returns-in-Some
 returns-in-Some g c =
-    available_by c.load.result (λ v. g.F.Folder.may_have (take c.in-Some.len c.bytes.new.room) v.items)
+    available_by c.load.result (λ v. g.F.Folder.may_have (take c.in-Some.len c.bytes.new.buffer) v.items)
     (λ v. IsAvailable g.F.Folder.may_have c.args.word.now v.items) IsUnread
-    (λ v h. (take c.in-Some.len c.bytes.new.room, inl c.in-Some.ensures.bytes, h)) c.load.ensures
+    (λ v h. (take c.in-Some.len c.bytes.new.buffer, inl c.in-Some.ensures.bytes, h)) c.load.ensures
 
 pub returns-in-None : goal.returns-in-None
 returns-in-None g c =

@@ -1,24 +1,24 @@
 use Rattle.std.proofs.Common.{◌≡◌, ◌∙◌, ap, length, map, arith}
 use Rattle.std.specs.Prelude.{slice_get}
 use Rattle.ether_host.specs.Inside.{link_seen}
-use Rattle.segment.specs.Frames.{frames_heard}
+use Rattle.segment.specs.Frames.{frames_received}
 use Rattle.segment.specs.Inside.{flying}
-use Rattle.segment.specs.Tallies.{hears}
+use Rattle.segment.specs.Tallies.{with_received}
 use Rattle.segment.proofs.Walking.{walk_on, walk_ends}
 use Rattle.segment.proofs.links.count_frames.Goals as goal
 
 pub loop-place-preserved : goal.loop-place-preserved
 loop-place-preserved c =
     let s = c.index.result.now in
-    walk_on (λ place t u. u ≡ hears
-    (length (frames_heard place (slice_get (map link_seen c.args.links.now) place) (map flying c.args.due.now)))
+    walk_on (λ place t u. u ≡ with_received
+    (length (frames_received place (slice_get (map link_seen c.args.links.now) place) (map flying c.args.due.now)))
     t) c.args.tallies.now.items c.loop-place.tallies.items c.loop-place.place
-    s c.hears.result s c.loop-place.invariant (omega arith) c.index.ensures
-    (c.hears.ensures ∙ ap (λ n. hears n s) c.heard-frames.ensures)
+    s c.with_received.result s c.loop-place.invariant (omega arith) c.index.ensures
+    (c.with_received.ensures ∙ ap (λ n. with_received n s) c.received_count-frames.ensures)
 
 pub returns : goal.returns
 returns c =
-    walk_ends (λ place t u. u ≡ hears
-    (length (frames_heard place (slice_get (map link_seen c.args.links.now) place) (map flying c.args.due.now)))
+    walk_ends (λ place t u. u ≡ with_received
+    (length (frames_received place (slice_get (map link_seen c.args.links.now) place) (map flying c.args.due.now)))
     t) c.args.tallies.now.items c.loop-place.tallies.items c.loop-place.place
     c.loop-place.invariant (omega arith)

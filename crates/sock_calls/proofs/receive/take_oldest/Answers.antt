@@ -45,8 +45,8 @@ returns-clause-taken c = (
   refl,
   copied c.min-len.result _ _ (string (chain_of c.take.new.pool c.in_ok-sender.chain)) c.m_copydata.new.to _
       c.m_copydata.ensures
-      (omega (arith, length-take c.min-len.result c.args.room.now, c.min-len.ensures))
-      (c.min-len.ensures ∙ ap (λ (j : ℕ). min j (length c.args.room.now)) c.len.ensures),
+      (omega (arith, length-take c.min-len.result c.args.buffer.now, c.min-len.ensures))
+      (c.min-len.ensures ∙ ap (λ (j : ℕ). min j (length c.args.buffer.now)) c.len.ensures),
 )
 
 pub returns-clause-ready : goal.returns-clause-ready
@@ -58,6 +58,6 @@ returns-clause-moves c = (all_left c).moves
 pub returns-clause-rest : goal.returns-clause-rest
 returns-clause-rest c =
     rest_kept c.min-len.result _ _ (string (chain_of c.take.new.pool c.in_ok-sender.chain)) c.m_copydata.new.to
-    c.args.room.now c.m_copydata.ensures
-    (omega (arith, length-take c.min-len.result c.args.room.now, c.min-len.ensures))
-    (c.min-len.ensures ∙ ap (λ (j : ℕ). min j (length c.args.room.now)) c.len.ensures)
+    c.args.buffer.now c.m_copydata.ensures
+    (omega (arith, length-take c.min-len.result c.args.buffer.now, c.min-len.ensures))
+    (c.min-len.ensures ∙ ap (λ (j : ℕ). min j (length c.args.buffer.now)) c.len.ensures)

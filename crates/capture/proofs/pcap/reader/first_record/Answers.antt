@@ -27,12 +27,12 @@ pub returns-clause-sized : goal.returns-clause-sized
 returns-clause-sized c =
     let bytes = c.args.bytes.now in
     let at : c.first_u32-fraction.result.1.now ≡ drop 8 bytes =
-    c.first_u32-fraction.ensures.behind ∙ ap (drop 4) c.first_u32-seconds.ensures.behind ∙ drop-drop 4 4 bytes in
+    c.first_u32-fraction.ensures.after ∙ ap (drop 4) c.first_u32-seconds.ensures.after ∙ drop-drop 4 4 bytes in
     let is : c.first_u32-captured.result.0 ≡ number_of c.args.order w32 (drop 8 bytes) =
     c.first_u32-captured.ensures.number ∙ ap (number_of c.args.order w32) at in
-    let one = ap length c.first_u32-seconds.ensures.behind ∙ length-drop 4 bytes in
-    let two = ap length c.first_u32-fraction.ensures.behind ∙ length-drop 4 c.first_u32-seconds.result.1.now in
-    let three = ap length c.first_u32-captured.ensures.behind ∙ length-drop 4 c.first_u32-fraction.result.1.now in
-    let four = ap length c.first_u32-original_len.ensures.behind ∙ length-drop 4 c.first_u32-captured.result.1.now in
-    let behind = c.split_at.ensures.back_len in
-    omega (arith, is, one, two, three, four, behind)
+    let one = ap length c.first_u32-seconds.ensures.after ∙ length-drop 4 bytes in
+    let two = ap length c.first_u32-fraction.ensures.after ∙ length-drop 4 c.first_u32-seconds.result.1.now in
+    let three = ap length c.first_u32-captured.ensures.after ∙ length-drop 4 c.first_u32-fraction.result.1.now in
+    let four = ap length c.first_u32-original_len.ensures.after ∙ length-drop 4 c.first_u32-captured.result.1.now in
+    let after = c.split_at.ensures.back_len in
+    omega (arith, is, one, two, three, four, after)

@@ -27,14 +27,14 @@ returns-clause-packet c =
     let is : head ++ carried ≡ packet =
     ap (λ (xs : List ℕ). xs ++ carried) c.head-head.ensures.is
     ∙ ap (λ (xs : List ℕ). head_bytes (share_head r s) ++ xs) carried_is ∙ shared r s (omega arith) in
-    let after : List ℕ = put_mid 14 (length c.args.room.now - 14) c.args.room.now c.put_both.new.room in
+    let after : List ℕ = put_mid 14 (length c.args.buffer.now - 14) c.args.buffer.now c.put_both.new.buffer in
     let both : length (head ++ carried) ≡ length head + length carried = length-append head carried in
     let count : length packet ≡ length head + length carried = sym (ap length is) ∙ both in
     let long : length packet ≡ 20 + s.size = omega (arith, c.head-head.ensures.size) in
-    let first : take (length packet) c.put_both.new.room ≡ packet =
-    ap (λ k. take k c.put_both.new.room) count ∙ c.put_both.ensures ∙ is in
+    let first : take (length packet) c.put_both.new.buffer ≡ packet =
+    ap (λ k. take k c.put_both.new.buffer) count ∙ c.put_both.ensures ∙ is in
     ap (λ (xs : List ℕ). Some xs)
     (ap (λ k. take k (drop 14 after)) (sym long)
-    ∙ behind 14 (length c.args.room.now - 14) c.args.room.now c.put_both.new.room packet (omega (arith, c.requires))
+    ∙ behind 14 (length c.args.buffer.now - 14) c.args.buffer.now c.put_both.new.buffer packet (omega (arith, c.requires))
     first)
     ∙ sym (first_left r (part_seen s) c.if-not-self.false c.share-share.ensures.is)

@@ -13,17 +13,17 @@ packet-requires-clause-queue c = (lent_inside c.self.inside c.as_ref-host.result
 
 pub packet-requires-clause-fits : goal.packet-requires-clause-fits
 packet-requires-clause-fits c =
-    nth_within c.args.i (length c.args.room.now)
+    nth_within c.args.i (length c.args.buffer.now)
     (train_packets c.as_ref-host.result.now.pool c.as_ref-host.result.now.net.out)
-    (are_within (lent c.self.inside c.as_ref-host.result.now) (length c.args.room.now)
+    (are_within (lent c.self.inside c.as_ref-host.result.now) (length c.args.buffer.now)
     (lent_inside c.self.inside c.as_ref-host.result.now c.as_ref-host.ensures c.self.invariant)
-    (subst (λ (s : StackView). s.config.mtu ≤ length c.args.room.now)
+    (subst (λ (s : StackView). s.config.mtu ≤ length c.args.buffer.now)
     (sym (lent_shows c.self.inside c.as_ref-host.result.now c.args.self.now c.as_ref-host.ensures c.self.view_is))
     c.requires))
 
 pub returns-clause-packet : goal.returns-clause-packet
 returns-clause-packet c =
-    subst (λ (v : StackView). option_map (λ n. take n c.packet.new.room) c.packet.result
+    subst (λ (v : StackView). option_map (λ n. take n c.packet.new.buffer) c.packet.result
     ≡ nth_packet c.args.i (state_of v).output)
     (lent_shows c.self.inside c.as_ref-host.result.now c.args.self.now c.as_ref-host.ensures c.self.view_is)
     c.packet.ensures.packet

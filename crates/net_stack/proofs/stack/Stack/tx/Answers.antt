@@ -6,10 +6,10 @@ use Rattle.net_stack.proofs.Called.{Called, are_within, output_called, with_out,
 use Rattle.net_stack.proofs.stack.Stack.tx.Goals as goal
 
 all : (c : goal.After-slice_known-2-1) → Called c.args.self.now Transmit
-    (given_reply c.take_packet.result c.take_packet.new.room)
+    (given_reply c.take_packet.result c.take_packet.new.buffer)
     (with_out (lent c.self.inside c.as_mut-host.result.now) c.take_packet.new.pool c.take_packet.new.out)
 all c = output_called (lent c.self.inside c.as_mut-host.result.now) c.args.self.now c.take_packet.new.pool
-    c.take_packet.new.out (given_reply c.take_packet.result c.take_packet.new.room)
+    c.take_packet.new.out (given_reply c.take_packet.result c.take_packet.new.buffer)
     (lent_inside c.self.inside c.as_mut-host.result.now c.as_mut-host.ensures.value c.self.invariant)
     (lent_shows c.self.inside c.as_mut-host.result.now c.args.self.now c.as_mut-host.ensures.value c.self.view_is)
     c.take_packet.ensures.given
@@ -19,9 +19,9 @@ take_packet-requires-clause-queue c = (lent_inside c.self.inside c.as_mut-host.r
     c.self.invariant).stack.output
 
 pub take_packet-requires-clause-within : goal.take_packet-requires-clause-within
-take_packet-requires-clause-within c = are_within (lent c.self.inside c.as_mut-host.result.now) (length c.args.room.now)
+take_packet-requires-clause-within c = are_within (lent c.self.inside c.as_mut-host.result.now) (length c.args.buffer.now)
     (lent_inside c.self.inside c.as_mut-host.result.now c.as_mut-host.ensures.value c.self.invariant)
-    (subst (λ (s : StackView). s.config.mtu ≤ length c.args.room.now)
+    (subst (λ (s : StackView). s.config.mtu ≤ length c.args.buffer.now)
     (sym (lent_shows c.self.inside c.as_mut-host.result.now c.args.self.now c.as_mut-host.ensures.value
     c.self.view_is)) c.requires)
 

@@ -6,7 +6,7 @@ use Rattle.segment.specs.Chances.{shuffled}
 use Rattle.segment.specs.Flying.{Flying, comes}
 use Rattle.segment.specs.Inside.{flying, view}
 use Rattle.segment.specs.Segment.{AtEach, leaving, received_in}
-use Rattle.segment.specs.Tallies.{hears}
+use Rattle.segment.specs.Tallies.{with_received}
 use Rattle.segment.specs.declared.tally.Tally.{Tally}
 use Rattle.segment.proofs.segment.Segment.deliver_watched.Goals as goal
 
@@ -28,13 +28,13 @@ returns g c =
           c.leave.ensures.due;
       tallies =
           subst (λ (ts : List Tally). AtEach
-          (λ place t u. u ≡ hears (length (received_in place (slice_get old.configs place) (leaving old).0)) t) ts
+          (λ place t u. u ≡ with_received (length (received_in place (slice_get old.configs place) (leaving old).0)) t) ts
           c.count_all.new.tallies.items) (ap (λ v. v.items) c.shuffle.ensures.tallies)
           (subst (λ (fs : List Flying). AtEach
-          (λ place t u. u ≡ hears (length (received_in place (slice_get old.configs place) fs)) t)
+          (λ place t u. u ≡ with_received (length (received_in place (slice_get old.configs place) fs)) t)
           c.shuffle.new.self.tallies.items c.count_all.new.tallies.items) counted
           (subst (λ (configs : List Config). AtEach
-          (λ place t u. u ≡ hears (length
+          (λ place t u. u ≡ with_received (length
           (received_in place (slice_get configs place)
           (map flying c.as_slice.result.now))) t) c.shuffle.new.self.tallies.items c.count_all.new.tallies.items)
           c.as_slice-2.ensures.value c.count_all.ensures));

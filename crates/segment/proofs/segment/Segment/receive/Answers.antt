@@ -11,8 +11,8 @@ use Rattle.segment.proofs.segment.Segment.receive.Goals as goal
 never : true ≡ false → ⊥
 never e = cc
 
-pub returns-clause-heard : goal.returns-clause-heard
-returns-clause-heard c =
+pub returns-clause-received : goal.returns-clause-received
+returns-clause-received c =
     let v = view c.args.self.now in
     let stack = c.index_mut-2.result.now in
     let link = c.index_mut.result.now in

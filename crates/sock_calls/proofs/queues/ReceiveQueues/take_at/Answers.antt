@@ -31,7 +31,7 @@ returns-clause-taken c =
     omega (arith, c.requires.place, c.self.invariant, ap length is) in
     let bs = c.deref_mut.result.now in
     let y = c.take_oldest.new.queue in
-    took_as (length c.args.room.now) c.take_oldest.result c.take_oldest.new.room
+    took_as (length c.args.buffer.now) c.take_oldest.result c.take_oldest.new.buffer
     (ap (datagrams c.args.pool.now) (sym (read_is c.index-deref_mut-place.result (is ∙ c.self.view_is) lt)))
     (ap (datagrams c.take_oldest.new.pool)
     (ap (λ (l : List SockBufView). queue_at l c.args.place) (written c.self.inside.queues bs c.args.place y is)

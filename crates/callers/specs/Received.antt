@@ -20,7 +20,7 @@ send_event bytes = Send SOCKET (Some (record { ip = SECOND.addr; port = PORT }))
 abbrev pub packet_comes : List ℕ → Turn
 packet_comes packet = record { event = Comes packet; reply = Done }
 
--- the call by which the second host requests at most `room` bytes
+-- the call by which the second host requests at most `buffer` bytes
 abbrev pub receives : ℕ → Reply → Turn
 receives most reply = record { event = Receive SOCKET most; reply = reply }
 
@@ -40,7 +40,7 @@ pub record HasGiven (old new : StackView) (packet : List ℕ) : Type 0 where
 -- packets three times. At the second arrived one packet, another, and the first of the two again; then a datagram was
 -- requested from it, with this reply. The replies of each are those of a run. If the first has counted fewer than
 -- 65,536 sends, they were on one wire, and the first sent what has its address as the sender's.
-pub record IsHeard (lost late early : List ℕ) (most count : ℕ) (reply : Reply) : Type 0 where
+pub record IsReceived (lost late early : List ℕ) (most count : ℕ) (reply : Reply) : Type 0 where
   pub sent : List Turn
   pub before : List Turn
   pub s : StackView
