@@ -1,6 +1,6 @@
 //! The calls of raw_cells that `bench/cells` times: copies between clusters, into one and out of one.
 
-ghost use Rattle.std.specs.Prelude.{◌≡◌, ◌+◌, ◌<◌, ◌≤◌, IsTrue, length};
+ghost use Rattle.std.specs.Prelude.{◌≡◌, ◌≤◌, IsTrue, length};
 ghost use Rattle.raw_cells.specs.Cells.{IsCellPart, IsSized, read};
 
 use params::MCLBYTES;

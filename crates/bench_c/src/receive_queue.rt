@@ -1,6 +1,6 @@
 //! The calls of sockbuf that `bench/receive_queue` times: a datagram appended, and the oldest taken.
 
-ghost use Rattle.std.specs.Prelude.{◌≡◌, ◌≤◌, length, IfSome};
+ghost use Rattle.std.specs.Prelude.{◌≡◌, ◌≤◌, length};
 ghost use Rattle.mbuf_chain.specs.Chain.{IsLive};
 ghost use Rattle.mbuf_chain.specs.Owners.{times_among};
 ghost use Rattle.sockbuf.specs.SockBuf.{IsSockBuf, chains_of};

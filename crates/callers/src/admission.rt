@@ -1,5 +1,4 @@
 //! A buffer, for which unfinished datagrams are freed if the pool is empty.
-ghost use Rattle.std.specs.Prelude.{◌≡◌};
 
 use flat_model::{Counters, Why};
 use ledger::{Waiting, reserve};

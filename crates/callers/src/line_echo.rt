@@ -7,8 +7,6 @@ use std::alloc::Global;
 pub struct Repeater;
 
 impl Answers<131_072> for Repeater {
-    ghost use Rattle.std.specs.Prelude.{List, ℕ};
-
     ghost State = { Unit {0} };
 
     ghost state = { λ r. tt };

@@ -1,5 +1,5 @@
 //! Two hosts on one wire, and a datagram from the first to the second.
-use flat_model::{Addr, Config, Errno};
+use flat_model::{Addr, Config};
 use segment::Segment;
 use std::alloc::Global;
 

@@ -1,6 +1,6 @@
 //! Parsing the blocks of a pcapng file.
 ghost use Rattle.std.specs.Prelude.{◌≡◌, ◌<◌, Some, Ok, Err, None, IfOk, MatchResult, length};
-ghost use Rattle.capture.specs.Bodies.{enhanced_in, interface_in, plain_in, section_in};
+ghost use Rattle.capture.specs.Bodies.{enhanced_in, interface_in};
 ghost use Rattle.capture.specs.SeenBlocks.{part};
 ghost use Rattle.capture.specs.Packets as packets;
 ghost use Rattle.capture.specs.Packets.{IsInside, BlockGives, Takes, known};

@@ -1,5 +1,5 @@
 //! Records of classic files.
-ghost use Rattle.std.specs.Prelude.{◌≡◌, ◌≤◌, [], length, IfOk};
+ghost use Rattle.std.specs.Prelude.{◌≡◌, [], length, IfOk};
 ghost use Rattle.capture.specs.Packets.{IsInside};
 ghost use Rattle.capture.specs.Steps.{ClassicReads, IsLoaded};
 

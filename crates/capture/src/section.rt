@@ -1,5 +1,5 @@
 //! Blocks, read one after another.
-ghost use Rattle.std.specs.Prelude.{◌≡◌, ◌≤◌, length, IfOk};
+ghost use Rattle.std.specs.Prelude.{◌≤◌, length, IfOk};
 ghost use Rattle.capture.specs.Packets.{IsInside, known};
 ghost use Rattle.capture.specs.Steps.{BlockLoads, BlockReads, BlocksRead, StepInside};
 

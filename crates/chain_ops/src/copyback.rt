@@ -3,11 +3,11 @@ ghost use Rattle.std.specs.Prelude.{◌≡◌, ℕ, ◌+◌, ◌-◌, ◌<◌, �
 ghost use Rattle.mbuf_chain.specs.Chain.{IsLive, IsPlace, chain_of, entry_in, string, references, without, with_chain, held_mbufs, alone, Adds};
 ghost use Rattle.mbuf_chain.specs.Steps.{one_mbuf, with_entry_in, overwritten};
 ghost use Rattle.chain_ops.specs.Makes.{Makes, HasMbufs, LacksMbufs};
-ghost use Rattle.chain_ops.specs.Writes.{is_shared, is_writable, overlaid, in_plain, tail_of, copied_back, copyback_need, written_bytes};
+ghost use Rattle.chain_ops.specs.Writes.{is_shared, is_writable, overlaid, in_plain, copied_back, copyback_need, written_bytes};
 
 use mbuf_chain::{Chain, Place, Pool};
 use mbuf_pool::NoBufs;
-use params::{IP_MAX_PACKET, MBUF_HEADER, MLEN, MSIZE};
+use params::{IP_MAX_PACKET, MBUF_HEADER, MLEN};
 
 /// Whether more than one mbuf refers to a cluster, if there is one.
 fn is_shared(pool: &Pool, cluster: Option<u32>) -> bool

@@ -1,7 +1,7 @@
 //! The first bytes of a chain moved into one mbuf.
 ghost use Rattle.std.specs.Prelude.{◌≡◌, ◌≢◌, ◌+◌, ◌-◌, ◌≤◌, ◌++◌, true, None, min, length, take, drop, OnOk, OnErr, IfErr, IsTrue};
-ghost use Rattle.mbuf_chain.specs.Chain.{IsLive, IsPlace, HasTrailingSpace, chain_of, entry_in, entry_of, with_chain, without, string, alone};
-ghost use Rattle.mbuf_chain.specs.Steps.{empty_entry, joined};
+ghost use Rattle.mbuf_chain.specs.Chain.{IsLive, IsPlace, HasTrailingSpace, chain_of, entry_in, entry_of, without, string, alone};
+ghost use Rattle.mbuf_chain.specs.Steps.{empty_entry};
 ghost use Rattle.chain_ops.specs.Rooms.{room_low};
 ghost use Rattle.chain_ops.specs.Makes.{Makes, HasMbufs, LacksMbufs};
 ghost use Rattle.chain_ops.specs.Pulls.{IsPullRefused, moved, has_room, entries_pulled, pulled_front, pull_need};

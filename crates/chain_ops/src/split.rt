@@ -1,5 +1,5 @@
 //! Chains cut in two.
-ghost use Rattle.std.specs.Prelude.{◌≡◌, ℕ, ◌+◌, ◌-◌, ◌<◌, ◌≤◌, ◌++◌, ◌∷◌, [], Bool, true, false, None, Some, length, take, drop, IfOk, OnOk, OnErr, IsTrue};
+ghost use Rattle.std.specs.Prelude.{◌≡◌, ◌+◌, ◌-◌, ◌<◌, ◌≤◌, ◌++◌, ◌∷◌, [], Bool, true, false, None, length, take, drop, IfOk, OnOk, OnErr};
 ghost use Rattle.mbuf_chain.specs.Chain.{IsLive, IsPlace, chain_of, entry_in, string, flat_bytes, alone, held_mbufs, Adds};
 ghost use Rattle.mbuf_chain.specs.Steps.{one_mbuf, empty_entry};
 ghost use Rattle.chain_ops.specs.Makes.{Makes, Parts, HasMbufs, LacksMbufs};

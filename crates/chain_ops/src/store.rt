@@ -1,5 +1,5 @@
 //! Bytes put into new chains.
-ghost use Rattle.std.specs.Prelude.{◌≡◌, ℕ, ◌+◌, ◌-◌, ◌<◌, ◌≤◌, ◌⊎◌, List, Bool, true, false, Option, Some, None, min, nat_le, length, count_by, IfOk, OnOk, OnErr, if◌then◌else◌};
+ghost use Rattle.std.specs.Prelude.{◌≡◌, ℕ, ◌+◌, ◌-◌, ◌<◌, ◌≤◌, ◌⊎◌, List, true, false, Option, Some, min, nat_le, length, count_by, IfOk, OnOk, OnErr, if◌then◌else◌};
 ghost use Rattle.mbuf_chain.specs.Chain.{alone, held_mbufs, references, free_clusters, string, chain_of, Adds};
 ghost use Rattle.mbuf_chain.specs.Steps.{one_mbuf};
 ghost use Rattle.flat_model.specs.Amounts.Layout.{user, wire, is_cluster, need_of, next_room, size_of};

@@ -1,5 +1,5 @@
 //! Slots of chains over a pool, whose calls are made by script lines.
-ghost use Rattle.std.specs.Prelude.{◌≡◌, ◌≤◌, ◌<◌, ◌*◌, ◌++◌, ℕ, List, Option, Some, Err, length, IfOk, ◌↔◌, replicate, None, []};
+ghost use Rattle.std.specs.Prelude.{◌≡◌, ◌≤◌, ◌<◌, ◌*◌, ◌++◌, ℕ, List, Some, Err, length, IfOk, ◌↔◌, replicate, None, []};
 ghost use Rattle.arrayvec.specs.ArrayVec.{array_vec_len};
 ghost use Rattle.mbuf_pool.specs.Store.{IsBad};
 ghost use Rattle.mbuf_pool.specs.declared.fault.BootFault.TheVariants as boot_fault;

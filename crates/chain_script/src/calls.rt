@@ -1,5 +1,5 @@
 //! The effect of each request on the slots.
-ghost use Rattle.std.specs.Prelude.{◌≡◌, ◌≢◌, ◌<◌, ◌≤◌, ◌+◌, ◌&&◌, nat_lt, nat_le, ℕ, length, ℤ, Some, None, slice_index_or};
+ghost use Rattle.std.specs.Prelude.{◌≡◌, ◌≢◌, ◌<◌, ◌≤◌, ◌+◌, ◌&&◌, nat_lt, nat_le, ℕ, length, Some, None, slice_index_or};
 ghost use Rattle.mbuf_chain.specs.Chain.{IsLive, chain_of, without};
 ghost use Rattle.chain_ops.specs.Makes.{Makes};
 ghost use Rattle.chain_ops.specs.Joins.{cat};

@@ -1,12 +1,12 @@
 //! The mbufs of a slot's chain as text lines, from which a picture can be drawn.
-ghost use Rattle.std.specs.Prelude.{◌≡◌, ◌≤◌, ℕ, List, ◌++◌, ◌==◌, OnOk, IfOk, IfSome, decimal, length, position};
+ghost use Rattle.std.specs.Prelude.{◌≡◌, ◌≤◌, ◌++◌, ◌==◌, OnOk, IfOk, IfSome, decimal, length, position};
 ghost use Rattle.flat_model.specs.Scripts.Texts.{hex_text};
 ghost use Rattle.params.specs.declared.TheConstants.{MCLBYTES};
-ghost use Rattle.mbuf_chain.specs.Chain.{Entry, IsLive, IsPlace, chain_of, entry_in};
+ghost use Rattle.mbuf_chain.specs.Chain.{IsLive, IsPlace, chain_of, entry_in};
 ghost use Rattle.script_loop.specs.Serves.{Serves};
 ghost use Rattle.script_loop.specs.Streams.{MoreBy, reader_failures, writer_failures};
 ghost use Rattle.chain_script.specs.Boots.{BootsChains};
-ghost use Rattle.chain_script.specs.Drawings.{cluster_text, drawing, header_text, mbuf_line, mbuf_lines, noted, noted_all, noted_slots, place_in, served};
+ghost use Rattle.chain_script.specs.Drawings.{cluster_text, drawing, mbuf_line, mbuf_lines, noted, noted_all, noted_slots, place_in, served};
 ghost use Rattle.chain_script.specs.Inside.Slots.{machine_of, FitsSlots};
 ghost use Rattle.chain_script.specs.Machines.{Machine, booted};
 ghost use Rattle.chain_script.specs.Steps.{Says};

@@ -1,5 +1,5 @@
 //! Parsing a line.
-ghost use Rattle.std.specs.Prelude.{◌≡◌, ◌≤◌, ℕ, ℤ, List, [], ◌∷◌, length, codes, MatchOption, IfSome};
+ghost use Rattle.std.specs.Prelude.{◌≡◌, ℕ, ℤ, List, length, codes, MatchOption, IfSome};
 ghost use Rattle.chain_ops.specs.declared.copym.Extent.{Extent};
 ghost use Rattle.script_loop.specs.Left.{left};
 ghost use Rattle.chain_script.specs.Lines.{Request, IsRequest, IsExtentWords, IsSigned};

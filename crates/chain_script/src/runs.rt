@@ -1,5 +1,4 @@
 //! The run that programs call.
-ghost use Rattle.std.specs.Prelude.{◌≡◌};
 ghost use Rattle.script_loop.specs.Serves.{Serves};
 ghost use Rattle.script_loop.specs.Streams.{MoreBy, reader_failures, writer_failures};
 ghost use Rattle.chain_script.specs.Boots.{BootsChains};

@@ -1,5 +1,5 @@
 //! The replies to queries: the layout of a chain, and the usage of the pool.
-ghost use Rattle.std.specs.Prelude.{◌≡◌, ℕ, ◌+◌, ◌*◌, ◌<◌, ◌≤◌, ◌++◌, length, flat_map, Some, Option};
+ghost use Rattle.std.specs.Prelude.{◌≡◌, ℕ, ◌+◌, ◌*◌, ◌<◌, ◌≤◌, ◌++◌, length, flat_map, Some};
 ghost use Rattle.mbuf_chain.specs.Chain.{IsLive, chain_of, references, string};
 ghost use Rattle.chain_script.specs.Lines.{Show, Ask_usage};
 ghost use Rattle.chain_script.specs.Steps.{ChainReply, Laid, ChainStep, chain_answer_text, shape_text, shapes_of, count_in};

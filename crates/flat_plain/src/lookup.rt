@@ -1,5 +1,5 @@
 //! Which socket a packet or a call finds. Lists begin with the youngest.
-ghost use Rattle.std.specs.Prelude.{◌≡◌, ◌≤◌, ◌++◌, ◌==◌, filter, not, if◌then◌else◌, OnOk, IfOk, Some, None};
+ghost use Rattle.std.specs.Prelude.{◌≡◌, ◌≤◌, ◌++◌, ◌==◌, OnOk, IfOk, Some, None};
 ghost use Rattle.std.specs.Option.{option_map};
 ghost use Rattle.flat_model.specs.Sockets.Lookup as Lookup;
 ghost use Rattle.flat_plain.specs.Blocks.{socket_of, sockets_of};

@@ -1,5 +1,5 @@
 //! How many buffers a send needs.
-ghost use Rattle.std.specs.Prelude.{◌≡◌, ◌+◌, ◌*◌, ◌^◌, ◌≤◌, length, map, sum_by, count_by, IfOk};
+ghost use Rattle.std.specs.Prelude.{◌≡◌, ◌+◌, ◌*◌, ◌≤◌, length, map, sum_by, count_by, IfOk};
 ghost use Rattle.flat_model.specs.Amounts.Layout as Layout;
 ghost use Rattle.flat_plain.specs.Rooms.{rooms_of};
 ghost use Rattle.flat_plain.specs.Parts.{part_of};

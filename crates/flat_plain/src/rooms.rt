@@ -1,5 +1,5 @@
 //! Into which buffers bytes are stored.
-ghost use Rattle.std.specs.Prelude.{◌≡◌, ◌+◌, ◌*◌, ◌^◌, ◌<◌, ◌≤◌, ◌++◌, length, map, OnOk, IfOk, vec_len};
+ghost use Rattle.std.specs.Prelude.{◌≡◌, ◌+◌, ◌*◌, ◌^◌, ◌<◌, ◌≤◌, ◌++◌, length, OnOk, IfOk, vec_len};
 ghost use Rattle.flat_model.specs.Amounts.Layout.{filled, next_room, meets_from, size_of};
 ghost use Rattle.flat_model.specs.Amounts.Layout as Layout;
 ghost use Rattle.flat_plain.specs.Rooms.{plain_room, rooms_of};

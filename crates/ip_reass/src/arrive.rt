@@ -1,5 +1,5 @@
 //! A fragment arrives: its header is pulled up, its key is looked up, and it joins the others of its datagram.
-ghost use Rattle.std.specs.Prelude.{◌≡◌, ℕ, ◌+◌, ◌*◌, ◌<◌, ◌≤◌, [], ◌∷◌, ◌++◌, true, false, Some, IfSome, length, is_some, option_to_list};
+ghost use Rattle.std.specs.Prelude.{◌≡◌, ◌+◌, ◌*◌, ◌<◌, ◌≤◌, [], ◌∷◌, ◌++◌, true, false, Some, IfSome, length, is_some, option_to_list};
 ghost use Rattle.flat_model.specs.Machine.State.{State};
 ghost use Rattle.flat_model.specs.Amounts.Weight.{Weight, ◌⊕◌};
 ghost use Rattle.flat_model.specs.Machine.Ledger.{exact_ledger};

@@ -1,5 +1,5 @@
 //! The rows of the table, found by a hash of their keys.
-ghost use Rattle.std.specs.Prelude.{◌≡◌, ℕ, ◌+◌, ◌-◌, ◌<◌, ◌≤◌, ◌++◌, ◌∷◌, ◌^◌, [], length, take, remove, get_or, IfOk};
+ghost use Rattle.std.specs.Prelude.{◌≡◌, ℕ, ◌+◌, ◌-◌, ◌<◌, ◌≤◌, ◌++◌, ◌∷◌, ◌^◌, [], length, remove, get_or, IfOk};
 ghost use Rattle.ip_reass.specs.Inside.Index.{AreLinked, bucket_of, buckets_in, buckets_of, upto_last};
 
 use crate::datagram::Datagram;

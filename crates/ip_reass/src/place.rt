@@ -1,6 +1,6 @@
 //! A place among the fragments of a datagram, given by the fragment before it: the next one is found, removed or
 //! inserted without a walk.
-ghost use Rattle.std.specs.Prelude.{◌≡◌, ◌+◌, ◌<◌, ◌∷◌, true, length, insert, remove, MatchOption};
+ghost use Rattle.std.specs.Prelude.{◌≡◌, ◌+◌, ◌<◌, ◌∷◌, true, insert, remove, MatchOption};
 ghost use Rattle.mbuf_chain.specs.Chain.{IsLive, chain_of, alone};
 ghost use Rattle.mbuf_chain.specs.Owners.{times_among, Moves};
 ghost use Rattle.mbuf_chain.specs.Train.{queued_packets, queued_packet_at, numbers, IsQueuedPlace, IsHeld};

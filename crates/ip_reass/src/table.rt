@@ -1,17 +1,16 @@
 //! The table of unfinished datagrams.
-ghost use Rattle.std.specs.Prelude.{IfOk, count_by, ◌==◌, ◌≡◌, ℕ, ◌+◌, ◌-◌, ◌≤◌, ◌<◌, ◌*◌, List, length, take, remove, find, sum_by, slice_get, slice_index_or, MatchOption, None, ◌++◌, ◌∷◌, [], vec_len, vec_capacity};
+ghost use Rattle.std.specs.Prelude.{IfOk, count_by, ◌==◌, ◌≡◌, ℕ, ◌+◌, ◌-◌, ◌≤◌, ◌<◌, ◌*◌, length, take, find, sum_by, slice_get, MatchOption, None, ◌++◌, ◌∷◌, [], vec_len, vec_capacity};
 ghost use Rattle.flat_model.specs.Machine.Count.{counts_more};
 ghost use Rattle.flat_model.specs.Machine.State.{State};
 ghost use Rattle.flat_model.specs.Machine.Step.{ticked};
 ghost use Rattle.flat_model.specs.declared.counter.Counter.TheVariants.{IpFragtimeout};
 ghost use Rattle.flat_model.specs.declared.counters.Counters.{Counters};
 ghost use Rattle.mbuf_chain.specs.Chain.{PoolView};
-ghost use Rattle.mbuf_chain.specs.Owners.{IsOwned, Moves};
+ghost use Rattle.mbuf_chain.specs.Owners.{Moves};
 ghost use Rattle.mbuf_chain.specs.Frames.{SameAt};
-ghost use Rattle.mbuf_chain.specs.Train.{IsHeld};
 ghost use Rattle.ip_reass.specs.Arrivals.{machine_with};
 ghost use Rattle.ip_reass.specs.Inside.Index.{buckets_of};
-ghost use Rattle.ip_reass.specs.Table.{aged, unfinished, has_key, new_datagram, holds, held, held_all, AllUnfinished, IsTable, IsReady};
+ghost use Rattle.ip_reass.specs.Table.{aged, unfinished, has_key, new_datagram, holds, held_all, AllUnfinished, IsTable, IsReady};
 
 use crate::datagram::{Datagram, free_datagram};
 use crate::index::Index;

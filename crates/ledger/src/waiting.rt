@@ -1,6 +1,6 @@
 //! Unfinished datagrams as the flat machine sees them.
 
-ghost use Rattle.std.specs.Prelude.{◌≡◌, ℕ, List, length};
+ghost use Rattle.std.specs.Prelude.{◌≡◌, List, length};
 ghost use Rattle.flat_model.specs.Machine.State.{Unfinished};
 ghost use Rattle.flat_model.specs.Amounts.Weight.{all_of, mbuf, ◌⊕◌, SameWeight};
 ghost use Rattle.flat_model.specs.Fragments.Whole.{weight_of_pieces};

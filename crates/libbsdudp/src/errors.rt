@@ -1,5 +1,5 @@
 //! The error codes for C: the negative of 4.4BSD's error number.
-ghost use Rattle.std.specs.Prelude.{◌≡◌, ◌≤◌, pos};
+ghost use Rattle.std.specs.Prelude.{◌≡◌};
 ghost use Rattle.libbsdudp.specs.Answers.{count_code, done_code, is_queue_full, refusal_code};
 
 use flat_model::{Errno, Lack};

@@ -1,10 +1,8 @@
 //! The calls on a host, with the arguments and results as C has them.
-ghost use Rattle.std.specs.Prelude.{◌≡◌, ◌+◌, ◌≤◌, length, IfSome};
+ghost use Rattle.std.specs.Prelude.{◌+◌, ◌≤◌, length};
 ghost use Rattle.params.specs.declared.TheConstants.{IP_MAX_PACKET};
-ghost use Rattle.flat_ether.specs.Hosts.{TakesFrame, gives};
 ghost use Rattle.flat_ether.specs.declared.sizes.TheConstants.{ETHER_HEADER, ETHER_MTU};
 ghost use Rattle.ether_host.specs.Inside.{link_seen};
-ghost use Rattle.ether_host.specs.View.{host_of};
 ghost use Rattle.libbsdudp.specs.Ether.{GivesFrame, HasAged, Arrives, IsFramed, ReportsAddress, ReportsError, ReportsNeighbour, ReportsTallies, both};
 
 use crate::errors::{

@@ -1,7 +1,7 @@
 //! Parsing the words of the command line.
 ghost use Rattle.std.specs.Prelude.{◌≡◌, ◌≢◌, ◌⊎◌, ◌↔◌, ◌-◌, ℕ, [], length, slice_get, Some, codes, false, map, option_map, IsTrue, MatchOption, MatchResult, IfOk};
 ghost use Rattle.std.specs.String.{string_bytes};
-ghost use Rattle.clap.specs.Words.{app_of, rule_of, rows_of, found_of, first_value, fault_of, kind_of};
+ghost use Rattle.clap.specs.Words.{app_of, rule_of, found_of, first_value, fault_of, kind_of};
 ghost use Rattle.clap.specs.declared.error.kind.ErrorKind.TheVariants.{OutOfMemory};
 ghost use Rattle.flat_model.specs.declared.config.Config.{Config};
 ghost use Rattle.mbuf_pool.specs.declared.sizes.Sizes.{Sizes};

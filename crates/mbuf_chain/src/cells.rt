@@ -1,7 +1,7 @@
 //! Walks along the links of a store.
-ghost use Rattle.std.specs.Prelude.{◌≡◌, ℕ, ◌<◌, ◌≤◌, true, Some, None, [], length};
-ghost use Rattle.mbuf_pool.specs.Store.{IsStore, is_out, mbuf_head, cluster_count, cluster_of, with_mbuf};
-ghost use Rattle.mbuf_chain.specs.Inside.Cells.{LeadsToEnd, cells_from, len_at, weigh, one, last_of, IsFreeable, Freed, released_in};
+ghost use Rattle.std.specs.Prelude.{◌≡◌, ℕ, ◌<◌, true, Some, None, []};
+ghost use Rattle.mbuf_pool.specs.Store.{IsStore, is_out, mbuf_head, cluster_count, with_mbuf};
+ghost use Rattle.mbuf_chain.specs.Inside.Cells.{LeadsToEnd, cells_from, len_at, weigh, one, IsFreeable, Freed, released_in};
 
 use mbuf_pool::Store;
 

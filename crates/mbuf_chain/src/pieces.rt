@@ -1,5 +1,5 @@
 //! Reading a chain's mbufs in place, one after another.
-ghost use Rattle.std.specs.Prelude.{◌≡◌, length, Some};
+ghost use Rattle.std.specs.Prelude.{◌≡◌, Some};
 ghost use Rattle.std.specs.Iterator.{YieldsFirst, YieldsFirstBy, YieldsFirstRef, item_count};
 ghost use Rattle.mbuf_chain.specs.Chain.{IsLive, chain_of, layout};
 ghost use Rattle.mbuf_chain.specs.Heads.{heads};

@@ -1,8 +1,8 @@
 -- What callers can use of a store.
-use Rattle.std.proofs.Common.{◌≡◌, ◌≢◌, ℕ, zero, suc, ◌+◌, ◌<◌, Bool, true, IsTrue, cond, if◌then◌else◌, ◌==◌, ◌-◌, Option, None, Some, is_some, is_none, List, [], ◌∷◌, length, count_by, slice_index_or, unwrap_or, refl, sym, ap, ◌∙◌, subst, arith, inl, inr, ◌≤◌, get_or, ext_get_or, slice_get, slice_set}
+use Rattle.std.proofs.Common.{◌≡◌, ◌≢◌, ℕ, zero, suc, ◌+◌, ◌<◌, Bool, true, IsTrue, cond, if◌then◌else◌, ◌-◌, Option, None, Some, is_some, is_none, List, [], ◌∷◌, length, count_by, slice_index_or, unwrap_or, refl, sym, ap, ◌∙◌, subst, arith, inl, inr, ◌≤◌, get_or, ext_get_or, slice_get, slice_set}
 use Rattle.std.proofs.lemmas.Bool.{cases_eq, cases_lt, eq-eqb, ne_eqb, false≢true}
 use Rattle.std.proofs.lemmas.Option.{slice_get_within, none-some, same_Some}
-use Rattle.std.proofs.lemmas.List.{get_or-set_same, get_or-set_other, get_or_past}
+use Rattle.std.proofs.lemmas.List.{get_or-set_same, get_or_past}
 use Rattle.std.proofs.lemmas.List.Sums.{sum_by-cons}
 use Rattle.raw_cells.specs.Over.{over}
 use Rattle.raw_cells.specs.Cells.{head_size}
@@ -10,24 +10,16 @@ use Rattle.raw_cells.specs.declared.head.Head.{Head}
 pub use Rattle.raw_cells.proofs.Laws.{over_below, over_above, over_in, length_over}
 use Rattle.raw_cells.proofs.Laws.{head_size_le}
 use Rattle.mbuf_pool.proofs.Reading.{some_or_none}
-use Rattle.mbuf_pool.specs.Store.{MbufView, ClusterView, StoreView, no_mbuf, free_cluster, is_out, mbuf_of, mbuf_head, cluster_of, cluster_count, free_mbufs, mbufs_out, free_clusters, held_once_more, released, with_mbuf, with_cluster, IsStore, TakesCluster, SetsHead}
+use Rattle.mbuf_pool.specs.Store.{MbufView, ClusterView, StoreView, no_mbuf, free_cluster, is_out, mbuf_of, mbuf_head, cluster_of, cluster_count, free_mbufs, mbufs_out, held_once_more, released, with_mbuf, with_cluster, IsStore, TakesCluster, SetsHead}
 
 -- ---- one mbuf, or one cluster, in place of another
 pub mbuf_here : (s : StoreView) (i : ℕ) (m : Option MbufView) → i < length s.mbufs
     → slice_index_or (with_mbuf s i m).mbufs i None ≡ m
 mbuf_here s i m lt = get_or-set_same s.mbufs i m None lt
 
-pub mbuf_other : (s : StoreView) (i k : ℕ) (m : Option MbufView) → k ≢ i
-    → slice_index_or (with_mbuf s i m).mbufs k None ≡ slice_index_or s.mbufs k None
-mbuf_other s i k m ne = get_or-set_other s.mbufs i k m None ne
-
 pub cluster_here : (s : StoreView) (c : ℕ) (v : ClusterView) → c < length s.clusters
     → cluster_of (with_cluster s c v) c ≡ v
 cluster_here s c v lt = get_or-set_same s.clusters c v free_cluster lt
-
-pub cluster_other : (s : StoreView) (c d : ℕ) (v : ClusterView) → d ≢ c
-    → cluster_of (with_cluster s c v) d ≡ cluster_of s d
-cluster_other s c d v ne = get_or-set_other s.clusters c d v free_cluster ne
 
 -- ---- what is in use is there
 pub out_within : (s : StoreView) (i : ℕ) → IsTrue (is_out s i) → i < length s.mbufs
@@ -94,25 +86,6 @@ none_left (Some m ∷ ms) (suc i) e lt =
 
 pub all_out : (s : StoreView) (i : ℕ) → free_mbufs s ≡ 0 → i < length s.mbufs → IsTrue (is_out s i)
 all_out s i e lt = none_left s.mbufs i e lt
-
-no_cluster_left : (vs : List ClusterView) (c : ℕ) → count_by (λ (v : ClusterView). v.count == 0) vs ≡ 0 → c < length vs
-    → 0 < (slice_index_or vs c free_cluster).count
-no_cluster_left [] c e lt = absurd (omega arith)
-no_cluster_left (v ∷ vs) zero e lt =
-    elim (cases_eq v.count 0) [
-      | inl none ↦ absurd (omega (
-        arith,
-        sum_by-cons (λ (x : ClusterView). cond {A = ℕ} (x.count == 0) 1 0) v vs,
-        ap (λ (b : Bool). cond {A = ℕ} b 1 0) (eq-eqb v.count 0 none),
-      ))
-      | inr ne ↦ omega arith
-    ]
-no_cluster_left (v ∷ vs) (suc c) e lt =
-    no_cluster_left vs c (omega (arith, sum_by-cons (λ (x : ClusterView). cond {A = ℕ} (x.count == 0) 1 0) v vs))
-    (omega arith)
-
-pub all_counted : (s : StoreView) (c : ℕ) → free_clusters s ≡ 0 → c < length s.clusters → 0 < cluster_count s c
-all_counted s c e lt = no_cluster_left s.clusters c e lt
 
 -- ---- one head after another
 over_over : (xs a b : List ℕ) → length a ≤ length b → length b ≤ length xs → over (over xs 0 a) 0 b ≡ over xs 0 b

@@ -1,5 +1,5 @@
 //! The mbufs of a stack after a script.
-ghost use Rattle.std.specs.Prelude.{◌≡◌, IfOk, IfSome, vec_len, [], Some};
+ghost use Rattle.std.specs.Prelude.{IfOk, IfSome, Some};
 ghost use Rattle.flat_model.specs.Machine.State.{State, boot};
 ghost use Rattle.flat_model.specs.Machine.Step.{Step};
 ghost use Rattle.chain_script.specs.Drawings.{served};

@@ -1,5 +1,5 @@
 //! The machine's one interface, and which addresses belong to the machine.
-ghost use Rattle.std.specs.Prelude.{◌≡◌, ℕ};
+ghost use Rattle.std.specs.Prelude.{◌≡◌};
 ghost use Rattle.flat_model.specs.Machine.Calls as flat;
 ghost use Rattle.pcb_table.specs.Inside.Search.{interface_config};
 ghost use Rattle.pcb_table.specs.Apart.{plain};

@@ -1,8 +1,7 @@
 //! How an ephemeral port is chosen.
-ghost use Rattle.std.specs.Prelude.{◌≡◌, ℕ, ◌+◌, ◌<◌, ◌≤◌, length, IsNone, IsSome, find, count_by};
+ghost use Rattle.std.specs.Prelude.{◌≡◌, ◌+◌, ◌<◌, ◌≤◌, length};
 ghost use Rattle.flat_model.specs.Machine.Calls as flat;
 ghost use Rattle.pcb_table.specs.Inside.Search.{GivesPort, IsFreePort, is_used};
-ghost use Rattle.pcb_table.specs.Apart.{AreApart};
 ghost use Rattle.pcb_table.specs.Inside.Fields.{IsInCircle, IsLowestUnused};
 
 use crate::blocks::Blocks;

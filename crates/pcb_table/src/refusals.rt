@@ -1,5 +1,5 @@
 //! The errors of a bind, a connect or a destination.
-ghost use Rattle.std.specs.Prelude.{◌≡◌, ℕ, Some, is_some};
+ghost use Rattle.std.specs.Prelude.{◌≡◌, Some, is_some};
 ghost use Rattle.flat_model.specs.Packets.Header.{first_fault};
 ghost use Rattle.flat_model.specs.Machine.Calls as flat;
 ghost use Rattle.pcb_table.specs.Inside.Search.{block_bind_faults, block_connect_faults, interface_config, is_in_way, youngest_block};

@@ -1,8 +1,8 @@
 //! Searches of the control blocks, in their order.
-ghost use Rattle.std.specs.Prelude.{◌≡◌, ℕ, ◌==◌, ◌+◌, ◌<◌, ◌≤◌, ◌∷◌, length, map, find, option_copied, position, IsSome};
+ghost use Rattle.std.specs.Prelude.{◌≡◌, ◌==◌, ◌<◌, ◌≤◌, length, map, find, option_copied, position};
 ghost use Rattle.pcb_table.specs.Inside.Search.{best_block, from_port, receiving_blocks, youngest_block};
 ghost use Rattle.pcb_table.specs.Apart.{has_fd};
-ghost use Rattle.pcb_table.specs.Inside.Fields.{IsLocated, Locates};
+ghost use Rattle.pcb_table.specs.Inside.Fields.{Locates};
 
 use crate::block::Block;
 use crate::blocks::Blocks;

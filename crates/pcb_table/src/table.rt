@@ -1,5 +1,5 @@
 //! The control blocks of a machine, and the calls on them.
-ghost use Rattle.std.specs.Prelude.{◌≡◌, ◌≢◌, ◌==◌, ◌||◌, ℕ, ◌<◌, ◌≤◌, [], ◌∷◌, true, All, None, Some, Ok, IfNone, IfOk, IfSome, OnErr, OnOk, OnSome, length, option_map};
+ghost use Rattle.std.specs.Prelude.{◌≡◌, ◌≢◌, ◌==◌, ◌||◌, ◌<◌, ◌≤◌, [], true, All, None, Some, Ok, IfNone, IfOk, IfSome, OnErr, OnOk, OnSome, length, option_map};
 ghost use Rattle.flat_model.specs.Machine.Event.{Bind, Close, Connect, Open, Set_option};
 ghost use Rattle.flat_model.specs.Machine.State.{State};
 ghost use Rattle.flat_model.specs.Machine.Step.{Step};

@@ -1,5 +1,5 @@
 //! Marking answers.
-ghost use Rattle.std.specs.Prelude.{◌≡◌, not};
+ghost use Rattle.std.specs.Prelude.{◌≡◌};
 ghost use Rattle.flat_model.specs.Scripts.Grammar.{words};
 ghost use Rattle.play_script.specs.Views.{expected_on};
 ghost use Rattle.play_grade.specs.Answers as answers;

@@ -1,5 +1,5 @@
 //! Building the packet that a line describes.
-ghost use Rattle.std.specs.Prelude.{◌≡◌, ◌≤◌, ◌<◌, ◌+◌, ◌-◌, ◌++◌, length, take, drop, Some, IfSome};
+ghost use Rattle.std.specs.Prelude.{◌≡◌, ◌≤◌, ◌<◌, ◌+◌, ◌-◌, ◌++◌, length, take, drop, Some};
 ghost use Rattle.params.specs.declared.TheConstants.{IP_MAX_DATA, UDP_HEADER};
 ghost use Rattle.flat_model.specs.Packets.Checksum.{checksum as checksum_of};
 ghost use Rattle.flat_model.specs.Packets.Header as header;

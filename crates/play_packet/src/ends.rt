@@ -1,5 +1,5 @@
 //! Parsing the two endpoints of a packet.
-ghost use Rattle.std.specs.Prelude.{◌≡◌, ◌<◌, ◌≤◌, length, IfSome};
+ghost use Rattle.std.specs.Prelude.{◌≡◌, ◌<◌, length, IfSome};
 ghost use Rattle.play_packet.specs.Ends as ends;
 
 use crate::mark::Payload;

@@ -1,5 +1,5 @@
 //! Laws of the definitions, for callers to cite: each is the contract of a function that does nothing.
-ghost use Rattle.std.specs.Prelude.{◌≡◌, ◌++◌, ◌+◌, ◌-◌, ◌≤◌, length, codes, List, ℕ, Ok, None, false, map};
+ghost use Rattle.std.specs.Prelude.{◌≡◌, ◌++◌, ◌+◌, ◌≤◌, length, codes, List, ℕ, Ok, false, map};
 ghost use Rattle.std.specs.List.{AllByRecursion};
 ghost use Rattle.flat_model.specs.Machine.Event.{Comes};
 ghost use Rattle.flat_model.specs.Scripts.Grammar.{IsLine};

@@ -1,5 +1,5 @@
 //! The packets of a capture, one after another, with the ticks before each.
-ghost use Rattle.std.specs.Prelude.{◌≡◌, ◌≤◌, length, map, IfSome};
+ghost use Rattle.std.specs.Prelude.{◌≡◌, ◌≤◌, length, IfSome};
 ghost use Rattle.capture.specs.Seen.{captured};
 ghost use Rattle.capture.specs.Records.{nanoseconds};
 ghost use Rattle.play_pcap.specs.Events as events;

@@ -1,5 +1,5 @@
 //! A configuration while the settings of a line are parsed.
-ghost use Rattle.std.specs.Prelude.{◌≡◌, ◌<◌, ◌^◌};
+ghost use Rattle.std.specs.Prelude.{◌≡◌, ◌<◌};
 ghost use Rattle.play_script.specs.Settings.{Sets, SetsNamed, alone_fault, drafted, finished, setting_named};
 ghost use Rattle.play_script.specs.declared.setting.Setting.TheVariants as setting;
 

@@ -1,5 +1,5 @@
 //! The reply to a line, with the causes for which packets were dropped.
-ghost use Rattle.std.specs.Prelude.{◌≡◌, ◌+◌, ◌*◌, ◌≤◌, ◌++◌, [], length};
+ghost use Rattle.std.specs.Prelude.{◌≡◌, ◌+◌, ◌*◌, ◌≤◌, ◌++◌, length};
 ghost use Rattle.params.specs.declared.TheConstants.{IP_MAX_PACKET};
 ghost use Rattle.flat_model.specs.Scripts.Texts.{reply_text};
 ghost use Rattle.request.specs.Replies.{len_of, reply_of};

@@ -1,5 +1,5 @@
 //! The calls that play a script.
-ghost use Rattle.std.specs.Prelude.{◌≡◌, ◌≤◌, IfOk, false, length, take, true, vec_len};
+ghost use Rattle.std.specs.Prelude.{◌≡◌, IfOk, false, take, true, vec_len};
 ghost use Rattle.params.specs.declared.TheConstants.{IP_MAX_PACKET};
 ghost use Rattle.play_pcap.specs.Traces.{Traced};
 ghost use Rattle.flat_model.specs.Machine.State.{boot};

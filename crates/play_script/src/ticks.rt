@@ -1,5 +1,5 @@
 //! Lines that request several ticks.
-ghost use Rattle.std.specs.Prelude.{◌≡◌, ℕ, MatchOption};
+ghost use Rattle.std.specs.Prelude.{ℕ, MatchOption};
 ghost use Rattle.play_script.specs.Asks.{IsTicks};
 
 use script_loop::{first_word, number, one};

@@ -17,7 +17,7 @@ use flat_model::Config;
 use play_script::{DEFAULTS, SettingFault, settings_of};
 use script_loop::{Buffer, Sink, first_word};
 use segment::{Link, Segment};
-use std::alloc::{AllocError, Global};
+use std::alloc::Global;
 
 /// The most packets that are under way at once.
 pub(crate) const PACKETS: u16 = 4096;

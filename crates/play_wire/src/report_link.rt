@@ -12,7 +12,7 @@ use play_show::SHOWN;
 use play_text::Piece::{Address, Amount, Either, Hardware, Long, Number, Text};
 use play_text::{add, put};
 use script_loop::Buffer;
-use segment::{AddressState, Link, Mac, Neighbour, NetFault, Segment, Tallies};
+use segment::{AddressState, Link, Neighbour, NetFault, Segment, Tallies};
 
 // ---- neighbours
 

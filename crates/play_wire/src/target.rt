@@ -1,6 +1,5 @@
 //! The host that a line names.
-ghost use Rattle.std.specs.Prelude.{◌≡◌, ◌≤◌, length};
-ghost use Rattle.play_text.specs.Texts.{if_there};
+ghost use Rattle.std.specs.Prelude.{◌≤◌, length};
 ghost use Rattle.play_wire.specs.Inside.{named_by};
 ghost use Rattle.play_wire.specs.Reports.{IsParted};
 

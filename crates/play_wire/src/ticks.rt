@@ -1,10 +1,10 @@
 //! Ticks of hosts.
-ghost use Rattle.std.specs.Prelude.{◌≡◌, true, map, replicate};
+ghost use Rattle.std.specs.Prelude.{◌≡◌, true, replicate};
 ghost use Rattle.flat_model.specs.Amounts.Choice.{Choice};
 ghost use Rattle.flat_model.specs.Machine.Event.{Tick, Done};
 ghost use Rattle.net_stack.specs.Runs.{AreCalls};
 ghost use Rattle.segment.specs.Inside.{view};
-ghost use Rattle.segment.specs.Law.{AgesLink, AreActs, Calls, Ether};
+ghost use Rattle.segment.specs.Law.{AgesLink, AreActs, Ether};
 ghost use Rattle.segment.specs.Segment.{is_ether};
 ghost use Rattle.play_wire.specs.Acts.{AreLedTo, call_turn};
 ghost use Rattle.play_wire.specs.Inside.{IsExchanged, IsKept};

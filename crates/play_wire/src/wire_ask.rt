@@ -1,7 +1,7 @@
 //! The request of a line to the wire: a line is parsed once, into a value.
 ghost use Rattle.std.specs.Prelude.{◌≡◌, ℕ, [], MatchOption};
 ghost use Rattle.script_loop.specs.Left.{left};
-ghost use Rattle.play_wire.specs.Inside.{ReadsAfter, wire_asked, wire_asks};
+ghost use Rattle.play_wire.specs.Inside.{ReadsAfter, wire_asks};
 ghost use Rattle.play_wire.specs.Verbs.{IsOneNumber, IsTickCount};
 ghost use Rattle.play_wire.specs.Wires.{AsksWire, IsBound, IsSeed};
 ghost use Rattle.play_forms.specs.declared.command.Command.TheVariants as command;

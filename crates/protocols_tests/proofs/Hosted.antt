@@ -1,9 +1,6 @@
 -- Sockets and an output queue beside chains in hand, for the tests.
-use Rattle.std.proofs.Common.{◌≡◌, ◌≢◌, ℕ, ◌+◌, ◌≤◌, List, [], ◌++◌, Option, None, sym, ap, subst, arith}
-use Rattle.std.specs.Prelude.{Result}
+use Rattle.std.proofs.Common.{◌≡◌, ◌≢◌, ℕ, ◌+◌, ◌≤◌, List, [], ◌++◌, None, sym, ap, subst, arith}
 use Rattle.flat_model.specs.Machine.Event.{Event, Reply}
-use Rattle.flat_model.specs.declared.address.Addr.{Addr}
-use Rattle.flat_model.specs.declared.errno.Errno.{Errno}
 use Rattle.mbuf_chain.specs.Chain.{PoolView}
 use Rattle.mbuf_chain.specs.Owners.{times_among, IsOwned, Moves}
 use Rattle.mbuf_chain.specs.Frames.{SameAt}
@@ -14,7 +11,7 @@ use Rattle.sockbuf.specs.SockBuf.{SockBufView}
 use Rattle.ip_out.specs.Queues.{IsOutputQueue}
 use Rattle.sock_calls.specs.declared.net.Net.{Net}
 use Rattle.sock_calls.specs.Sockets.{SocksView, IsSocks, IsCalled, queued_chains}
-use Rattle.sock_calls.specs.Outgoing.{SendView, CanSend, IsSent, sending}
+use Rattle.sock_calls.specs.Outgoing.{CanSend, sending}
 use Rattle.sock_calls.proofs.Laws.{Kept, kept}
 
 -- sockets, output queue, and the chains in hand
@@ -168,11 +165,6 @@ can_send {p} {s} {n} h mtu apart outside = record {
   apart = apart;
   outside = outside;
 }
-
-pub after_send : {fd : ℕ} {to : Option Addr} {bytes : List ℕ} {v u : SendView} {result : Result ℕ Errno}
-    → Parts v.pool v.socks v.net → IsSent fd to bytes v result u
-    → Held u.pool u.socks u.net.out (numbers u.pool u.net.looped)
-after_send h is = record { socks = is.socks; out = is.out; owned = owned_after is.moves h.2 }
 
 -- the queue beside the end of the sockets
 pub queue_left : {p q : PoolView} {s : SocksView} (n : Net) → Parts p s n → Moves p (queued_chains p s.queues) q []

@@ -1,9 +1,9 @@
 //! The text of replies.
-ghost use Rattle.std.specs.Prelude.{◌≡◌, ◌+◌, ◌*◌, ◌≤◌, ◌<◌, ◌++◌, length, Some, codes, decimal, IfSome};
+ghost use Rattle.std.specs.Prelude.{◌≡◌, ◌+◌, ◌*◌, ◌≤◌, ◌<◌, ◌++◌, length, Some, codes, decimal};
 ghost use Rattle.params.specs.declared.TheConstants.{IP_MAX_PACKET, LONGEST_REQUEST};
 ghost use Rattle.flat_model.specs.Machine.Count.{counter_name};
 ghost use Rattle.flat_model.specs.Machine.Event.{Received, Given};
-ghost use Rattle.flat_model.specs.Scripts.Texts.{hex_text, refusal_text, lack_text, reply_text, answer_text, count, count_text, counters_text, usage_text, share_text};
+ghost use Rattle.flat_model.specs.Scripts.Texts.{refusal_text, lack_text, reply_text, answer_text, count, count_text, counters_text, usage_text, share_text};
 ghost use Rattle.request.specs.Replies.{reply_of, len_of};
 
 use crate::address::put_address;

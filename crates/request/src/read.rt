@@ -1,5 +1,5 @@
 //! Parsing a line into a request.
-ghost use Rattle.std.specs.Prelude.{◌≡◌, ◌≤◌, ℕ, Bool, List, [], length, MatchOption, IfSome};
+ghost use Rattle.std.specs.Prelude.{◌≡◌, ◌≤◌, Bool, [], length, MatchOption, IfSome};
 ghost use Rattle.flat_model.specs.declared.address.Addr.{Addr};
 ghost use Rattle.flat_model.specs.Machine.Event.{Event};
 ghost use Rattle.flat_model.specs.Scripts.Grammar.{IsEnd, option_name, switch_name};

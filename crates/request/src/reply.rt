@@ -1,7 +1,4 @@
 //! The replies of a stack.
-ghost use Rattle.std.specs.Prelude.{◌≡◌, ◌≤◌, length};
-ghost use Rattle.flat_model.specs.Machine.Replies.{opened_reply, done_reply, sent_reply, received_reply, given_reply, FitsRoom};
-ghost use Rattle.request.specs.Replies.{reply_of, len_of};
 
 use flat_model::{Addr, Counters, Errno, Mbstat};
 

@@ -1,5 +1,5 @@
 //! Readers and writers that can record how many errors they returned.
-ghost use Rattle.std.specs.Prelude.{◌≡◌, ◌<◌, ℕ, length, Option, Some, None};
+ghost use Rattle.std.specs.Prelude.{◌<◌, ℕ, length, Option, Some, None};
 ghost use Rattle.std.specs.Io.{ReadsAtMost, WritesAtMost};
 ghost use Rattle.std.specs.Io.KnownBytes.{ReadConsumes, WriteAppends};
 ghost use Rattle.script_loop.specs.Streams.{MoreBy, Sends, read_failures, write_failures, writer_failures};

@@ -1,5 +1,5 @@
 //! Packets that wait in the output queues are carried.
-ghost use Rattle.std.specs.Prelude.{◌≡◌, ◌-◌, ◌++◌, [], length, map, slice_get, take, vec_capacity};
+ghost use Rattle.std.specs.Prelude.{◌≡◌, ◌-◌, length, map, slice_get, vec_capacity};
 ghost use Rattle.std.specs.List.{list_all};
 ghost use Rattle.net_stack.specs.Runs.{AreCalls};
 ghost use Rattle.segment.specs.Flying.{comes, transmits_of, waiting};

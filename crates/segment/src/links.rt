@@ -1,5 +1,5 @@
 //! Hosts on an Ethernet: their links send frames, and frames arrive at them.
-ghost use Rattle.std.specs.Prelude.{◌≡◌, ◌≤◌, ◌==◌, ◌∷◌, [], not, if◌then◌else◌, take, drop, Some, None, map, slice_get, vec_capacity, length};
+ghost use Rattle.std.specs.Prelude.{◌≡◌, ◌≤◌, ◌∷◌, [], if◌then◌else◌, take, drop, Some, None, map, slice_get, vec_capacity, length};
 ghost use Rattle.params.specs.declared.TheConstants.{MAX_MTU};
 ghost use Rattle.ether_host.specs.Inside.{link_seen};
 ghost use Rattle.ether_host.specs.View.{halves};

@@ -1,5 +1,5 @@
 //! One host on an Ethernet: how it joins, frames from outside that arrive at it, and queries about it.
-ghost use Rattle.std.specs.Prelude.{◌≡◌, ◌+◌, ◌≤◌, ◌==◌, ◌&&◌, Result, Ok, Err, length, map, nat_lt, is_some, option_map, slice_get, MatchOption, MatchResult, None, Some};
+ghost use Rattle.std.specs.Prelude.{◌≡◌, ◌+◌, ◌≤◌, ◌&&◌, Ok, Err, length, map, nat_lt, is_some, option_map, slice_get, MatchOption, MatchResult, None, Some};
 ghost use Rattle.std.specs.List.{list_all};
 ghost use Rattle.flat_model.specs.Amounts.Choice.{Choice};
 ghost use Rattle.params.specs.declared.TheConstants.{IP_MAX_PACKET};

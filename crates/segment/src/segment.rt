@@ -1,9 +1,9 @@
 //! A broadcast segment: its hosts, and what is under way.
-ghost use Rattle.std.specs.Prelude.{◌≡◌, ◌∷◌, [], ◌++◌, ◌+◌, length, nat_lt, option_map, slice_get, slice_set, IfOk, MatchResult};
+ghost use Rattle.std.specs.Prelude.{◌≡◌, length, nat_lt, option_map, slice_get, slice_set, IfOk, MatchResult};
 ghost use Rattle.std.specs.List.{list_all};
 ghost use Rattle.segment.specs.Chances.{seeded};
 ghost use Rattle.segment.specs.Segment.{IsJoined, IsJoinRefused, are_apart, is_ether, no_hosts};
-ghost use Rattle.segment.specs.Inside.{lends_stack, view, with_stack};
+ghost use Rattle.segment.specs.Inside.{lends_stack, view};
 ghost use Rattle.std.specs.Borrow.{sem};
 
 use crate::chances::{Chances, Impairment, NO_CHANCES, seeded};

@@ -1,5 +1,5 @@
 //! The routes of packets: from a host to the wire, and from the wire to a host.
-ghost use Rattle.std.specs.Prelude.{◌≡◌, ◌<◌, ◌≤◌, ◌++◌, ◌∷◌, [], drop, length, map, take, vec_capacity};
+ghost use Rattle.std.specs.Prelude.{◌≡◌, ◌<◌, ◌≤◌, ◌∷◌, [], drop, length, map, take, vec_capacity};
 ghost use Rattle.params.specs.declared.TheConstants.{MAX_MTU};
 ghost use Rattle.net_stack.specs.Runs.{AreCalls};
 ghost use Rattle.segment.specs.Flying.{comes, transmits_of, received, sent_by, waiting};

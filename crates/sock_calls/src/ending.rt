@@ -1,5 +1,5 @@
 //! Frees the contents of all queues.
-ghost use Rattle.std.specs.Prelude.{◌≡◌, [], ℕ};
+ghost use Rattle.std.specs.Prelude.{[], ℕ};
 ghost use Rattle.mbuf_chain.specs.Owners.{IsOwned, Moves};
 ghost use Rattle.sockbuf.specs.SockBuf.{IsSockBuf};
 ghost use Rattle.sock_calls.specs.Sockets.{AreEmpty, queue_at, queued_chains};

@@ -4,7 +4,7 @@ ghost use Rattle.flat_model.specs.Sockets.Fits as flat;
 ghost use Rattle.mbuf_chain.specs.Chain.{PoolView};
 ghost use Rattle.mbuf_chain.specs.Heads.{nth_heads};
 ghost use Rattle.pcb_table.specs.Table.{block_at};
-ghost use Rattle.sockbuf.specs.SockBuf.{IsSockBuf, chains_of, datagrams};
+ghost use Rattle.sockbuf.specs.SockBuf.{IsSockBuf, chains_of};
 ghost use Rattle.sock_calls.specs.Questions.{set_below, oldest_datagram};
 ghost use Rattle.sock_calls.specs.Inside.Asked.{name_of_block, waits_at};
 ghost use Rattle.sock_calls.specs.Sockets.{queue_at, queues_of};

@@ -1,7 +1,7 @@
 //! The memory that a chain takes.
 
-ghost use Rattle.std.specs.Prelude.{◌≡◌, ◌+◌, ◌*◌, ◌≤◌, length};
-ghost use Rattle.mbuf_chain.specs.Chain.{IsLive, chain_of};
+ghost use Rattle.std.specs.Prelude.{◌≡◌, ◌+◌, ◌*◌, ◌≤◌};
+ghost use Rattle.mbuf_chain.specs.Chain.{IsLive};
 ghost use Rattle.ledger.specs.Accounts.{weight_at};
 ghost use Rattle.sockbuf.specs.SockBuf.{memory_of};
 

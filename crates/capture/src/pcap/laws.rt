@@ -4,7 +4,7 @@ ghost use Rattle.std.specs.List.{AllByRecursion};
 ghost use Rattle.capture.specs.File.{IsHeader, file_header_bytes, header_of};
 ghost use Rattle.capture.specs.Frames.{CarriesIpv4, IsPacket, packet_in_frame};
 ghost use Rattle.capture.specs.declared.pcap.link_type.LinkType.{LinkType};
-ghost use Rattle.capture.specs.Records.{Captured, FitsFields, Reads, Whole, records_bytes};
+ghost use Rattle.capture.specs.Records.{FitsFields, Reads, Whole, records_bytes};
 ghost use Rattle.capture.specs.declared.pcap.header.Header.{Header};
 ghost use Rattle.capture.specs.declared.pcap.fault.Fault.{Fault};
 

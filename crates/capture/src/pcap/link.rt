@@ -1,5 +1,5 @@
 //! The IPv4 packet in a frame.
-ghost use Rattle.std.specs.Prelude.{◌≡◌, ◌+◌, ◌≤◌, length};
+ghost use Rattle.std.specs.Prelude.{◌≡◌, ◌+◌, ◌≤◌};
 ghost use Rattle.std.specs.Int.{w32};
 ghost use Rattle.capture.specs.File.{ReturnsBy, number_of};
 ghost use Rattle.capture.specs.declared.pcap.header.Order.TheVariants.{Big};

@@ -1,8 +1,8 @@
 //! Files read, record by record or whole.
-ghost use Rattle.std.specs.Prelude.{◌≡◌, ◌+◌, ◌*◌, ◌^◌, ◌<◌, ◌≤◌, ◌++◌, ℕ, drop, length, IfOk, IfErr, OnErr, Result};
+ghost use Rattle.std.specs.Prelude.{◌≡◌, ◌+◌, ◌*◌, ◌^◌, ◌<◌, ◌≤◌, ◌++◌, drop, length, IfOk, IfErr, OnErr, Result};
 ghost use Rattle.std.specs.Int.{w32};
 ghost use Rattle.capture.specs.File.{ReturnsBy, header_of, number_of};
-ghost use Rattle.capture.specs.Records.{Captured, FitsFields, IsCut, Reads, Steps, Whole, RecordReading, nanoseconds, record_bytes};
+ghost use Rattle.capture.specs.Records.{FitsFields, IsCut, Reads, Steps, Whole, RecordReading, nanoseconds, record_bytes};
 ghost use Rattle.capture.specs.Seen.{ReturnsUnlessMemory, captured, stepped};
 ghost use Rattle.capture.specs.declared.pcap.fault.Fault.{Fault};
 

@@ -1,8 +1,8 @@
 //! A host without reassembly: sockets, a pool and a link, with the steps that keep them together.
 
-ghost use Rattle.std.specs.Prelude.{◌∷◌, ◌++◌, true};
+ghost use Rattle.std.specs.Prelude.{◌++◌};
 ghost use Rattle.mbuf_chain.specs.Owners.{IsOwned};
-ghost use Rattle.mbuf_chain.specs.Train.{IsHeld, numbers};
+ghost use Rattle.mbuf_chain.specs.Train.{numbers};
 ghost use Rattle.ip_out.specs.Queues.{IsOutputQueue};
 ghost use Rattle.sock_calls.specs.Sockets.{IsSocks, queued_chains};
 
