@@ -18,7 +18,7 @@ use Rattle.net_stack.specs.Stack.{StackView, state_of}
 use Rattle.net_stack.specs.Runs.{AreCalls}
 use Rattle.net_stack.specs.Wire.{AreOnOneWire}
 use Rattle.callers.specs.declared.laws_on_a_wire.TheConstants.{FIRST, SECOND, SOCKET, PORT}
-use Rattle.callers.specs.Received.{HasGiven, IsReceived, packet_comes, events, receives, send_event}
+use Rattle.callers.specs.Received.{HasGiven, IsReceivedInOrder, packet_comes, events, receives, send_event}
 
 pub then_calls : (a b c : StackView) (xs ys : List Turn) → AreCalls a xs b → AreCalls b ys c → AreCalls a (xs ++ ys) c
 then_calls a b c [] ys same later = subst (λ (s : StackView). AreCalls s ys c) same later
@@ -158,7 +158,7 @@ both a a1 b b1 b2 {a2} {a3} {a4} {a5} {a6} {s} {b3} {b4} {mid} {opened} {bound} 
 pub received : (calls : CallsLaw) (received : ReceivedBy) → IsConfig FIRST → IsConfig SECOND
     → {a s b mid : StackView} (t : StackView) {lost late early : List ℕ} → AreBoth a s b mid lost late early
     → {most count : ℕ} {reply : Reply} → Step (state_of mid) (Receive SOCKET most) reply (state_of t)
-    → value_of IpLocalout s.counters ≡ count → IsReceived lost late early most count reply
+    → value_of IpLocalout s.counters ≡ count → IsReceivedInOrder lost late early most count reply
 received calls received boots_first boots_second {a} {s} {b} {mid} t {lost} {late} {early} w {most} {count} {reply} last
     counts = record {
       sent = w.sent;

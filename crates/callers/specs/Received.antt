@@ -40,7 +40,7 @@ pub record HasGiven (old new : StackView) (packet : List ℕ) : Type 0 where
 -- packets three times. At the second arrived one packet, another, and the first of the two again; then a datagram was
 -- requested from it, with this reply. The replies of each are those of a run. If the first has counted fewer than
 -- 65,536 sends, they were on one wire, and the first sent what has its address as the sender's.
-pub record IsReceived (lost late early : List ℕ) (most count : ℕ) (reply : Reply) : Type 0 where
+pub record IsReceivedInOrder (lost late early : List ℕ) (most count : ℕ) (reply : Reply) : Type 0 where
   pub sent : List Turn
   pub before : List Turn
   pub s : StackView

@@ -3,7 +3,7 @@ ghost use Rattle.std.specs.Prelude.{◌≡◌, ◌≤◌, ◌∷◌, [], length,
 ghost use Rattle.flat_model.specs.Machine.Event.{Reply};
 ghost use Rattle.flat_model.specs.Machine.Replies.{received_reply};
 ghost use Rattle.net_stack.specs.Runs.{AreCalls};
-ghost use Rattle.callers.specs.Received.{HasGiven, IsReceived, packet_comes, send_event};
+ghost use Rattle.callers.specs.Received.{HasGiven, IsReceivedInOrder, packet_comes, send_event};
 ghost use Rattle.params.specs.declared.TheConstants.{IP_MAX_PACKET};
 
 use flat_model::{Addr, Config, Counter, Errno};
@@ -97,7 +97,7 @@ pub fn receive_out_of_order(
     early: &[u8],
     buffer: &mut [u8],
 ) -> Result<Received, BootFault>
-    ensures { IfOk result (λ received. IsReceived lost.now late.now early.now (length buffer.old) received.sends
+    ensures { IfOk result (λ received. IsReceivedInOrder lost.now late.now early.now (length buffer.old) received.sends
         (received_reply received.answer buffer.new)) }
 {
     let mut first = Stack::boot(alloc, FIRST)?;

@@ -11,11 +11,11 @@ pub fn named_len(alloc: Global, line: &[u8]) -> Result<Result<usize, SyntaxError
     let mut packet: Buffer<PACKET> = Buffer::new(alloc)?;
     match reader.plain_line(line) {
         Ok(plain) => words.append(plain),
-        Err(syntax_error) => return Ok(Err(syntax_error)),
+        Err(error) => return Ok(Err(error)),
     }
     match reader.put_packet(line, words.as_slice(), &mut packet) {
         Ok(true) => Ok(Ok(packet.len())),
         Ok(false) => Ok(Ok(0)),
-        Err(syntax_error) => Ok(Err(syntax_error)),
+        Err(error) => Ok(Err(error)),
     }
 }

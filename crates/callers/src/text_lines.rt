@@ -7,6 +7,6 @@ pub fn plain_len(alloc: Global, line: &[u8]) -> Result<Result<usize, SyntaxError
     let mut reader = Reader::new(alloc)?;
     match reader.plain_line(line) {
         Ok(plain) => Ok(Ok(plain.len())),
-        Err(syntax_error) => Ok(Err(syntax_error)),
+        Err(error) => Ok(Err(error)),
     }
 }

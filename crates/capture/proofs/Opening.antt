@@ -15,7 +15,8 @@ use Rattle.capture.specs.declared.fault.Why.TheVariants.{NotRead}
 use Rattle.capture.specs.declared.records.Kind.TheVariants as kinds
 
 -- a stream that can't be read
-pub not_opened : (old new : Option (List ℕ)) (held buffer : List ℕ) (s : FaultAt) → held ≡ [] → Fills old held new buffer
+pub not_opened : (old new : Option (List ℕ)) (held buffer : List ℕ) (s : FaultAt) → held ≡ []
+    → Fills old held new buffer
     → s.why ≡ NotRead → Opens old new buffer (Err s)
 not_opened old new held buffer s none f why = (fills_all old new held buffer none f, inl why)
 

@@ -100,7 +100,8 @@ block_read k new old now held buffer bytes found e f read t =
     )
 
 -- a block was read that is none, or whose body has a fault
-pub block_refused : (k new : Known) (old now : Option (List ℕ)) (held buffer bytes : List ℕ) (s : FaultAt) → bytes ≡ buffer
+pub block_refused : (k new : Known) (old now : Option (List ℕ)) (held buffer bytes : List ℕ) (s : FaultAt)
+    → bytes ≡ buffer
     → Fills old held now buffer → IsBlockRead k.order buffer (IsAtEnd now) → Takes k bytes (Err s) new
     → BlockReads k old held new now buffer (Err s)
 block_refused k new old now held buffer bytes s e f read t =

@@ -97,7 +97,8 @@ BlockLoads o old held new buffer (Err s) =
     Fills old held new buffer × BlockFails o buffer (IsAtEnd new) s
 
 -- what one block comes to, of which the room may hold the first bytes already
-abbrev pub BlockReads : Known → Option (List ℕ) → List ℕ → Known → Option (List ℕ) → List ℕ → Result Step FaultAt → Type 0
+abbrev pub BlockReads : Known → Option (List ℕ) → List ℕ → Known → Option (List ℕ) → List ℕ → Result Step FaultAt
+    → Type 0
 BlockReads k old held new now buffer (Ok steps.Ended) =
     Fills old held now buffer × (buffer ≡ []) × IsAtEnd now × (new ≡ k)
 BlockReads k old held new now buffer (Ok steps.Passed) =

@@ -18,8 +18,8 @@ fn load_record<S: Source>(feed: &mut Feed<S>, order: Order) -> Result<(), FaultA
     requires { feed.old.buffer ≡ [] }
     ensures { IsLoaded order (S.remaining feed.old.source) (S.remaining feed.new.source) feed.new.buffer result }
 {
-    if let Err(fault_at) = feed.fill(RECORD_HEADER) {
-        return Err(fault_at);
+    if let Err(error) = feed.fill(RECORD_HEADER) {
+        return Err(error);
     }
     if feed.buffer.len() < RECORD_HEADER {
         return Ok(());
@@ -33,7 +33,7 @@ fn load_record<S: Source>(feed: &mut Feed<S>, order: Order) -> Result<(), FaultA
     }
     match feed.fill(RECORD_HEADER + captured) {
         Ok(()) => Ok(()),
-        Err(fault_at) => Err(fault_at),
+        Err(error) => Err(error),
     }
 }
 
@@ -49,8 +49,8 @@ pub(crate) fn read_record<S: Source>(
         result }
     ensures inside { IfOk result (IsInside (length feed.new.buffer)) }
 {
-    if let Err(fault_at) = load_record(feed, header.order) {
-        return Err(fault_at);
+    if let Err(error) = load_record(feed, header.order) {
+        return Err(error);
     }
     if feed.buffer.is_empty() {
         return Ok(None);

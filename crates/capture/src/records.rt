@@ -83,8 +83,8 @@ fn open<S: Source>(feed: &mut Feed<S>) -> Result<Option<Header>, FaultAt>
     requires { feed.old.buffer ≡ [] }
     ensures { Opens (S.remaining feed.old.source) (S.remaining feed.new.source) feed.new.buffer result }
 {
-    if let Err(fault_at) = feed.fill(EMPTY_BLOCK) {
-        return Err(fault_at);
+    if let Err(error) = feed.fill(EMPTY_BLOCK) {
+        return Err(error);
     }
     match kind_of(feed.buffer.as_slice()) {
         Kind::Gzip => Err(FaultAt {
@@ -99,8 +99,8 @@ fn open<S: Source>(feed: &mut Feed<S>) -> Result<Option<Header>, FaultAt>
                     at: 0,
                 });
             }
-            if let Err(fault_at) = feed.fill(FILE_HEADER) {
-                return Err(fault_at);
+            if let Err(error) = feed.fill(FILE_HEADER) {
+                return Err(error);
             }
             match Reader::open(feed.buffer.as_slice()) {
                 Ok(reader) => Ok(Some(reader.header())),
@@ -132,7 +132,7 @@ fn find<S: Source>(course: &mut Course<S>) -> Result<Option<Found>, FaultAt>
                 course.format = Format::Pcapng;
                 read_packet(&mut course.feed, &mut course.blocks, &mut course.offset)
             }
-            Err(fault_at) => Err(fault_at),
+            Err(error) => Err(error),
         },
         Format::Classic(header) => read_record(&mut course.feed, header),
         Format::Pcapng => { read_packet(&mut course.feed, &mut course.blocks, &mut course.offset) }
@@ -216,10 +216,10 @@ impl<S: Source> Records<S> {
                     link: found.link,
                 }))
             }
-            Err(fault_at) => {
+            Err(error) => {
                 let fault = Fault {
-                    why: fault_at.why,
-                    offset: self.course.offset.saturating_add(fault_at.at as u64),
+                    why: error.why,
+                    offset: self.course.offset.saturating_add(error.at as u64),
                 };
                 self.fault = Some(fault);
                 Err(fault)

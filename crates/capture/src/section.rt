@@ -31,8 +31,8 @@ fn load_block<S: Source>(feed: &mut Feed<S>, current: Option<Order>) -> Result<(
     ensures { BlockLoads current (S.remaining feed.old.source) feed.old.buffer (S.remaining feed.new.source)
         feed.new.buffer result }
 {
-    if let Err(fault_at) = feed.fill(EMPTY_BLOCK) {
-        return Err(fault_at);
+    if let Err(error) = feed.fill(EMPTY_BLOCK) {
+        return Err(error);
     }
     if feed.buffer.len() < EMPTY_BLOCK {
         return Ok(());
@@ -49,7 +49,7 @@ fn load_block<S: Source>(feed: &mut Feed<S>, current: Option<Order>) -> Result<(
     }
     match feed.fill(len) {
         Ok(()) => Ok(()),
-        Err(fault_at) => Err(fault_at),
+        Err(error) => Err(error),
     }
 }
 
@@ -64,8 +64,8 @@ pub(crate) fn read_block<S: Source>(
         (S.remaining feed.new.source) feed.new.buffer result }
     ensures inside { StepInside (length feed.new.buffer) result }
 {
-    if let Err(fault_at) = load_block(feed, blocks.order) {
-        return Err(fault_at);
+    if let Err(error) = load_block(feed, blocks.order) {
+        return Err(error);
     }
     if feed.buffer.is_empty() {
         return Ok(Step::Ended);
@@ -73,7 +73,7 @@ pub(crate) fn read_block<S: Source>(
     match blocks.take(feed.buffer.as_slice()) {
         Ok(Some(found)) => Ok(Step::Packet(found)),
         Ok(None) => Ok(Step::Passed),
-        Err(fault_at) => Err(fault_at),
+        Err(error) => Err(error),
     }
 }
 
@@ -95,7 +95,7 @@ pub(crate) fn read_packet<S: Source>(
             Ok(Step::Ended) => return Ok(None),
             Ok(Step::Packet(found)) => return Ok(Some(found)),
             Ok(Step::Passed) => {}
-            Err(fault_at) => return Err(fault_at),
+            Err(error) => return Err(error),
         }
         at = at.saturating_add(feed.buffer.len() as u64);
         *offset = at;

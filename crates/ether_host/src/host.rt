@@ -81,8 +81,8 @@ impl EtherHost {
     }
 
     /// The next frame for the link, until `None`: call it after each other call. Until the host uses its address it
-    /// sends only probes. The frame's bytes are at the front of `buffer`, and the result is how many they are. `buffer` has
-    /// at least 1,514 bytes; its bytes after the frame, or all of them if there is no frame, are unspecified. The
+    /// sends only probes. Writes the frame to the front of `buffer` and returns its length. `buffer` has at least 1,514
+    /// bytes; its bytes after the frame, or all of them if there is no frame, are unspecified. The
     /// network card adds padding to a short frame, and the check sequence.
     pub fn transmit(&mut self, buffer: &mut [u8]) -> Option<usize>
         requires mtu { (host_view self.old).stack.config.mtu ≤ ETHER_MTU }

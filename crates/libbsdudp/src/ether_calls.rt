@@ -35,7 +35,8 @@ pub(crate) fn receive(stack: &mut Stack, layer: &mut LinkLayer, frame: &[u8]) ->
 fn give(stack: &mut Stack, layer: &mut LinkLayer, buffer: &mut [u8]) -> i32
     requires mtu { stack.old.config.mtu ≤ ETHER_MTU }
     requires room { ETHER_HEADER + ETHER_MTU ≤ length buffer.old }
-    ensures { GivesFrame buffer.new result (both stack.old (link_seen layer.old)) (both stack.new (link_seen layer.new)) }
+    ensures { GivesFrame buffer.new result (both stack.old (link_seen layer.old))
+        (both stack.new (link_seen layer.new)) }
 {
     match layer.transmit(stack, buffer) {
         Some(len) => count(len),

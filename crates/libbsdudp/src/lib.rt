@@ -159,7 +159,8 @@ pub extern "C" fn bsdudp_core_recvfrom(
     from: &mut CAddr,
 ) -> i32
     ensures { Answers (stack_in handle.old) result (stack_in handle.new)
-        ((buffer.new ≡ buffer.old) × (from.new ≡ from.old)) (IsReceived fd result buffer.old buffer.new from.old from.new) }
+        ((buffer.new ≡ buffer.old) × (from.new ≡ from.old)) (IsReceived fd result buffer.old buffer.new
+        from.old from.new) }
 {
     with_held!(handle, alloc, NO_STACK, boxed => calls::receive(&mut boxed.stack, fd, buffer, from))
 }

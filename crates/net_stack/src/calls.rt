@@ -54,7 +54,7 @@ impl Stack {
         self.host.socks.setsockopt(fd, option, on)
     }
 
-    /// Removes the oldest datagram from a socket's queue, copies the bytes that fit into `buffer`, and returns its sender
+    /// Removes the oldest datagram from a socket's queue, copies to `buffer` the bytes that fit, and returns its sender
     /// and the number of bytes copied. The other bytes are lost, and all its buffers are freed (`soreceive` of volume
     /// 2, chapter 16). The rest of `buffer` is unchanged. It never blocks.
     ///
@@ -82,8 +82,8 @@ impl Stack {
     }
 
     /// Removes the oldest packet from the output queue, for the link: copies its bytes to the front of `buffer`, frees
-    /// its buffers, and returns its length. `None` if the queue is empty. The rest of `buffer` is unchanged. `buffer` must
-    /// be at least as long as the MTU, which `mtu` returns; 4,352 bytes are always enough.
+    /// its buffers, and returns its length. `None` if the queue is empty. The rest of `buffer` is unchanged. `buffer`
+    /// must be at least as long as the MTU, which `mtu` returns; 4,352 bytes are always enough.
     pub fn tx(&mut self, buffer: &mut [u8]) -> Option<usize>
         requires { self.old.config.mtu ≤ length buffer.old }
         ensures step { Step (state_of self.old) Transmit (given_reply result buffer.new) (state_of self.new) }

@@ -28,12 +28,12 @@ ticks_front ticks = if ticks == 0 then [] else codes "+" ++ decimal ticks ++ cod
 abbrev pub with_ticks : ℕ → Reading → Reading
 with_ticks ticks Nothing = Nothing
 with_ticks ticks TooLong = TooLong
-with_ticks ticks (Faulty syntax_error) = Faulty syntax_error
+with_ticks ticks (Faulty error) = Faulty error
 with_ticks ticks (Asks shown plain wanted) = Asks shown (ticks_front ticks ++ plain) wanted
 
 -- a line with its time
 abbrev pub timed_on : List ℕ → Result TimedView SyntaxError → Reading
-timed_on line (Err syntax_error) = Faulty syntax_error
+timed_on line (Err error) = Faulty error
 timed_on line (Ok t) = with_ticks t.ticks (reading_part line t.part)
 
 -- a question is read like a line: the text after its `=>` is the answer

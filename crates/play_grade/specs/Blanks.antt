@@ -16,7 +16,7 @@ blank_asked line shown (Some wanted) =
 abbrev pub blank_reading : List ℕ → Reading → List ℕ
 blank_reading line Nothing = line ++ codes "\n"
 blank_reading line TooLong = line ++ codes "\n"
-blank_reading line (Faulty syntax_error) = line ++ codes "\n"
+blank_reading line (Faulty error) = line ++ codes "\n"
 blank_reading line (Asks shown plain wanted) = blank_asked line shown wanted
 
 -- a line without its answer; a private line of the key becomes empty

@@ -23,7 +23,7 @@ found_if false answer rest later = later
 abbrev pub found_on : List ℕ → Reading → List (List ℕ) → Option Found → Option Found
 found_on asked Nothing rest later = later
 found_on asked TooLong rest later = later
-found_on asked (Faulty syntax_error) rest later = later
+found_on asked (Faulty error) rest later = later
 found_on asked (Asks shown plain answer) rest later = found_if (bytes_eq asked plain) answer rest later
 
 -- the first of these lines with exactly this request
@@ -54,7 +54,7 @@ after_asked asked (Some wanted) s =
 abbrev pub after_reading : Reading → Standing → Standing
 after_reading Nothing s = s
 after_reading TooLong s = s
-after_reading (Faulty syntax_error) s = s
+after_reading (Faulty error) s = s
 after_reading (Asks shown plain wanted) s = after_asked plain wanted s
 
 abbrev pub after_line : List ℕ → Standing → Standing

@@ -15,5 +15,5 @@ standing_of s = record { number = s.number; marks = s.marks; left = lines_left s
 abbrev pub is_asked : Kind → Asked → Reading
 is_asked kind.Nothing a = Nothing
 is_asked kind.TooLong a = TooLong
-is_asked (kind.Faulty syntax_error) a = Faulty syntax_error
+is_asked (kind.Faulty error) a = Faulty error
 is_asked kind.Asks a = Asks a.line.shown a.plain (expected_on a.line)

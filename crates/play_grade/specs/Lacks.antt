@@ -22,7 +22,7 @@ is_setup plain = has_dashes plain || names_hosts (words plain)
 abbrev pub lacks_answer : Reading → Bool
 lacks_answer Nothing = false
 lacks_answer TooLong = false
-lacks_answer (Faulty syntax_error) = false
+lacks_answer (Faulty error) = false
 lacks_answer (Asks shown plain wanted) = if is_setup plain then false else not (is_answer wanted)
 
 -- a line makes a request and has no expectation, or it is a question without an answer
@@ -34,7 +34,7 @@ lacks line = lacks_answer (asked_on line)
 abbrev pub own_counted : Reading → ℕ → Marks → Marks
 own_counted Nothing number marks = marks
 own_counted TooLong number marks = marks
-own_counted (Faulty syntax_error) number marks = marks
+own_counted (Faulty error) number marks = marks
 own_counted (Asks shown plain wanted) number marks =
     if is_setup plain then marks
     else if is_answer wanted then counted Right number marks

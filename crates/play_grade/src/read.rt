@@ -30,7 +30,7 @@ impl Asked {
         let line = unmarked(text);
         match read_time(line) {
             Ok(timed) => self.read_timed(line, timed, reader),
-            Err(syntax_error) => Kind::Faulty(syntax_error),
+            Err(error) => Kind::Faulty(error),
         }
     }
 
@@ -47,7 +47,7 @@ impl Asked {
             }
             Kind::Nothing => Kind::Nothing,
             Kind::TooLong => Kind::TooLong,
-            Kind::Faulty(syntax_error) => Kind::Faulty(syntax_error),
+            Kind::Faulty(error) => Kind::Faulty(error),
         }
     }
 }

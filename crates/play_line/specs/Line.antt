@@ -165,9 +165,9 @@ front_or (Err e) r = Err e
 -- the bytes of a slice
 abbrev pub now_or : Result (Bor (List ℕ)) SyntaxError → Result (List ℕ) SyntaxError
 now_or (Ok text) = Ok text.now
-now_or (Err syntax_error) = Err syntax_error
+now_or (Err error) = Err error
 
 -- a plain line has 262,144 bytes at most
 abbrev pub IsShort : Result (Bor (List ℕ)) SyntaxError → Type 0
 IsShort (Ok text) = length text.now ≤ LONGEST
-IsShort (Err syntax_error) = Unit {0}
+IsShort (Err error) = Unit {0}

@@ -60,4 +60,4 @@ timed line = timed_at line (skip line)
 
 abbrev pub timed_or : Result Timed SyntaxError → Result TimedView SyntaxError
 timed_or (Ok t) = Ok (record { ticks = t.ticks; part = t.part.now })
-timed_or (Err syntax_error) = Err syntax_error
+timed_or (Err error) = Err error

@@ -94,7 +94,8 @@ number_or_misfit (Some value) fault at after = Ok (record { value = value; place
 number_or_misfit None fault at after = misfit fault at
 
 abbrev pub number_at : Fault → ℕ → List ℕ → ℕ → Result (NumberAt × ℕ) Misfit
-number_at fault most text at = needs NoCount text at (λ word after. number_or_misfit (number_in most word) fault at after)
+number_at fault most text at =
+    needs NoCount text at (λ word after. number_or_misfit (number_in most word) fault at after)
 
 -- the offset of a fragment, a multiple of 8
 abbrev pub offset_at : List ℕ → ℕ → Result (NumberAt × ℕ) Misfit

@@ -6,10 +6,10 @@ use Rattle.play_line.specs.declared.fault.SyntaxError.{SyntaxError}
 -- the text that was written, or the error
 abbrev pub put_or : {E : Type 0} → Result Unit E → List ℕ → Result (List ℕ) E
 put_or (Ok done) text = Ok text
-put_or (Err syntax_error) text = Err syntax_error
+put_or (Err error) text = Err error
 
 -- the plain line of words that describe this packet, or don't describe one
 abbrev pub plain_or : List ℕ → Result Bool SyntaxError → List ℕ → Result (List ℕ) SyntaxError
 plain_or words (Ok true) packet = Ok (codes "rx " ++ hex_text packet)
 plain_or words (Ok false) packet = Ok words
-plain_or words (Err syntax_error) packet = Err syntax_error
+plain_or words (Err error) packet = Err error

@@ -301,8 +301,8 @@ Reports-line join has now new n before TooLong text (is, same) =
     inl (Idle (ArePlayedTurns has n TooLong) now new refl (ap (λ (p : Play). p.machine) same)
     (ap (λ (p : Play). p.traced) same)
     (ap (λ (p : Play). p.number) same) (ap (λ (p : Play). p.config) same) (ap (λ (p : Play). p.head) same))
-Reports-line join has now new n before (Faulty syntax_error) text (is, same) =
-    inl (Idle (ArePlayedTurns has n (Faulty syntax_error)) now new refl (ap (λ (p : Play). p.machine) same)
+Reports-line join has now new n before (Faulty error) text (is, same) =
+    inl (Idle (ArePlayedTurns has n (Faulty error)) now new refl (ap (λ (p : Play). p.machine) same)
     (ap (λ (p : Play). p.traced) same)
     (ap (λ (p : Play). p.number) same) (ap (λ (p : Play). p.config) same) (ap (λ (p : Play). p.head) same))
 Reports-line join has now new n before (Asks shown plain wanted) text (mid, waited, reported) =
@@ -312,8 +312,8 @@ Reports-line join has now new n before (Asks shown plain wanted) text (mid, wait
 Timed-line : Joins → (has : List ℕ → List ℕ → Type 0) (now new : Play) (line text : List ℕ)
     (t : Result TimedView SyntaxError) → ReportsTimed Step has now line t text new
     → Asked (AreTimedTurns has line t) now new ⊎ Settled (AreTimedTurns has line t) (MayTimedSet line t) now new
-Timed-line join has now new line text (Err syntax_error) (is, same) =
-    inl (Idle (AreTimedTurns has line (Err syntax_error)) now new refl
+Timed-line join has now new line text (Err error) (is, same) =
+    inl (Idle (AreTimedTurns has line (Err error)) now new refl
     (ap (λ (p : Play). p.machine) same) (ap (λ (p : Play). p.traced) same)
     (ap (λ (p : Play). p.number) same) (ap (λ (p : Play). p.config) same) (ap (λ (p : Play). p.head) same))
 Timed-line join has now new line text (Ok t) reported =
@@ -324,11 +324,11 @@ Timed-line join has now new line text (Ok t) reported =
 MaySet-same : (line : Reading) (c : Config) → MaySet line c c
 MaySet-same Nothing c = refl
 MaySet-same TooLong c = refl
-MaySet-same (Faulty syntax_error) c = refl
+MaySet-same (Faulty error) c = refl
 MaySet-same (Asks shown plain wanted) c = inl refl
 
 MayTimedSet-same : (line : List ℕ) (t : Result TimedView SyntaxError) (c : Config) → MayTimedSet line t c c
-MayTimedSet-same line (Err syntax_error) c = refl
+MayTimedSet-same line (Err error) c = refl
 MayTimedSet-same line (Ok t) c = MaySet-same (reading_part line t.part) c
 
 MaySetAll-same : (lines : List (List ℕ)) (c : Config) → MaySetAll lines c c

@@ -49,7 +49,7 @@ expected text = back_at text (position (λ byte. byte == 61) text)
 pub data Reading : Type 0 where
   Nothing : Reading  -- a blank line, or only a comment
   TooLong : Reading  -- more than 262,144 bytes
-  Faulty : (syntax_error : SyntaxError) → Reading  -- bytes that can't be read, or words that name no packet
+  Faulty : (error : SyntaxError) → Reading  -- bytes that can't be read, or words that name no packet
   -- the line as it's written, the plain line that it stands for, and the reply that is expected
   Asks : (shown plain : List ℕ) (wanted : Option (List ℕ)) → Reading
 
@@ -66,13 +66,13 @@ reading_of shown (byte ∷ bytes) wanted = Asks shown (byte ∷ bytes) wanted
 -- the words of a line, with the bytes of a packet instead of the words that name it, and what is expected
 abbrev pub reading_words : List ℕ → Result (List ℕ) SyntaxError → Option (List ℕ) → Reading
 reading_words shown (Ok words) wanted = reading_of shown words wanted
-reading_words shown (Err syntax_error) wanted = Faulty syntax_error
+reading_words shown (Err error) wanted = Faulty error
 
 -- a line as it's written, and the plain line of a part of it
 abbrev pub reading_plain : List ℕ → List ℕ → Result (List ℕ) SyntaxError → Reading
 reading_plain line part (Ok text) =
     reading_words (shown line) (named part (untailed (asked text))) (unheaded_option (expected text))
-reading_plain line part (Err syntax_error) = Faulty syntax_error
+reading_plain line part (Err error) = Faulty error
 
 -- a line whose front, a time or the name of a host, was read before: this part is read, and the line is shown whole
 abbrev pub reading_part : List ℕ → List ℕ → Reading
@@ -82,4 +82,4 @@ reading_part line part =
 
 -- an error in a part of a line that `before` bytes precede
 abbrev pub shifted : ℕ → SyntaxError → SyntaxError
-shifted before syntax_error = record syntax_error { column = more_by before syntax_error.column }
+shifted before error = record error { column = more_by before error.column }

@@ -9,7 +9,7 @@ use Rattle.script_loop.specs.declared.fault.RunFault.{RunFault}
 use Rattle.script_loop.specs.declared.fault.RunFault.TheVariants.{Read, Write, Memory, TooManyLines, BadSizes, BadConfig}
 use Rattle.play_line.specs.Time.{TimedView, timed}
 use Rattle.play_line.specs.declared.fault.SyntaxError.{SyntaxError}
-use Rattle.play_text.specs.Texts.{fault_text, syntax_error_text, outcome_text}
+use Rattle.play_text.specs.Texts.{fault_text, line_error_text, outcome_text}
 use Rattle.play_text.specs.declared.form.Form.{Form}
 use Rattle.play_script.specs.Settings.{IsSet, fault_words}
 use Rattle.play_script.specs.declared.fault.SettingFault.{SettingFault}
@@ -187,15 +187,16 @@ module _ (step : State → Event → Reply → State → Type 0) (has : List ℕ
   ReportsReading now ticks before TooLong text new =
       (text ≡ fault_text now.form now.name now.number (codes "the line is too long"))
       × (new ≡ record now { sound = false })
-  ReportsReading now ticks before (Faulty syntax_error) text new =
-      (text ≡ syntax_error_text now.form now.name now.number (shifted before syntax_error)) × (new ≡ record now { sound = false })
+  ReportsReading now ticks before (Faulty error) text new =
+      (text ≡ line_error_text now.form now.name now.number (shifted before error))
+      × (new ≡ record now { sound = false })
   ReportsReading now ticks before (Asks shown plain wanted) text new =
       (mid : Play) × IsWaited step ticks now mid × ReportsAsked mid shown plain wanted text new
 
   -- a line with its time, or what is wrong with that
   abbrev pub ReportsTimed : Play → List ℕ → Result TimedView SyntaxError → List ℕ → Play → Type 0
-  ReportsTimed now line (Err syntax_error) text new =
-      (text ≡ syntax_error_text now.form now.name now.number syntax_error) × (new ≡ record now { sound = false })
+  ReportsTimed now line (Err error) text new =
+      (text ≡ line_error_text now.form now.name now.number error) × (new ≡ record now { sound = false })
   ReportsTimed now line (Ok t) text new =
       ReportsReading now t.ticks (length line - length t.part) (reading_part line t.part) text new
 

@@ -31,13 +31,13 @@ AreAskedTurns has plain turns =
 abbrev pub ArePlayedTurns : (List ℕ → List ℕ → Type 0) → ℕ → Reading → List Turn → Type 0
 ArePlayedTurns has ticks Nothing turns = turns ≡ []
 ArePlayedTurns has ticks TooLong turns = turns ≡ []
-ArePlayedTurns has ticks (Faulty syntax_error) turns = turns ≡ []
+ArePlayedTurns has ticks (Faulty error) turns = turns ≡ []
 ArePlayedTurns has ticks (Asks shown plain wanted) turns =
     (rest : List Turn) × (turns ≡ replicate ticks (turn_of Tick Done) ++ rest) × AreAskedTurns has plain rest
 
 -- of a line with its time
 abbrev pub AreTimedTurns : (List ℕ → List ℕ → Type 0) → List ℕ → Result TimedView SyntaxError → List Turn → Type 0
-AreTimedTurns has line (Err syntax_error) turns = turns ≡ []
+AreTimedTurns has line (Err error) turns = turns ≡ []
 AreTimedTurns has line (Ok t) turns = ArePlayedTurns has t.ticks (reading_part line t.part) turns
 
 -- the turns that these lines make, a list of them for each line
@@ -58,12 +58,12 @@ all_turns (first ∷ rest) = first ++ all_turns rest
 abbrev pub MaySet : Reading → Config → Config → Type 0
 MaySet Nothing old new = new ≡ old
 MaySet TooLong old new = new ≡ old
-MaySet (Faulty syntax_error) old new = new ≡ old
+MaySet (Faulty error) old new = new ≡ old
 MaySet (Asks shown plain wanted) old new =
     (new ≡ old) ⊎ ((named : List (List ℕ)) × Writes plain (Settings named) × IsSet old named (Ok new))
 
 abbrev pub MayTimedSet : List ℕ → Result TimedView SyntaxError → Config → Config → Type 0
-MayTimedSet line (Err syntax_error) old new = new ≡ old
+MayTimedSet line (Err error) old new = new ≡ old
 MayTimedSet line (Ok t) old new = MaySet (reading_part line t.part) old new
 
 -- after several lines

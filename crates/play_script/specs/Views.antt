@@ -28,7 +28,7 @@ plain_line line = if line.named then codes "rx " ++ hex_text line.packet else li
 abbrev pub is_reading : Kind → Line → Reading
 is_reading kind.Nothing line = Nothing
 is_reading kind.TooLong line = TooLong
-is_reading (kind.Faulty syntax_error) line = Faulty syntax_error
+is_reading (kind.Faulty error) line = Faulty error
 is_reading kind.Asks line = Asks line.shown (plain_line line) (expected_on line)
 
 -- ---- requests

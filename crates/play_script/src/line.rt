@@ -165,12 +165,12 @@ fn cut(text: &[u8]) -> (&[u8], Option<&[u8]>)
 }
 
 /// Moves the column of an error in a part of a line, which `before` bytes precede.
-pub fn shift_column(syntax_error: SyntaxError, before: u64) -> SyntaxError
-    ensures { result ≡ lines.shifted before syntax_error }
+pub fn shift_column(error: SyntaxError, before: u64) -> SyntaxError
+    ensures { result ≡ lines.shifted before error }
 {
     SyntaxError {
-        fault: syntax_error.fault,
-        column: syntax_error.column.saturating_add(before),
+        fault: error.fault,
+        column: error.column.saturating_add(before),
     }
 }
 
@@ -186,7 +186,7 @@ pub fn read_part(whole: &[u8], text: &[u8], reader: &mut LineReader, line: &mut 
     put_shown(whole, &mut line.shown);
     let plain = match reader.plain_line(text) {
         Ok(plain) => plain,
-        Err(syntax_error) => return Kind::Faulty(syntax_error),
+        Err(error) => return Kind::Faulty(error),
     };
     let (front, back) = cut(plain);
     line.words.clear();
@@ -207,6 +207,6 @@ pub fn read_part(whole: &[u8], text: &[u8], reader: &mut LineReader, line: &mut 
         }
         Ok(false) if line.expects || !line.words.is_empty() => Kind::Asks,
         Ok(false) => Kind::Nothing,
-        Err(syntax_error) => Kind::Faulty(syntax_error),
+        Err(error) => Kind::Faulty(error),
     }
 }

@@ -167,10 +167,9 @@ impl<T: Sink, F: Folder> Player<T, F> {
         match read_part(line, timed.part, &mut self.reader, &mut self.line) {
             Kind::Nothing => {}
             Kind::TooLong => self.printer.put_too_long(text),
-            Kind::Faulty(syntax_error) => {
+            Kind::Faulty(error) => {
                 let before = (line.len() - timed.part.len()) as u64;
-                self.printer
-                    .put_syntax_error(text, shift_column(syntax_error, before));
+                self.printer.put_error(text, shift_column(error, before));
             }
             Kind::Asks => {
                 self.wait(timed.ticks);
@@ -191,7 +190,7 @@ impl<T: Sink, F: Folder> Answers<OUTPUT> for Player<T, F> {
         self.printer.next_line(line);
         match read_time(line) {
             Ok(timed) => self.execute_timed(line, timed, text),
-            Err(syntax_error) => self.printer.put_syntax_error(text, syntax_error),
+            Err(error) => self.printer.put_error(text, error),
         }
     }
 }

@@ -2,7 +2,7 @@
 ghost use Rattle.std.specs.Prelude.{◌≡◌, ◌≤◌, ◌++◌, ◌&&◌, ◌||◌, IfOk, codes, false, length, take, true};
 ghost use Rattle.flat_model.specs.Machine.Count.{more_by};
 ghost use Rattle.play_forms.specs.declared.text.TheConstants.{ADVICE};
-ghost use Rattle.play_text.specs.Texts.{fault_text, syntax_error_text};
+ghost use Rattle.play_text.specs.Texts.{fault_text, line_error_text};
 ghost use Rattle.play_script.specs.Lines as lines;
 ghost use Rattle.play_script.specs.Reports.{is_sound, reply_line_text};
 ghost use Rattle.play_script.specs.Views.{expected_on};
@@ -116,18 +116,12 @@ impl Printer {
     }
 
     /// Appends what is wrong with a byte of the line.
-    pub fn put_syntax_error(&mut self, text: &mut Buffer<OUTPUT>, syntax_error: SyntaxError)
+    pub fn put_error(&mut self, text: &mut Buffer<OUTPUT>, error: SyntaxError)
         requires { length text.old ≤ HELD }
-        ensures text { text.new ≡ text.old ++ syntax_error_text self.old.form self.old.name self.old.number syntax_error }
+        ensures text { text.new ≡ text.old ++ line_error_text self.old.form self.old.name self.old.number error }
         ensures printer { self.new ≡ record self.old { sound = false } }
     {
-        play_text::put_syntax_error(
-            text,
-            self.form,
-            bytes_of(&self.name),
-            self.number,
-            syntax_error,
-        );
+        play_text::put_error(text, self.form, bytes_of(&self.name), self.number, error);
         self.sound = false;
     }
 

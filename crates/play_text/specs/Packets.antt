@@ -57,14 +57,14 @@ packet_text packet =
 
 -- ---- separate lines, after four blanks
 
-abbrev pub datagram_line : Head → ℕ → List ℕ
-datagram_line h carried =
+abbrev pub range_line : Head → ℕ → List ℕ
+range_line h carried =
     codes "    fragment kept: " ++ range_text h.offset carried ++ codes " of datagram " ++ decimal h.id
     ++ codes ", more to come\n"
 
 -- which bytes of which datagram a fragment has; nothing for a packet without a header
 abbrev pub kept_line : List ℕ → List ℕ
-kept_line packet = if has_header packet then datagram_line (head_of packet) (carried_by packet) else []
+kept_line packet = if has_header packet then range_line (head_of packet) (carried_by packet) else []
 
 -- the datagram of a fragment is complete
 abbrev pub whole_line : List ℕ → List ℕ

@@ -74,8 +74,8 @@ abbrev pub fault_text : Form → List ℕ → ℕ → List ℕ → List ℕ
 fault_text form name number what = spot_fault form name number None what
 
 -- bytes that can't be parsed, with their column
-abbrev pub syntax_error_text : Form → List ℕ → ℕ → SyntaxError → List ℕ
-syntax_error_text form name number syntax_error = spot_fault form name number (Some syntax_error.column) (misread_words syntax_error.fault)
+abbrev pub line_error_text : Form → List ℕ → ℕ → SyntaxError → List ℕ
+line_error_text form name number error = spot_fault form name number (Some error.column) (misread_words error.fault)
 
 -- the output for a line and the notes below it, and the expectation, if it differs from the output
 abbrev pub outcome_text : Form → Bool → List ℕ → ℕ → List ℕ → Option (List ℕ) → Bool → List ℕ → List ℕ → List ℕ

@@ -1,6 +1,6 @@
 //! Messages about a wrong line.
 ghost use Rattle.std.specs.Prelude.{◌≡◌, ◌+◌, ◌*◌, ◌≤◌, ◌++◌, length};
-ghost use Rattle.play_text.specs.Texts.{fault_text, syntax_error_text, spot_fault};
+ghost use Rattle.play_text.specs.Texts.{fault_text, line_error_text, spot_fault};
 
 use crate::colour::{ENDED, RED};
 use crate::form::Form;
@@ -85,20 +85,20 @@ pub fn put_fault<const N: usize>(
 
 /// Appends the message about the bytes of a line, in this form: the script's name, the line's number, the column and
 /// the error. There must be space for six bytes for each byte of the name, and for 512 more.
-pub fn put_syntax_error<const N: usize>(
+pub fn put_error<const N: usize>(
     text: &mut Buffer<N>,
     form: Form,
     name: &[u8],
     number: u64,
-    syntax_error: SyntaxError,
+    error: SyntaxError,
 )
     requires { length text.old + (6 * length name.now + 512) ≤ N }
-    ensures { text.new ≡ text.old ++ syntax_error_text form name.now number syntax_error }
+    ensures { text.new ≡ text.old ++ line_error_text form name.now number error }
 {
     let spot = Spot {
         name,
         number,
-        column: Some(syntax_error.column),
+        column: Some(error.column),
     };
-    put_spot_fault(text, form, &spot, syntax_error.fault.words().as_bytes());
+    put_spot_fault(text, form, &spot, error.fault.words().as_bytes());
 }

@@ -25,7 +25,7 @@ pub use bounded::{add, add_count, add_fate, add_frame, add_packet, add_table, ad
 pub use bytes::ByteForm;
 pub use count::Count;
 pub use fate::{Fate, drops_between, fate_of, is_any, is_kept};
-pub use fault::{put_fault, put_syntax_error};
+pub use fault::{put_error, put_fault};
 pub use form::Form;
 pub use frame::put_frame;
 pub use law::read_back_law;

@@ -152,7 +152,7 @@ pub fn put_packet<const N: usize>(text: &mut Buffer<N>, packet: &[u8])
 /// Appends a line that says that a fragment with this header is kept.
 fn put_held<const N: usize>(text: &mut Buffer<N>, head: Head, carried: u32)
     requires { length text.old + 100 ≤ N }
-    ensures items { text.new ≡ text.old ++ texts.datagram_line (plain_head head) carried }
+    ensures items { text.new ≡ text.old ++ texts.range_line (plain_head head) carried }
     ensures len { length text.new ≤ length text.old + 100 }
 {
     put(

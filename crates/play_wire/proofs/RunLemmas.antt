@@ -73,7 +73,7 @@ part_acts now new host ticks before Nothing acts text (none, is, same) =
     none_are now.segment new.segment acts none (ap (λ (p : WirePlay). p.segment) same)
 part_acts now new host ticks before TooLong acts text (none, is, same) =
     none_are now.segment new.segment acts none (ap (λ (p : WirePlay). p.segment) same)
-part_acts now new host ticks before (Faulty syntax_error) acts text (none, is, same) =
+part_acts now new host ticks before (Faulty error) acts text (none, is, same) =
     none_are now.segment new.segment acts none (ap (λ (p : WirePlay). p.segment) same)
 part_acts now new host ticks before (Asks shown plain wanted) acts text
     (first, rest, mid, joined, waited, (came, segment, names, done, is, same)) =
@@ -84,7 +84,7 @@ part_acts now new host ticks before (Asks shown plain wanted) acts text
 
 timed_acts : (now new : WirePlay) (line : List ℕ) (t : Result TimedView SyntaxError) (acts : List Act) (text : List ℕ)
     → ReportsTimed now line t acts text new → AreActs now.segment acts new.segment
-timed_acts now new line (Err syntax_error) acts text (none, is, same) =
+timed_acts now new line (Err error) acts text (none, is, same) =
     none_are now.segment new.segment acts none (ap (λ (p : WirePlay). p.segment) same)
 timed_acts now new line (Ok t) acts text (host, part, parted, reports) =
     part_acts now new host t.ticks _ (reading_part line part) acts text reports

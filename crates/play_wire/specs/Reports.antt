@@ -5,7 +5,7 @@ use Rattle.flat_model.specs.Machine.Count.{more_by}
 use Rattle.play_line.specs.Time.{TimedView, timed}
 use Rattle.play_line.specs.declared.fault.SyntaxError.{SyntaxError}
 use Rattle.play_script.specs.Lines.{Reading, Nothing, TooLong, Faulty, Asks, has_text, reading_part, shifted}
-use Rattle.play_text.specs.Texts.{fault_text, syntax_error_text}
+use Rattle.play_text.specs.Texts.{fault_text, line_error_text}
 use Rattle.play_text.specs.Forms.{is_json}
 use Rattle.play_text.specs.declared.form.Form.{Form}
 use Rattle.play_script.specs.Reports.{is_sound, reply_line_text}
@@ -163,8 +163,8 @@ ReportsPart now host ticks before Nothing acts text new = (acts ≡ []) × (text
 ReportsPart now host ticks before TooLong acts text new =
     (acts ≡ []) × (text ≡ fault_text now.form now.name now.number (codes "the line is too long"))
     × (new ≡ record now { sound = false })
-ReportsPart now host ticks before (Faulty syntax_error) acts text new =
-    (acts ≡ []) × (text ≡ syntax_error_text now.form now.name now.number (shifted before syntax_error))
+ReportsPart now host ticks before (Faulty error) acts text new =
+    (acts ≡ []) × (text ≡ line_error_text now.form now.name now.number (shifted before error))
     × (new ≡ record now { sound = false })
 ReportsPart now host ticks before (Asks shown plain wanted) acts text new =
     (first rest : List Act) × (mid : SegmentView) × (acts ≡ first ++ rest) × IsWaited ticks now.segment first mid
@@ -172,8 +172,8 @@ ReportsPart now host ticks before (Asks shown plain wanted) acts text new =
 
 -- a line with its time, or what is wrong with that
 abbrev pub ReportsTimed : WirePlay → List ℕ → Result TimedView SyntaxError → List Act → List ℕ → WirePlay → Type 0
-ReportsTimed now line (Err syntax_error) acts text new =
-    (acts ≡ []) × (text ≡ syntax_error_text now.form now.name now.number syntax_error) × (new ≡ record now { sound = false })
+ReportsTimed now line (Err error) acts text new =
+    (acts ≡ []) × (text ≡ line_error_text now.form now.name now.number error) × (new ≡ record now { sound = false })
 ReportsTimed now line (Ok t) acts text new =
     (host : Option (List ℕ)) × (part : List ℕ) × IsParted t.part host part
     × ReportsPart now host t.ticks (length line - length part) (reading_part line part) acts text new

@@ -166,10 +166,9 @@ impl<T: Sink + Drop> Player<T> {
         match read_part(line, part, &mut self.reader, &mut self.line) {
             Kind::Nothing => {}
             Kind::TooLong => self.printer.put_too_long(text),
-            Kind::Faulty(syntax_error) => {
+            Kind::Faulty(error) => {
                 let before = (line.len() - part.len()) as u64;
-                self.printer
-                    .put_syntax_error(text, shift_column(syntax_error, before));
+                self.printer.put_error(text, shift_column(error, before));
             }
             Kind::Asks => {
                 self.hosts.wait(timed.ticks);
@@ -206,7 +205,7 @@ impl<T: Sink + Drop> Answers<OUTPUT> for Player<T> {
         self.hosts.log.set_line(number, form);
         match read_time(line) {
             Ok(timed) => self.execute_timed(line, timed, text),
-            Err(syntax_error) => self.printer.put_syntax_error(text, syntax_error),
+            Err(error) => self.printer.put_error(text, error),
         }
     }
 }

@@ -111,7 +111,8 @@ pub record AreFramesDelivered (old new : SegmentView) : Type 0 where
   pub flight : new.flight ≡ map flying_aged (filter is_early old.flight)
   pub random : new.random ≡ (leaving old).1
   pub tallies : AtEach (λ place t u. u
-      ≡ with_received (length (frames_received place (slice_get old.links place) (leaving old).0)) t) old.tallies new.tallies
+      ≡ with_received (length (frames_received place (slice_get old.links place) (leaving old).0)) t)
+      old.tallies new.tallies
   pub hosts : AtEach (λ place h k. ReceiveEach (frames_to place h.link.link.mac (leaving old).0) h k)
       (hosts_in old) (hosts_in new)
 

@@ -101,7 +101,8 @@ pub record HasComeDue (old new : SegmentView) : Type 0 where
   pub flight : new.flight ≡ map flying_aged (filter is_early old.flight)
   pub random : new.random ≡ (leaving old).1
   pub tallies : AtEach (λ place t u. u
-      ≡ with_received (length (received_in place (slice_get old.configs place) (leaving old).0)) t) old.tallies new.tallies
+      ≡ with_received (length (received_in place (slice_get old.configs place) (leaving old).0)) t)
+      old.tallies new.tallies
   pub hosts : AtEach (λ place s t. AreCalls s (comes (received_in place (slice_get old.configs place) (leaving old).0))
       t) old.stacks new.stacks
 

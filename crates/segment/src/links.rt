@@ -153,7 +153,8 @@ fn received_count(due: &[Frame], place: usize, links: &[LinkLayer]) -> u64
 /// Counts at each host the frames that arrive at it.
 fn count_frames(due: &[Frame], links: &[LinkLayer], tallies: &mut Vec<Tally>)
     ensures { AtEach (λ place t u.
-        u ≡ with_received (length (frames_received place (slice_get (map link_seen links.now) place) (map flying due.now))) t)
+        u ≡ with_received
+        (length (frames_received place (slice_get (map link_seen links.now) place) (map flying due.now))) t)
         tallies.old.items tallies.new.items }
 {
     for place in 0..tallies.len() {

@@ -140,7 +140,8 @@ module _ (L : Ledger) where
       (Case (udp_fault source destination item.bytes)
       (let sender : Addr = record { ip = source; port = u16_at 0 item.bytes } in
       let q : LookupKey = record { local = Some destination; port = Some (u16_at 2 item.bytes); peer = Some sender } in
-      GoesTo held sender (record item { bytes = udp_bytes item.bytes }) destination (matching_sockets old destination q) old new)
+      GoesTo held sender (record item { bytes = udp_bytes item.bytes }) destination
+      (matching_sockets old destination q) old new)
       (λ why. new ≡ ends why old))
       (new ≡ ends NoProtocol old)
 

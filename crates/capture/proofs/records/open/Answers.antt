@@ -7,7 +7,7 @@ use Rattle.capture.proofs.records.open.Goals as goal
 
 pub returns-in-Err : goal.returns-in-Err
 returns-in-Err g c =
-    not_opened _ _ c.args.feed.now.buffer c.fill.new.self.buffer c.in-Err.fault_at c.requires c.fill.ensures.read
+    not_opened _ _ c.args.feed.now.buffer c.fill.new.self.buffer c.in-Err.error c.requires c.fill.ensures.read
     c.in-Err.ensures.refused
 
 pub returns-in-Gzip : goal.returns-in-Gzip
@@ -24,7 +24,7 @@ returns-in-Pcapng g c =
 pub returns-in-Err-fill : goal.returns-in-Err-fill
 returns-in-Err-fill g c =
     not_opened_then _ _ _ c.args.feed.now.buffer c.fill.new.self.buffer c.fill-in-Classic.new.self.buffer
-    c.in-Err-fill.fault_at
+    c.in-Err-fill.error
     c.requires c.fill.ensures.read c.fill-in-Classic.ensures.read c.in-Err-fill.ensures.refused
 
 pub returns-in-Ok : goal.returns-in-Ok

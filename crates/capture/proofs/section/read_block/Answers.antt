@@ -25,4 +25,4 @@ returns-in-Err-take-clause-reads g c =
     let loaded = c.in_default.ensures in
     block_refused (known c.args.blocks.now) (known c.take.new.self) _ _ c.args.feed.now.buffer
     c.load_block.new.feed.buffer
-    c.as_slice.result.now c.in-Err-take.fault_at c.as_slice.ensures loaded.0 loaded.1 c.in-Err-take.ensures.takes
+    c.as_slice.result.now c.in-Err-take.error c.as_slice.ensures loaded.0 loaded.1 c.in-Err-take.ensures.takes

@@ -47,7 +47,7 @@ pub returns-in-Err-clause-reads : goal.returns-in-Err-clause-reads
 returns-in-Err-clause-reads g c =
     refused_then (known c.args.blocks.now) c.args.offset.now _ c.args.feed.now.buffer (known c.loop-round.blocks)
     (known c.read_block.new.blocks) c.loop-round.offset _ _ c.loop-round.feed.buffer c.read_block.new.feed.buffer
-    c.in-Err.fault_at c.loop-round.invariant.passed c.in-Err.ensures.reads
+    c.in-Err.error c.loop-round.invariant.passed c.in-Err.ensures.reads
 
 pub loop-round-preserved : goal.loop-round-preserved
 loop-round-preserved g c =

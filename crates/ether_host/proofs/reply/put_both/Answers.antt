@@ -8,4 +8,5 @@ returns c =
     let first : take (length c.args.front.now) c.put_bytes.new.buffer ≡ c.args.front.now =
     ap (take (length c.args.front.now)) c.put_bytes.ensures ∙ written_front c.args.buffer.now c.args.front.now in
     ap (take n) c.put_bytes-2.ensures
-    ∙ grown c.put_bytes.new.buffer c.args.front.now c.args.rest.now (length c.args.front.now) n (omega arith) first refl
+    ∙ grown c.put_bytes.new.buffer c.args.front.now c.args.rest.now (length c.args.front.now) n
+    (omega arith) first refl

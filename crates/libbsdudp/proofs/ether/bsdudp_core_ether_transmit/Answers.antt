@@ -8,7 +8,8 @@ use Rattle.libbsdudp.proofs.ether.bsdudp_core_ether_transmit.Goals as goal
 
 pub returns : goal.returns
 returns c =
-    host_answered_by c.transmit-answer.result _ (λ z. IsFramed c.args.buffer.now c.transmit-answer.new.buffer z) _ _ _ _
+    host_answered_by c.transmit-answer.result _
+    (λ z. IsFramed c.args.buffer.now c.transmit-answer.new.buffer z) _ _ _ _
     (record { sfits = c.transmit-answer.type_inv })
     c.in-Some.ensures.taken c.in-Some-take.ensures.taken c.put-2.ensures c.put-3.ensures
     (subst (λ (x : Boxed). IsFramed c.args.buffer.now c.transmit-answer.new.buffer c.transmit-answer.result

@@ -8,5 +8,6 @@ use Rattle.segment.proofs.tally.count_all.Given as goal
 
 abbrev pub invariant-loop-place : goal.invariant-loop-place
 invariant-loop-place l =
-    IsWalked (λ place t u. u ≡ with_received (length (received_in place (slice_get l.configs place) (map flying l.due))) t)
+    IsWalked
+    (λ place t u. u ≡ with_received (length (received_in place (slice_get l.configs place) (map flying l.due))) t)
     l.fn.tallies.items l.tallies.items l.place

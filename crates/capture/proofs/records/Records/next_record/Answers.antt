@@ -49,6 +49,6 @@ returns-in-Err g c =
     let place = place_of old.format old.blocks old.number old.offset (g.S.Read.remaining old.feed.source) in
     let mid = place_of new.format new.blocks new.number new.offset (g.S.Read.remaining new.feed.source) in
     let none = none_of c.self.inside.fault c.in_default.not-Some in
-    let fault : Fault = record { why = c.in-Err.fault_at.why; offset = c.saturating_add.result } in
-    stepped c.args.self.now place c.self.inside.fault _ _ _ mid new.feed.buffer (Err c.in-Err.fault_at) c.self.view_is none
+    let fault : Fault = record { why = c.in-Err.error.why; offset = c.saturating_add.result } in
+    stepped c.args.self.now place c.self.inside.fault _ _ _ mid new.feed.buffer (Err c.in-Err.error) c.self.view_is none
     c.in-Err.ensures.finds c.in-Err.ensures.number (fault, refl, refl, omega arith, refl, refl, refl)

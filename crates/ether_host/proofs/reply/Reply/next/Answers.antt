@@ -35,6 +35,7 @@ returns-clause-packet c =
     ap (λ k. take k c.put_both.new.buffer) count ∙ c.put_both.ensures ∙ is in
     ap (λ (xs : List ℕ). Some xs)
     (ap (λ k. take k (drop 14 after)) (sym long)
-    ∙ behind 14 (length c.args.buffer.now - 14) c.args.buffer.now c.put_both.new.buffer packet (omega (arith, c.requires))
+    ∙ behind 14 (length c.args.buffer.now - 14) c.args.buffer.now c.put_both.new.buffer packet
+    (omega (arith, c.requires))
     first)
     ∙ sym (first_left r (part_seen s) c.if-not-self.false c.share-share.ensures.is)

@@ -19,7 +19,8 @@ take_packet-requires-clause-queue c = (lent_inside c.self.inside c.as_mut-host.r
     c.self.invariant).stack.output
 
 pub take_packet-requires-clause-within : goal.take_packet-requires-clause-within
-take_packet-requires-clause-within c = are_within (lent c.self.inside c.as_mut-host.result.now) (length c.args.buffer.now)
+take_packet-requires-clause-within c =
+    are_within (lent c.self.inside c.as_mut-host.result.now) (length c.args.buffer.now)
     (lent_inside c.self.inside c.as_mut-host.result.now c.as_mut-host.ensures.value c.self.invariant)
     (subst (λ (s : StackView). s.config.mtu ≤ length c.args.buffer.now)
     (sym (lent_shows c.self.inside c.as_mut-host.result.now c.args.self.now c.as_mut-host.ensures.value

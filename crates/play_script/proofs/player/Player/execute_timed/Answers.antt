@@ -1,7 +1,7 @@
 use Rattle.std.proofs.Common.{[], ◌-◌, ◌++◌, ◌∙◌, ap, append-nil, codes, length, refl, sym}
 use Rattle.net_stack.specs.Stack.{state_of}
 use Rattle.play_line.specs.declared.fault.SyntaxError.{SyntaxError}
-use Rattle.play_text.specs.Texts.{fault_text, syntax_error_text}
+use Rattle.play_text.specs.Texts.{fault_text, line_error_text}
 use Rattle.play_script.specs.Inside.{play_of}
 use Rattle.play_script.specs.Lines.{Asks, Faulty, Nothing, TooLong, reading_part, shifted}
 use Rattle.play_script.specs.Views.{expected_on, plain_line}
@@ -45,15 +45,15 @@ returns-in-Faulty g c =
     let t = c.args.timed in
     let q = now.printer in
     let before = length c.args.line.now - length t.part.now in
-    let text = syntax_error_text q.form q.name q.number (shifted before c.in-Faulty.syntax_error) in
+    let text = line_error_text q.form q.name q.number (shifted before c.in-Faulty.error) in
     let playing =
     λ (p : Printer). play_of (state_of now.captured.stack) now.captured.capture.trace now.config now.head p in (
       text,
-      Reading-reports StackSteps g.F.Folder.may_have (playing q) (playing c.put_syntax_error.new.self) t.ticks before
-          (reading_part c.args.line.now t.part.now) (Faulty c.in-Faulty.syntax_error) text c.in-Faulty.ensures
-          (refl, ap playing c.put_syntax_error.ensures.printer),
-      c.put_syntax_error.ensures.text
-          ∙ ap (λ (s : SyntaxError). c.args.text.now ++ syntax_error_text q.form q.name q.number s) c.shift_column.ensures,
+      Reading-reports StackSteps g.F.Folder.may_have (playing q) (playing c.put_error.new.self) t.ticks before
+          (reading_part c.args.line.now t.part.now) (Faulty c.in-Faulty.error) text c.in-Faulty.ensures
+          (refl, ap playing c.put_error.ensures.printer),
+      c.put_error.ensures.text
+          ∙ ap (λ (s : SyntaxError). c.args.text.now ++ line_error_text q.form q.name q.number s) c.shift_column.ensures,
     )
 
 pub returns-in-Asks : goal.returns-in-Asks

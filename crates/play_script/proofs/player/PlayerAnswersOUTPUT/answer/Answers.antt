@@ -1,6 +1,6 @@
 use Rattle.std.proofs.Common.{Ok, Err, refl, ap}
 use Rattle.play_line.specs.Time.{TimedView}
-use Rattle.play_text.specs.Texts.{syntax_error_text}
+use Rattle.play_text.specs.Texts.{line_error_text}
 use Rattle.play_script.specs.Inside.{play_of}
 use Rattle.play_script.specs.declared.printer.Printer.{Printer}
 use Rattle.play_script.proofs.AnswerLemmas.{Timed-reports}
@@ -27,12 +27,12 @@ pub returns-in-Err : goal.returns-in-Err
 returns-in-Err g c =
     let now = c.args.self.now in
     let q = c.next_line.new.self in
-    let text = syntax_error_text q.form q.name q.number c.in-Err.syntax_error in
+    let text = line_error_text q.form q.name q.number c.in-Err.error in
     let playing =
     λ (p : Printer). play_of (state_of now.captured.stack) now.captured.capture.trace now.config now.head p in (
       text,
-      Timed-reports StackSteps g.F.Folder.may_have (playing now.printer) (playing q) (playing c.put_syntax_error.new.self)
-          c.args.line.now text (Err c.in-Err.syntax_error) (ap playing c.next_line.ensures) c.in-Err.ensures.is
-          (refl, ap playing c.put_syntax_error.ensures.printer),
-      c.put_syntax_error.ensures.text,
+      Timed-reports StackSteps g.F.Folder.may_have (playing now.printer) (playing q) (playing c.put_error.new.self)
+          c.args.line.now text (Err c.in-Err.error) (ap playing c.next_line.ensures) c.in-Err.ensures.is
+          (refl, ap playing c.put_error.ensures.printer),
+      c.put_error.ensures.text,
     )

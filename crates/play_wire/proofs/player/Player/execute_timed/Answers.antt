@@ -1,6 +1,6 @@
 use Rattle.std.proofs.Common.{[], ◌-◌, ◌++◌, ◌∙◌, List, ap, codes, length, refl, subst, ℕ}
 use Rattle.play_line.specs.declared.fault.SyntaxError.{SyntaxError}
-use Rattle.play_text.specs.Texts.{fault_text, syntax_error_text}
+use Rattle.play_text.specs.Texts.{fault_text, line_error_text}
 use Rattle.play_script.specs.Lines.{Asks, Faulty, Nothing, TooLong, reading_part, shifted}
 use Rattle.play_script.specs.Views.{expected_on, plain_line}
 use Rattle.play_script.specs.declared.printer.Printer.{Printer}
@@ -53,18 +53,18 @@ returns-in-Faulty g c =
     let host = named_by c.take-part.new.self in
     let q = now.printer in
     let before = length c.args.line.now - length part in
-    let text = syntax_error_text q.form q.name q.number (shifted before c.in-Faulty.syntax_error) in
+    let text = line_error_text q.form q.name q.number (shifted before c.in-Faulty.error) in
     let playing = λ (q : Printer). play_with (view now.hosts.segment) now.hosts.names.items q in (
       [],
       text,
       host,
       part,
       c.take-part.ensures.parted,
-      reported_part (playing q) (playing c.put_syntax_error.new.self) host c.args.timed.ticks before
-          (reading_part c.args.line.now part) (Faulty c.in-Faulty.syntax_error) [] text
-          c.in-Faulty.ensures (refl, refl, ap playing c.put_syntax_error.ensures.printer),
-      c.put_syntax_error.ensures.text
-          ∙ ap (λ (s : SyntaxError). c.args.text.now ++ syntax_error_text q.form q.name q.number s) c.shift_column.ensures,
+      reported_part (playing q) (playing c.put_error.new.self) host c.args.timed.ticks before
+          (reading_part c.args.line.now part) (Faulty c.in-Faulty.error) [] text
+          c.in-Faulty.ensures (refl, refl, ap playing c.put_error.ensures.printer),
+      c.put_error.ensures.text
+          ∙ ap (λ (s : SyntaxError). c.args.text.now ++ line_error_text q.form q.name q.number s) c.shift_column.ensures,
     )
 
 pub returns-in-Asks : goal.returns-in-Asks

@@ -1,6 +1,6 @@
 use Rattle.std.proofs.Common.{Ok, Err, [], ap, refl}
 use Rattle.play_line.specs.Time.{TimedView}
-use Rattle.play_text.specs.Texts.{syntax_error_text}
+use Rattle.play_text.specs.Texts.{line_error_text}
 use Rattle.play_script.specs.declared.printer.Printer.{Printer}
 use Rattle.segment.specs.Inside.{view}
 use Rattle.play_wire.specs.Inside.{play_with}
@@ -25,12 +25,13 @@ pub returns-in-Err : goal.returns-in-Err
 returns-in-Err g c =
     let now = c.args.self.now in
     let q = c.next_line.new.self in
-    let text = syntax_error_text q.form q.name q.number c.in-Err.syntax_error in
+    let text = line_error_text q.form q.name q.number c.in-Err.error in
     let playing = λ (q : Printer). play_with (view now.hosts.segment) now.hosts.names.items q in (
       text,
-      reported_timed (playing now.printer) (playing q) (playing c.put_syntax_error.new.self) c.args.line.now (Err c.in-Err.syntax_error)
+      reported_timed (playing now.printer) (playing q) (playing c.put_error.new.self) c.args.line.now
+          (Err c.in-Err.error)
           []
           text (ap playing c.next_line.ensures) c.in-Err.ensures.is
-          (refl, refl, ap playing c.put_syntax_error.ensures.printer),
-      c.put_syntax_error.ensures.text,
+          (refl, refl, ap playing c.put_error.ensures.printer),
+      c.put_error.ensures.text,
     )

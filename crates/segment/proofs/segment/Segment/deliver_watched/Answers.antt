@@ -28,7 +28,8 @@ returns g c =
           c.leave.ensures.due;
       tallies =
           subst (λ (ts : List Tally). AtEach
-          (λ place t u. u ≡ with_received (length (received_in place (slice_get old.configs place) (leaving old).0)) t) ts
+          (λ place t u. u ≡ with_received (length (received_in place (slice_get old.configs place) (leaving old).0)) t)
+          ts
           c.count_all.new.tallies.items) (ap (λ v. v.items) c.shuffle.ensures.tallies)
           (subst (λ (fs : List Flying). AtEach
           (λ place t u. u ≡ with_received (length (received_in place (slice_get old.configs place) fs)) t)

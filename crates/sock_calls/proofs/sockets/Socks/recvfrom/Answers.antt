@@ -69,7 +69,8 @@ returns-clause-step c = λ rest.
           subst (λ (r : Result (Addr × ℕ) Errno). Step (with_sockets p old rest)
           (Receive c.args.fd (length c.args.buffer.now)) (received_reply r c.take_at.new.buffer)
           (with_sockets q new rest)) (sym w.result-is)
-          (receives f g t c.args.fd most b.block (Some w.in-Some.taken) c.take_at.new.buffer b.at b.named got others rest)
+          (receives f g t c.args.fd most b.block (Some w.in-Some.taken) c.take_at.new.buffer
+          b.at b.named got others rest)
       | in-None w ↦
           subst (λ (r : Result (Addr × ℕ) Errno). Step (with_sockets p old rest)
           (Receive c.args.fd (length c.args.buffer.now)) (received_reply r c.take_at.new.buffer)
