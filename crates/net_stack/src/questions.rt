@@ -96,8 +96,8 @@ impl Stack {
 
     /// Copies the packet at index `i` of the output queue to the front of `buffer`, and returns its length. `tx`
     /// returns the same bytes after the packets before it. `None` exactly if no more than `i` packets are queued. The
-    /// rest of `buffer` is unchanged. `buffer` must be at least as long as the MTU, like that of `tx`. It takes one step
-    /// for each packet before it.
+    /// rest of `buffer` is unchanged. `buffer` must be at least as long as the MTU, like that of `tx`. It takes one
+    /// step for each packet before it.
     pub fn output_packet(&self, i: u32, buffer: &mut [u8]) -> Option<usize>
         requires { self.now.config.mtu ≤ length buffer.old }
         ensures packet { option_map (λ n. take n buffer.new) result ≡ nth_packet i (state_of self.now).output }
