@@ -1,4 +1,4 @@
--- A question for an error, by the name of a socket.
+-- A query for an error of a socket, by the socket's name.
 use Rattle.std.proofs.Common.{◌≡◌, ℕ, Option, Some, None, sym, ap}
 use Rattle.std.specs.Prelude.{Result, Ok, Err}
 use Rattle.std.specs.Result.{is_ok}
@@ -12,7 +12,7 @@ use Rattle.flat_ether.specs.declared.error.NetFault.{NetFault}
 use Rattle.sock_calls.specs.Questions.{name_or_fault, socket_name}
 use Rattle.sock_calls.specs.declared.questions.SocketName.{SocketName}
 
--- what a question for an error of the socket with this name answers, and the host then
+-- the result of a query for an error of the socket with this name, and the host after it
 abbrev pub told : Host → SocketName → Result (Option NetFault) Errno × Host
 told h n = (Ok (takes_error n.port n.peer h.link).0, record h { link = (takes_error n.port n.peer h.link).1 })
 

@@ -13,7 +13,7 @@ use Rattle.ether_host.specs.Replies.{IsPartAt, message_in, packet_in, packets_le
 use Rattle.ether_host.specs.declared.reply.Reply.{Reply}
 use Rattle.ether_host.specs.declared.share.Share.{Share}
 
--- ---- all in one
+-- ---- the whole message in one part
 
 abbrev whole : ℕ → Part
 whole n = record { offset = 0; size = n; more = false }
@@ -61,7 +61,7 @@ grid_at n c i some l = record {
 some_chunk : (mtu : ℕ) → 68 ≤ mtu → 0 < chunk mtu
 some_chunk mtu h = omega arith
 
--- how many there are, where all doesn't fit in one
+-- the number of parts, if the message doesn't fit in one
 count : (n mtu : ℕ) → mtu < 20 + n → length (cuts n mtu) ≡ chunks n (chunk mtu)
 count n mtu h = ap length (cuts_long n mtu h) ∙ length-grid n (chunk mtu)
 
@@ -119,7 +119,7 @@ pub first_left : (r : Reply) (p : Part) → r.waits ≡ true → IsPartAt (cuts 
     → slice_get (packets_left r) 0 ≡ Some (packet_in r p)
 first_left r p waits at = ap (λ (ps : List (List ℕ)). slice_get ps 0) (left_is r p waits at)
 
--- some waits exactly where the flag says so
+-- a packet waits if and only if the flag is set
 pub waits_some : (r : Reply) → (r.waits ≡ true → r.gone < length (cuts r.message.len r.mtu))
     → r.waits ≡ is_some (slice_get (packets_left r) 0)
 waits_some r left = go r.waits refl
@@ -135,7 +135,7 @@ waits_some r left = go r.waits refl
     go false e = refl
     go true e = sym (some (drop r.gone parts) (omega (arith, length-drop r.gone parts, left e)))
 
--- whose are of one kind with those of another message
+-- two messages with the same header fields and bytes have the same packets
 pub same_parts : (source id id' destination destination' mtu mtu' n : ℕ) (xs body : List ℕ) → id ≡ id'
     → destination ≡ destination' → mtu ≡ mtu' → xs ≡ body → n ≡ length body
     → map (part_packet source id destination xs) (cuts n mtu) ≡ part_packets source id' destination' body mtu'

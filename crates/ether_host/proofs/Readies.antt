@@ -6,7 +6,7 @@ use Rattle.flat_ether.specs.declared.neighbour.Neighbour.{Neighbour}
 use Rattle.ether_host.specs.Buffers.{held_in}
 use Rattle.ether_host.specs.declared.buffer.PacketBuffer.{PacketBuffer}
 
--- so many places further on
+-- the index that was found, plus n
 abbrev pub on_by : ℕ → Option (ℕ × Mac) → Option (ℕ × Mac)
 on_by n None = None
 on_by n (Some found) = Some (found.0 + n, found.1)
@@ -14,7 +14,7 @@ on_by n (Some found) = Some (found.0 + n, found.1)
 abbrev pub from_place : List Neighbour → List PacketBuffer → ℕ → Option (ℕ × Mac)
 from_place ns ps i = first_ready ns (map held_in (drop i ps))
 
--- what is found from a place on is found
+-- a search from this index on finds the first packet that can be sent
 abbrev pub IsSought : List Neighbour → List PacketBuffer → ℕ → Type 0
 IsSought ns ps i = first_ready ns (map held_in ps) ≡ on_by i (from_place ns ps i)
 

@@ -29,7 +29,7 @@ few_stay ns i kept e =
     let long : length (take i ns) ≡ min i (length ns) = length-take i ns in
     omega arith
 
--- packets that are kept, as they're seen
+-- the packets that are kept, in the terms of the definitions
 pub held_filter : (ns : List Neighbour) (ps : List PacketBuffer)
     → map held_in (filter (is_resolvable_in ns) ps) ≡ filter (is_resolvable ns) (map held_in ps)
 held_filter ns [] = refl
@@ -55,7 +55,7 @@ held_remove (p ∷ ps) (suc i) = ap (λ xs. held_in p ∷ xs) (held_remove ps i)
 
 -- ---- packets that are kept, one by one
 
--- what is kept of those in front, and what will be of the others
+-- the packets that are kept so far, and those that will be kept of the rest
 abbrev pub kept_from : List Neighbour → List PacketBuffer → ℕ → List PacketBuffer
 kept_from ns ps i = take i ps ++ filter (is_resolvable_in ns) (drop i ps)
 
@@ -73,7 +73,7 @@ kept_all ns [] (suc i) h = refl
 kept_all ns (p ∷ ps) zero h = absurd (omega arith)
 kept_all ns (p ∷ ps) (suc i) h = ap (λ xs. p ∷ xs) (kept_all ns ps i (omega arith))
 
--- those behind a place copied down by one, and the last cut off
+-- removing an element: those after it are copied down by one, and the last one is cut off
 pub moved_down : (ps : List PacketBuffer) (i n : ℕ) → i < length ps → n ≡ length ps
     → take (n - 1) (copy_within ps (i + 1) n i) ≡ remove ps i
 moved_down ps i n l e =

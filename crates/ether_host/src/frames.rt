@@ -11,7 +11,7 @@ use flat_ether::{
 use flat_model::Config;
 use params::{FIRST_MULTICAST, IP_HEADER, LOOPBACK};
 
-/// Where the body of a frame begins.
+/// The offset of the body of a frame.
 pub(crate) const BODY: usize = ETHER_HEADER as usize;
 
 /// Bytes of an ARP packet, as the length of an array.

@@ -1,5 +1,5 @@
-//! The ICMP reply that is being sent: a message, in as many packets as the MTU of the link requires (RFC 791, section
-//! 3.2; RFC 1122, section 3.2.2.6).
+//! The ICMP reply that is being sent: a message, fragmented for the MTU of the link (RFC 791, section 3.2; RFC 1122,
+//! section 3.2.2.6).
 ghost use Rattle.std.specs.Prelude.{◌≡◌, ◌+◌, ◌%◌, ◌<◌, ◌≤◌, ◌++◌, [], drop, length, option_map, slice_get, take, is_some, true, IfSome};
 ghost use Rattle.params.specs.declared.TheConstants.{FRAGMENT_UNIT, IP_HEADER, MIN_MTU};
 ghost use Rattle.flat_ether.specs.declared.sizes.TheConstants.{ETHER_HEADER, ETHER_MTU};

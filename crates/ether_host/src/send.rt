@@ -1,4 +1,4 @@
-//! A packet is sent: to its next hop, or into a buffer where it waits.
+//! Sends a packet to its next hop, or holds it in a buffer until the hop's hardware address is known.
 ghost use Rattle.std.specs.Prelude.{◌≡◌, ◌+◌, ◌<◌, ◌≤◌, ◌∷◌, ◌++◌, [], length, map, take, drop, IfSome, vec_capacity, vec_len};
 ghost use Rattle.params.specs.declared.TheConstants.{IP_HEADER};
 ghost use Rattle.flat_ether.specs.declared.sizes.TheConstants.{ETHER_HEADER, ETHER_MTU, ETHER_TYPE_IP};

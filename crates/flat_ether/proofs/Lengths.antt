@@ -23,14 +23,14 @@ use Rattle.flat_ether.proofs.Two.{not_both, went_so}
 abbrev IsShort : ℕ → List ℕ → Type 0
 IsShort mtu p = length p ≤ mtu
 
--- ---- what the machine gave
+-- ---- the packets that the machine sent
 
 output_short : (c : Config) (s : State) → IsSourced c s → Each (λ (item : Item). IsShort c.mtu item.bytes) s.output
 output_short c s k =
     each-weaker (λ item is. subst (λ (x : Config). IsShort x.mtu item.bytes) k.config is.fits) s.output
     k.consistent.output
 
--- ---- the packets of an answer
+-- ---- the packets of an ICMP reply
 
 length-packet : (h : Head) (t : List ℕ) → length (packet h t) ≡ 20 + length t
 unfolding packet

@@ -1,4 +1,4 @@
--- How often a host that runs dropped a martian: nothing else that's done with it changes that tally.
+-- How often a running host dropped a martian: no other act on the host changes that count.
 use Rattle.std.proofs.Common.{◌≡◌, ℕ, ◌+◌, Bool, true, false, cond, List, [], ◌∷◌, length, drop, Option, Some, None, refl, sym, ap, ◌∙◌, subst, arith}
 use Rattle.std.specs.Prelude.{◌==◌, All, Result, is_some, nat_lt, position, slice_get}
 use Rattle.std.specs.List.{AllByRecursion as Each}
@@ -34,7 +34,7 @@ use Rattle.flat_ether.specs.declared.mac.Mac.{Mac}
 use Rattle.flat_ether.specs.declared.neighbour.PendingReply.{PendingReply}
 use Rattle.flat_ether.specs.declared.sizes.TheConstants.{ETHER_MTU, ETHER_TYPE_ARP, ETHER_TYPE_IP, HELD_PACKETS, PENDING_REPLIES}
 
--- by what a frame is judged, and how many martians came
+-- the configuration and the link, by which a frame is classified, and the number of martians
 abbrev Tally : Type 0
 Tally = Config × Link × ℕ
 
@@ -55,7 +55,7 @@ by_host : (b : Bool) (s : LinkState) (g h : Option (List ℕ) × Host) → tally
 by_host true s g h e f = e
 by_host false s g h e f = f
 
--- ---- what comes
+-- ---- frames that arrive
 
 answers_same : (a : Answer) (came : List ℕ) (s : LinkState) → tally (answers_with a came s) ≡ tally s
 answers_same Silence came s = refl
@@ -83,7 +83,7 @@ hears_same b s =
     (owes_same (arp_of b) (learns (arp_of b) s) ∙ learns_same (arp_of b) s))
     refl
 
--- ---- what goes
+-- ---- frames that are sent
 
 asks_same : (hop : ℕ) (s : LinkState) → tally (asks hop s) ≡ tally s
 asks_same hop s = by_cond (is_some (neighbour_place hop s.neighbours)) s _ _ refl refl
@@ -182,7 +182,7 @@ gives_same h =
     (gives_drained_same h (gives_own h.link).1 ∙ own_same h.link))
     (claim_same h.link)
 
--- ---- a question for an error
+-- ---- a query for an error
 
 takes_same : (port : Option ℕ) (peer : Option Addr) (s : LinkState) → tally (takes_error port peer s).1 ≡ tally s
 takes_same None peer s = refl
@@ -199,12 +199,12 @@ asked_same (Some me) h = takes_same me.port me.peer h.link
 
 -- ---- each act, and all of them
 
--- one more, or as many as before
+-- one more, or the same number as before
 one_more : (k n : ℕ) → more_by n (more_by k 0) ≡ more_by (k + n) 0
 one_more k n = omega (arith)
 
 module _ (c : Config) (l : Link) where
-  -- so many martians came
+  -- k martians arrived
   abbrev Counts : ℕ → Host → Type 0
   Counts k h = tally h.link ≡ (c, l, more_by k 0)
 

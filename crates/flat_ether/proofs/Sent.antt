@@ -310,7 +310,7 @@ module _ (c : Config) (l : Link) (F G : List (List ℕ)) where
             sent = arp_sent s 1 s.config.addr (asked_at n.mac) no_mac n.ip good (inl refl);
           }
 
-  -- the packet that is found waits for a hop of which the hardware address was told
+  -- the packet that is found waits for a next hop, whose hardware address came in a frame
   record IsFound (hs : List WaitingPacket) (found : ℕ × Mac) : Type 0 where
     h : WaitingPacket
     at : slice_get hs found.0 ≡ Some h
@@ -556,7 +556,7 @@ module _ (c : Config) (l : Link) (F G : List (List ℕ)) (f : List ℕ) where
   here : Contains (f ∷ F) f
   here = All-head (Contains (f ∷ F)) f F (All-contains_itself (f ∷ F))
 
-  -- what is known stays so of those of whom the frame says nothing
+  -- the invariant still holds after one more frame, if the neighbours are known by then
   later_good : (s t : LinkState) → Good F s → t.config ≡ s.config → t.link ≡ s.link → t.held ≡ s.held
       → t.answer ≡ s.answer
       → Each (IsKnown c l (f ∷ F) G) t.neighbours → AreDistinct t.neighbours → Good (f ∷ F) t

@@ -79,7 +79,7 @@ new_past ip (n ∷ ns) h = go (λ e. new_past ip ns e) (has_ip ip n) refl h
     go rest true e h = absurd (omega arith)
     go rest false e h = (eqb-false n.ip ip e, rest (omega arith))
 
--- where no place is found the address is new
+-- if no place is found, the address is new
 pub new_ip : (ip : ℕ) (ns : List Neighbour) → neighbour_place ip ns ≡ None → IsNew ip ns
 new_ip ip ns e = go (nat_lt (position_or_len (has_ip ip) ns) (length ns)) refl e
   where

@@ -1,4 +1,4 @@
--- Where a packet goes on the link (RFC 1122, section 3.3.1).
+-- The route of a packet on the link (RFC 1122, section 3.3.1).
 use Rattle.std.specs.Prelude.{ℕ, ◌/◌, ◌%◌, nat_le, Bool, true, ◌==◌, ◌&&◌, not, if◌then◌else◌, bit_and, Option, Some, None}
 use Rattle.flat_model.specs.Machine.Arrival.{is_broadcast}
 use Rattle.flat_model.specs.declared.config.Config.{Config}

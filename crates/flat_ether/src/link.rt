@@ -16,8 +16,8 @@ pub struct Link {
     pub mask: u32,
     /// The address of the gateway, which is on the link, if there is one.
     pub gateway: Option<u32>,
-    /// Whether it first probes if another host has its address (RFC 5227). The host then sends nothing else for 5.0 to
-    /// 5.5 seconds.
+    /// Whether it first probes if another host has its address (RFC 5227). For these 5.0 to 5.5 seconds the host sends
+    /// only probes.
     pub probe: bool,
 }
 
@@ -34,7 +34,7 @@ pub enum FrameKind {
     Other,
 }
 
-/// Where a packet goes on the link.
+/// The route of a packet on the link.
 #[derive(Clone, Copy, Debug, PartialEq, Eq)]
 pub enum Route {
     /// To the broadcast address.

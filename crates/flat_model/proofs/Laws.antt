@@ -1,5 +1,5 @@
--- All the lemmas that crates above may cite. Their statements stand in the files named; the laws that need a contract
--- of their own are in src/theorems.rt.
+-- All the lemmas that crates above may cite. Their statements are in the files named; the laws that need a contract of
+-- their own are in src/theorems.rt.
 
 -- ---- facts by cases, and facts of each element of a list
 pub use Rattle.flat_model.proofs.Lists.Each.{
@@ -15,14 +15,14 @@ pub use Rattle.flat_model.proofs.Lists.Each.{
   each-weaker,
   each-take,
 }
--- ---- lists and weights: what is added up, and how often a cluster stands in it
+-- ---- lists and weights: sums, and how often a cluster occurs
 pub use Rattle.flat_model.proofs.Lists.Totals.{count_cons, count-append}
 pub use Rattle.flat_model.proofs.Amounts.Weights.{nothing-both, both-nothing, both-assoc, all_of-append, times-both}
 -- ---- the accounts of a consistent state
 pub use Rattle.flat_model.proofs.Machine.Balance.{free_and_held, references_are, none_held}
--- ---- fragments go by their whole keys
+-- ---- fragments are matched by their whole keys
 pub use Rattle.flat_model.proofs.Machine.Keys.{whole_key}
--- ---- sends: each spends its identification, and both parts of one are the whole
+-- ---- sends: each uses up an identification, and both parts of one are the whole
 pub use Rattle.flat_model.proofs.Machine.Numbers.{next_number}
 pub use Rattle.flat_model.proofs.Machine.Putting.{put_goes}
 -- ---- runs: one more event, and what a script prints

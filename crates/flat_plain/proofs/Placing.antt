@@ -1,4 +1,4 @@
--- What lies at an offset, case by case.
+-- The map at an offset after an overlay, case by case.
 use Rattle.std.proofs.Common.{◌≡◌, ℕ, suc, zero, ◌+◌, ◌-◌, ◌<◌, ◌≤◌, Bool, true, false, length, refl, sym, ◌∙◌, ap, arith, Some, None, cond}
 use Rattle.std.specs.Prelude.{nat_lt, nat_le, ◌&&◌, count_by, slice_index}
 use Rattle.std.specs.List.{range_with_len}
@@ -64,7 +64,7 @@ count_next p at (suc n) later b h e l = go b e
     go false t = let none : cond {A = ℕ} (p at) 1 0 ≡ 0 = ap (λ x. cond {A = ℕ} x 1 0) t in
         omega (arith, sum_by-cons (λ k. cond {A = ℕ} (p k) 1 0) at (range_with_len (at + 1) n), same)
 
--- nothing lies after the table, before and after
+-- the offsets after the table are empty, before the overlay and after it
 pub place_next : (map : Map) (f : Fragment) (k n : ℕ) → n ≤ k → fragment_end f ≤ n → map k ≡ None
     → overlay map f k ≡ None
 place_next map f k n le inside e =

@@ -21,7 +21,7 @@ use Rattle.flat_plain.specs.declared.weights.Entry.{Entry}
 use Rattle.flat_plain.specs.Tables.{plain_map, held_of, weight_of_mbufs}
 use Rattle.flat_plain.specs.Weights.{plain_entry, entries_of, entry_size, weight_begun}
 
--- ---- mbufs met
+-- ---- mbufs that overlap a range
 
 first_weight : (e : Entry) (rest : List Layout.LayoutEntry)
     → Layout.weight_of (plain_entry e ∷ rest) ≡ weight_of_mbufs 1 (e.cluster ∷ []) ⊕ Layout.weight_of rest
@@ -114,7 +114,7 @@ pieces_more cells k old new was is =
     ∙ ap weigh (sym (filter_map-append f (range_with_len 0 k) (k ∷ [])))
     ∙ ap (λ (js : List ℕ). weigh (filter_map f js)) (sym more)
 
--- no piece begins where nothing lies
+-- no piece begins at an empty offset
 none_past : (m : Map) (n at more : ℕ) → n ≤ at → ((k : ℕ) → n ≤ k → m k ≡ None)
     → filter_map (λ o. piece_at o (m o)) (range_with_len at more) ≡ []
 none_past m n at zero le none = refl

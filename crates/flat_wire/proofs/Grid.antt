@@ -36,7 +36,7 @@ cuts_grid n mtu some low = go (cases_lt mtu (20 + n))
           (ap (λ k. map (part n n) (range_with_len 0 k)) one_chunk ∙ ap (λ p. p ∷ []) one_part),
     )
 
--- where a part of the grid stands
+-- the index of a part of the grid
 pub index_of : (n c : ℕ) (p : Part) → 0 < c → Contains (grid n c) p → (i : ℕ) × (i < chunks n c) × (p ≡ part n c i)
 index_of n c p some (k, h, e) =
     let l : k < chunks n c = omega (arith, h, length-grid n c) in

@@ -1,4 +1,4 @@
--- Parts of one cut laid over one another.
+-- Parts of one datagram, overlaid on each other.
 use Rattle.std.proofs.Common.{◌≡◌, ℕ, zero, suc, ◌+◌, ◌-◌, ◌*◌, ◌<◌, ◌≤◌, Bool, true, false, List, length, drop, refl, sym, ◌∙◌, ap, subst, ◌⊎◌, inl, inr, arith, min, Option, Some, None, cond}
 use Rattle.std.specs.Prelude.{nat_le, nat_lt, IsSome, count_by, slice_index, ◌&&◌}
 use Rattle.std.specs.List.{range_with_len}
@@ -12,11 +12,11 @@ use Rattle.flat_model.specs.Fragments.Overlay.{Held, Map, Fragment, fragment_end
 use Rattle.flat_model.specs.Runs.Laws.{bytes_of_part}
 use Rattle.flat_wire.proofs.Maps.{overlay_keeps, overlay_brings}
 
--- where the i-th part of n bytes ends
+-- the end of the i-th part of n bytes
 abbrev pub end_of : ℕ → ℕ → ℕ → ℕ
 end_of n c i = i * c + min c (n - i * c)
 
--- the offset lies in the i-th part
+-- the offset is in the i-th part
 pub record IsIn (n c i offset : ℕ) : Type 0 where
   pub low : i * c ≤ offset
   pub high : offset < end_of n c i
@@ -39,7 +39,7 @@ same_index n c i j offset a b = go (cases_order i j)
     go (inr (inr l)) = let m : (j + 1) * c ≤ i * c = mul-le-mul_right {m = j + 1} {n = i} c (omega arith) in
         absurd (omega (arith, a.low, b.high))
 
--- what lies at an offset of the i-th part
+-- the byte and the piece at an offset of the i-th part
 pub record IsOf (s : List ℕ) (c offset : ℕ) (held : Held) (i : ℕ) : Type 0 where
   pub inside : i * c < length s
   pub place : IsIn (length s) c i offset
@@ -79,7 +79,7 @@ brought_byte s c f i offset cut place =
     ∙ get_or-drop (i * c) s (offset - f.offset) 0
     ∙ ap (slice_index s) back
 
--- nothing is counted where nothing passes
+-- if no offset passes, the count is 0
 count_none : (p : ℕ → Bool) (a k : ℕ) → ((offset : ℕ) → a ≤ offset → offset < a + k → p offset ≡ false)
     → count_by p (range_with_len a k) ≡ 0
 count_none p a zero none = refl
@@ -91,7 +91,7 @@ count_none p a (suc k) none =
 
 module _ (s : List ℕ) (c : ℕ) (bytes : Map) (D : ℕ → Type 0) (made : IsMade s c bytes D) (f : Fragment) (j : ℕ)
     (cut : IsCut s c f j) where
-  -- where one offset of a part has nothing, its piece owns all of it
+  -- if the map is empty at one offset of a part, the fragment owns the whole part
   first_is : (offset : ℕ) → IsIn (length s) c j offset → bytes offset ≡ None → first_owned bytes f ≡ j * c
   unfolding first_owned
   first_is offset place none =
@@ -114,7 +114,7 @@ module _ (s : List ℕ) (c : ℕ) (bytes : Map) (D : ℕ → Type 0) (made : IsM
           both_ways_some None e p = cc
           both_ways_some (Some y) e p = cc
 
-  -- the indices laid then
+  -- the indices in the map after the overlay
   abbrev pub More : ℕ → Type 0
   More i = (i ≡ j) ⊎ D i
 

@@ -1,4 +1,4 @@
--- A map that has only bytes of one datagram stays one as fragments of it come.
+-- A map that has only bytes of one datagram stays one as fragments of that datagram arrive.
 use Rattle.std.proofs.Common.{◌≡◌, ℕ, ◌-◌, ◌<◌, ◌≤◌, Bool, true, false, List, length, refl, sym, ◌∙◌, ap, ◌⊎◌, inl, inr, arith, Option, Some, None, cond}
 use Rattle.std.specs.Prelude.{nat_lt, nat_le, slice_index, IsSome, IfSome, ◌&&◌}
 use Rattle.std.proofs.lemmas.Option.{none-some, same_Some}
@@ -7,7 +7,7 @@ use Rattle.flat_model.specs.Fragments.Overlay.{Held, Map, Fragment, fragment_end
 use Rattle.flat_model.specs.Fragments.Whole.{IsWhole}
 use Rattle.flat_model.proofs.Laws.{IsMapOf}
 
--- the fragment is a stretch of t, and the end of it where no more is after it
+-- the fragment is a stretch of t, and ends at t's end if it's the last
 pub record IsStretch (t : List ℕ) (f : Fragment) : Type 0 where
   pub some : 0 < length f.bytes
   pub fits : fragment_end f ≤ length t
@@ -40,7 +40,7 @@ module _ (bytes : Map) (f : Fragment) where
       rw (and_from _ _ (le-leb f.offset offset low) (lt-ltb offset (fragment_end f) high))
       (some_brought offset (bytes offset))
 
-  -- what lies there was there before, but for its piece's first offset, or is brought
+  -- the byte was there before; only the first offset of its piece may differ
   abbrev Was : ℕ → Held → Type 0
   Was offset h = (g : Held) × (bytes offset ≡ Some g) × (h.byte ≡ g.byte) × (h.piece.more ≡ g.piece.more)
 
@@ -95,7 +95,7 @@ module _ (bytes : Map) (f : Fragment) where
           let at : fragment_end f ≡ length t = is.last (sym (ap (λ (x : Held). x.piece.more) b.2) ∙ closed) in
           overlay_brings (length t - 1) (omega (arith, is.some)) (omega (arith, is.some))
 
-  -- what the last pieces show
+  -- a piece that is the last of its datagram was there before, or is the fragment's
   pub overlay_closed : (Q : Type 0) → ((offset : ℕ) (h : Held) → bytes offset ≡ Some h → h.piece.more ≡ false → Q)
       → (f.more ≡ false → Q) → (offset : ℕ) (h : Held) → overlay bytes f offset ≡ Some h → h.piece.more ≡ false → Q
   overlay_closed Q old new offset h e closed = go (overlay_origin offset h e)

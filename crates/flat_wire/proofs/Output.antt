@@ -26,7 +26,7 @@ bytes_of_packets entries f (p ∷ later) = ap (λ rest. f p ∷ rest) (go later)
     go [] = refl
     go (q ∷ qs) = ap (λ rest. f q ∷ rest) (go qs)
 
--- the parts but for the last, which alone has none after it
+-- the parts before the last one, which all have more after them, and the last one, which doesn't
 pub record IsSplit (parts : List Part) : Type 0 where
   pub front : List Part
   pub last : Part
@@ -58,7 +58,7 @@ cuts_split n mtu some low =
     go c zero e h l = let none : chunks n c * c ≡ 0 * c = ap (λ m. m * c) e in absurd (omega arith)
     go c (suc k) e h l = omega arith
 
--- What is queued then: of a send that overflows never the last packet.
+-- The packets in the queue after a send. If the send overflows the queue, its last packet isn't among them.
 pub each_queued : (Q : List ℕ → Type 0) (old : List (List ℕ)) (f : Part → List ℕ) (parts : List Part) → Each Q old
     → IsSplit parts
     → ((p : Part) → Contains parts p → ((p.more ≡ true) ⊎ (length old + length parts ≤ OUTPUT_QUEUE_PACKETS)) → Q (f p))

@@ -1,4 +1,4 @@
--- What a machine's `recvfrom` answers was queued before, so the law of two machines says who sent it.
+-- What a machine's `recvfrom` returns was queued before, so the law of two machines says who sent it.
 use Rattle.std.proofs.Common.{◌≡◌, ℕ, Bool, List, [], ◌∷◌, ◌++◌, refl, sym, ◌∙◌, ap, subst, Some}
 use Rattle.std.specs.Prelude.{◌==◌, ⊤, filter_map, find, take, All, Contains}
 use Rattle.std.specs.List.{AllByRecursion as Each}
@@ -33,7 +33,7 @@ leads_parts L old new (turn ∷ before) rest l =
     let later = leads_parts L l.1 new before rest l.3 in
     (later.0, (l.0, l.1, l.2, later.1), later.2)
 
--- what an answer of `recvfrom` tells
+-- a reply with a datagram that `recvfrom` returned
 abbrev IsReceived : Reply → Type 0
 IsReceived (Received sender bytes) = ⊤
 IsReceived _ = ⊥
@@ -46,7 +46,7 @@ abbrev bytes_of : Reply → List ℕ
 bytes_of (Received sender bytes) = bytes
 bytes_of _ = []
 
--- the datagram that was answered waited in the socket's queue
+-- the datagram that `recvfrom` returned waited in the socket's queue
 record Waited (fd most : ℕ) (old : State) (sender : Addr) (bytes : List ℕ) : Type 0 where
   me : Socket
   datagram : Datagram

@@ -40,7 +40,7 @@ header_long bytes passed = go (nat_lt (length bytes) 20) refl
     go true short = absurd (none-some _ (sym (rw short at passed)))
 
 module _ (S A B mtu : ℕ) (P : Sending → Part → Type 0) (Answered : Sending → Type 0) (M : Ledger) where
-  -- what was given out by the first
+  -- the packets that the first machine sent
   pub record IsLog : Type 0 where
     pub sendable : (x : Sending) (p : Part) → P x p → IsSendable mtu x
     pub part : (x : Sending) (p : Part) → P x p → Contains (cuts (length (datagram x)) mtu) p
@@ -68,7 +68,7 @@ module _ (S A B mtu : ℕ) (P : Sending → Part → Type 0) (Answered : Sending
     pub queue : Each (IsGoodDatagram socket.port) socket.queue
     pub local : (ip : ℕ) → socket.local ≡ Some ip → ip ≢ S
 
-  -- a map that has only bytes of this sending, its end only if it was answered
+  -- a map that has only bytes of this sending, and its end only if the send succeeded
   pub record IsGoodMap (x : Sending) (bytes : Map) : Type 0 where
     pub map : IsMapOf (datagram x) bytes
     pub closed : (offset : ℕ) (h : Held) → bytes offset ≡ Some h → h.piece.more ≡ false → Answered x
@@ -85,12 +85,12 @@ module _ (S A B mtu : ℕ) (P : Sending → Part → Type 0) (Answered : Sending
     pub sockets : Each (IsGoodSocket ports) s.sockets
     pub unfinished : Each IsGoodUnfinished s.unfinished
 
-  -- a packet that, if it is from the first, the first gave out
+  -- a packet that the first machine sent, if it has that machine's address as its source
   abbrev pub IsGoodPacket : List ℕ → Type 0
   IsGoodPacket bytes = ComesFrom S bytes → (x : Sending) × (p : Part) × P x p × (bytes ≡ packet_for x p)
 
   module _ (ports : ℕ → Option ℕ) where
-    -- the counters are no part of it
+    -- the invariant doesn't depend on the counters
     pub same_but_counters : (old new : State) → IsGood ports old → new.config ≡ old.config → new.sockets ≡ old.sockets
         → new.unfinished ≡ old.unfinished → IsGood ports new
     same_but_counters old new good c s u = record {
@@ -164,9 +164,9 @@ module _ (S A B mtu : ℕ) (P : Sending → Part → Type 0) (Answered : Sending
         (λ mid g a. good_appends (held ⊕ item.weight) sender item to mid after g is.0 a) tests in
         good_delivers held sender item (next ∷ more) after new at is.1 later
 
-    -- ---- who hears a datagram
+    -- ---- the sockets that match a datagram
 
-    -- a socket that hears a port has it
+    -- the socket is bound to this port
     abbrev Hears : ℕ → Socket → Type 0
     Hears port to = ports to.fd ≡ Some port
 
@@ -232,7 +232,7 @@ module _ (S A B mtu : ℕ) (P : Sending → Part → Type 0) (Answered : Sending
 
     -- ---- whole datagrams
 
-    -- what a datagram from the first is
+    -- a whole datagram from the first machine is one that it sent
     pub record IsWholeOf (destination : ℕ) (bytes : List ℕ) : Type 0 where
       pub sending : Sending
       pub answered : Answered sending
@@ -289,7 +289,7 @@ module _ (S A B mtu : ℕ) (P : Sending → Part → Type 0) (Answered : Sending
 
     -- ---- fragments
 
-    -- what a fragment from the first is
+    -- a fragment from the first machine is part of a datagram that it sent
     pub record IsPartOf (k : Key) (f : Fragment) : Type 0 where
       pub sending : Sending
       pub part : Part

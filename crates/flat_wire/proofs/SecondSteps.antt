@@ -1,4 +1,4 @@
--- Every step of the second machine keeps what its arrivals keep.
+-- Every step of the second machine keeps the invariant that its arrivals keep.
 use Rattle.std.proofs.Common.{◌≡◌, ◌≢◌, ℕ, zero, suc, ◌≤◌, Bool, true, false, List, [], ◌∷◌, length, map, take, drop, refl, sym, ◌∙◌, ap, subst, ◌⊎◌, inl, inr, arith, Option, Some, None, cond}
 use Rattle.std.specs.Prelude.{◌==◌, ◌||◌, not, find, is_some, unwrap_or, ⊤}
 use Rattle.std.specs.List.{AllByRecursion as Each}
@@ -28,7 +28,7 @@ use Rattle.flat_model.proofs.Laws.{by_choice, by_case, each-map, each-filter, ea
 use Rattle.flat_wire.proofs.Decode.{source_read}
 use Rattle.flat_wire.proofs.Second as Second
 
--- nothing passes where nothing is found
+-- if nothing is found, no element passes
 each-not_found : {X : Type 0} (p : X → Bool) (xs : List X) → is_some (find p xs) ≡ false → Each (λ x. p x ≡ false) xs
 each-not_found p [] e = tt
 each-not_found p (x ∷ xs) e = go (each-not_found p xs) (p x) refl e
@@ -103,7 +103,7 @@ module _ (S A B mtu : ℕ) (P : Sent.Sending → Part → Type 0) (Answered : Se
             (none-some (is.sent from).sending.to.port (sym e ∙ (is.sent from).receiver));
       }) queue g
 
-  -- a socket with a port, a local address and a peer set anew
+  -- a socket gets a port, a local address and a peer
   named : (ports : ℕ → Option ℕ) (s : State) (fd : ℕ) (port : Option ℕ) (change : Socket → Socket) → IsGood ports s
       → (ports fd ≡ port) ⊎ (ports fd ≡ None)
       → ((socket : Socket) → (change socket).fd ≡ socket.fd) → ((socket : Socket) → (change socket).port ≡ port)
@@ -336,7 +336,7 @@ module _ (S A B mtu : ℕ) (P : Sent.Sending → Part → Type 0) (Answered : Se
 
   -- ---- sends
 
-  -- a packet of its own is from none of the first's addresses
+  -- a packet that the second machine sends doesn't have an address of the first as its source
   own_packet : (x : Sent.Sending) (p : Part) → x.source ≢ S → IsGoodPacket (packet_for x p)
   own_packet x p not from =
       absurd (not (sym (source_read (head_for x p) (take p.size (drop p.offset (datagram x)))) ∙ from.source))
@@ -444,7 +444,7 @@ module _ (S A B mtu : ℕ) (P : Sent.Sending → Part → Type 0) (Answered : Se
       → ((me : Socket) → socket_at fd old ≡ Some me → Call me → Good new) → OnSocket fd old reply new Call → Good new
   on_socket fd old new reply Call good goes h = by_case h (λ e r. refused old new _ reply good r) goes
 
-  -- what comes from the first, the first gave out
+  -- the first machine sent each packet that comes with its address as the source
   abbrev pub IsGoodEvent : Event → Type 0
   IsGoodEvent (Comes packet) = IsGoodPacket packet
   IsGoodEvent _ = ⊤

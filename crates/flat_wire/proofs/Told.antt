@@ -1,5 +1,5 @@
--- The runs of the first machine: every packet given out is of a send, and the last of a send only where it was
--- answered.
+-- The runs of the first machine: every packet that it transmits is of a send, and the last packet of a send is
+-- transmitted only if the send succeeded.
 use Rattle.std.proofs.Common.{◌≡◌, ℕ, ◌+◌, ◌-◌, ◌%◌, ◌^◌, ◌<◌, ◌≤◌, Bool, true, false, List, [], ◌∷◌, ◌++◌, length, map, take, refl, sym, ◌∙◌, ap, subst, ◌⊎◌, inl, inr, arith, min, Option, Some, None, cond}
 use Rattle.std.specs.Prelude.{nat_lt, ◌==◌, find, filter_map, unwrap_or, ⊤, Contains, IfSome}
 use Rattle.std.specs.List.{AllByRecursion as Each, cons_option}

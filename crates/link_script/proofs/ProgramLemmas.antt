@@ -1,4 +1,4 @@
--- Words that ask for nothing, and words that could be had.
+-- Words that request no task, and words that could be read.
 use Rattle.std.proofs.Common.{◌≡◌, ℕ, List, Option, Result, Ok, Err, sym, inl, subst}
 use Rattle.std.specs.Prelude.{MatchResult}
 use Rattle.flat_model.specs.declared.config.Config.{Config}
@@ -15,7 +15,7 @@ pub Ran-none : (asks : Task → Type 0) (a w : Option (List ℕ)) (failure : Fai
 Ran-none asks a w Usage h = (h, Moves-none a w)
 Ran-none asks a w (Run fault) h = inl (h, Moves-none a w)
 
--- what is said of words that could be had
+-- the result for words that could be read
 pub Asked-words : {W E : Type 0} (texts : W → List (List ℕ)) (d : Config) (w : Result W E) (all : W)
     (bytes : List (List ℕ)) (r : Result Task Failure)
     → w ≡ Ok all → texts all ≡ bytes → MatchResult r (IsCommand d bytes) (IsWordsFault (IsCommand d bytes))

@@ -1,4 +1,4 @@
--- What a machine prints by its answers.
+-- The output of a machine, by its replies.
 use Rattle.std.proofs.Common.{ℕ, List, [], ◌∷◌, ◌++◌, ap, ◌∙◌}
 use Rattle.flat_model.specs.Machine.Event.{Event, Reply}
 use Rattle.flat_model.specs.Machine.State.{State, boot}
@@ -12,7 +12,7 @@ use Rattle.flat_model.proofs.Laws.{print_of_run}
 use Rattle.script_loop.specs.Printed.{Prints}
 use Rattle.link_script.specs.Says.{SaysBy}
 
--- what a machine prints by its answers is what it prints by its steps
+-- the output of a machine by its replies is its output by steps
 pub Prints-answers : (step : State → Event → Reply → State → Type 0) (old new : State) (lines : List (List ℕ))
     (printed : List ℕ)
     → Prints (SaysBy step) old lines printed new → script.Prints all_events step old lines printed new
@@ -25,7 +25,7 @@ Prints-answers step old new (line ∷ lines) printed h =
           ∙ ap (λ (t : List ℕ). answer_text h.3.0 ++ t) rest.2,
     )
 
--- and from boot it's told by a run
+-- and from boot it's the output of a run
 pub Prints-run : (config : Config) (new : State) (lines : List (List ℕ)) (printed : List ℕ)
     → Prints (SaysBy Step) (boot config) lines printed new → PrintsRun config lines printed new
 Prints-run config new lines printed h =

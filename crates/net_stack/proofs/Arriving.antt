@@ -1,4 +1,4 @@
--- A packet arrives: each way on which it ends.
+-- The outcomes of a packet that arrives.
 use Rattle.std.proofs.Common.{◌≡◌, ◌⊎◌, ℕ, ◌<◌, ◌≤◌, min, Bool, true, false, List, [], ◌∷◌, ◌++◌, length, take, drop, None, Some, is_some, refl, sym, ap, ◌∙◌, subst, arith, inl, inr}
 use Rattle.std.specs.Prelude.{◌/◌, ◌%◌, ◌==◌, not, nat_lt, slice_index, slice_index_or}
 use Rattle.std.specs.List.{AllByRecursion as Each}
@@ -68,7 +68,7 @@ freed {p} {q} {ds} {s} c owned table socks e = aside (c ∷ []) [] owned table s
 
 -- ---- a fragment
 
--- what a call on the unfinished datagrams says of a fragment of chain c, where it has `hand` then
+-- the fragment in chain c was added to the unfinished datagrams; `hand` are the chains that the caller owns afterwards
 pub record Arrived (p : PoolView) (ds : TableView) (a : Counters) (c : ℕ) (h : IpHead) (q : PoolView) (es : TableView)
     (b : Counters) (hand : List ℕ) (Then : Weight → State → State → Type 0) : Type 0 where
   pub step : (rest : State) (held : Weight) (origin : Origin) (new : State) → CameBy origin (chain_of p c)
@@ -80,7 +80,7 @@ pub record Arrived (p : PoolView) (ds : TableView) (a : Counters) (c : ℕ) (h :
       (held ⊕ weight_at p c) → IsAccounted q (reass.machine_with q es.datagrams b rest) (held ⊕ weight_owned q hand)
   pub moves : Moves p (c ∷ held_all p ds.datagrams) q (hand ++ held_all q es.datagrams)
 
--- it waits, or ended
+-- its datagram is still incomplete, or the fragment was dropped
 pub waits : {p q : PoolView} {ds es : TableView} {s : SocksView} {a b : Counters} {c : ℕ} {h : IpHead}
     → IsOwned p (c ∷ (held_all p ds.datagrams ++ queued_chains p s.queues)) → IsSocks p s
     → Arrived p ds a c h q es b [] (λ held now new. new ≡ now)
@@ -104,7 +104,7 @@ waits {p} {q} {ds} {es} {s} {a} {b} {c} {h} owned socks is =
       };
     }
 
--- its datagram is whole, and went to the sockets
+-- its datagram is complete, and was delivered to the sockets
 pub completes : {p q : PoolView} {ds es : TableView} {s : SocksView} {a b : Counters} {c d : ℕ} {h : IpHead}
     {u : NetView} (g : IpHead) → IsOwned p (c ∷ (held_all p ds.datagrams ++ queued_chains p s.queues)) → IsSocks p s
     → Arrived p ds a c h q es b (d ∷ []) (λ held now new. WholeArrives exact_ledger held g.src g.dst g.proto
@@ -136,7 +136,7 @@ completes {p} {q} {ds} {es} {s} {a} {b} {c} {d} {h} {u} g owned socks is input =
       };
     }
 
--- ---- what a header says
+-- ---- a header without a fault, decoded
 
 pub record IsHeaded (bytes : List ℕ) (h : IpHead) : Type 0 where
   pub none : head_fault bytes ≡ None
@@ -170,7 +170,7 @@ headed bytes h none says =
 
 -- ---- a packet
 
--- it ends: for a fault of its header, or since it's for another machine
+-- it is dropped: its header has a fault, or it's for another machine
 pub ends_here : {p q : PoolView} {ds : TableView} {s : SocksView} {a b e : Counters} {c : ℕ} (why : Why) → IsReady p ds
     → IsSocks p s → IsOwned p (c ∷ (held_all p ds.datagrams ++ queued_chains p s.queues)) → q ≡ without p c
     → b ≡ counts_more IpTotal 1 a → e ≡ counted why b
@@ -213,7 +213,7 @@ forwarded bytes origin held w old none other =
     passes bytes origin held w old (ends CantForward (counts_packet old)) none
     (record { yes = λ e. absurd (true≢false (sym e ∙ other)); no = λ e. refl })
 
--- ---- how it came is still seen once it's cut after
+-- ---- trimming the end of a chain keeps the cluster of its first entry
 
 first_cluster : (n : ℕ) (es : List Entry) → (slice_index_or (only_first n es) 0 no_entry).cluster
     ≡ (slice_index_or es 0 no_entry).cluster
@@ -275,7 +275,7 @@ for_us {p} {q} {ds} {s} {a} {b} {c} {h} ours table socks owned none says is hear
   cut = changed c (only_first h.total (chain_of p c).entries) owned table socks cut;
 }
 
--- what it carries has the length that its header tells
+-- after the trim, the chain is as long as the header's total length
 pub cut_length : {p q : PoolView} {ds : TableView} {s : SocksView} {a b : Counters} {c : ℕ} {h : IpHead}
     → IsForUs p ds s a c h q b → length (string (chain_of q c)) ≡ h.total
 cut_length {p} {q} {c = c} {h = h} is =

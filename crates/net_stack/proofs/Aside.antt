@@ -1,4 +1,4 @@
--- Sockets and unfinished datagrams beside a step of what is in hand.
+-- A step on the chains that a caller owns leaves the sockets and the unfinished datagrams the same.
 use Rattle.std.proofs.Common.{◌≡◌, ℕ, ◌+◌, List, [], ◌∷◌, ◌++◌, refl, sym, ap, ◌∙◌, subst, arith}
 use Rattle.flat_model.specs.Amounts.Weight.{Weight, ◌⊕◌}
 use Rattle.flat_model.specs.Machine.State.{State}
@@ -18,11 +18,11 @@ use Rattle.sock_calls.specs.Delivery.{NetView, KeepsParts, held_with, seen}
 use Rattle.sock_calls.proofs.Laws.{Kept, kept}
 use Rattle.net_stack.proofs.Lifted.{ReassKept, reass_kept}
 
--- what an arrival sees of these parts
+-- the parts that an arrival reads and changes
 abbrev pub net_seen : PoolView → SocksView → TableView → Counters → NetView
 net_seen p s r c = seen p s (unfinished p r.datagrams) (held_all p r.datagrams) c
 
--- what is held with chains is that and what they weigh together
+-- `held_with` adds the weights of all the chains to `held`
 hand_weighs : (p : PoolView) (held : Weight) (xs : List ℕ) → held_with p held xs ≡ held ⊕ weight_owned p xs
 hand_weighs p held [] = sym (both-nothing held)
 hand_weighs p held (c ∷ cs) =
@@ -36,7 +36,7 @@ pub as_owned : {p : PoolView} {s : State} (held : Weight) (xs : List ℕ) → Is
     → IsAccounted p s (held ⊕ weight_owned p xs)
 as_owned {p} {s} held xs a = subst (λ (w : Weight). IsAccounted p s w) (hand_weighs p held xs) a
 
--- the accounts follow what is in hand
+-- if the caller's chains change from xs to ys, the pool still accounts for them
 pub hand_accounts : {p q : PoolView} {xs ys : List ℕ} (s : State) (held : Weight)
     → IsAccounted p s (held ⊕ weight_owned p xs) → IsOwned p xs → Moves p xs q ys
     → IsAccounted q s (held ⊕ weight_owned q ys)
@@ -52,7 +52,7 @@ hand_accounts {p} {q} {xs} {ys} s held a owned m =
       );
     })
 
--- the counters say nothing of what is held
+-- the pool's accounts don't depend on the counters
 pub counters_accounts : {p : PoolView} {s : State} {held : Weight} (c : Counters) → IsAccounted p s held
     → IsAccounted p (record s { counters = c }) held
 counters_accounts c a = record { mbufs = a.mbufs; clusters = a.clusters; total = a.total; references = a.references }
@@ -112,12 +112,12 @@ aside {p} {q} {ds} {s} ins outs owned table socks m =
           (as_owned held ins a) (λ k. omega (arith, owned k, split k)) m)));
     }
 
--- they are as they were, whatever was counted
+-- the sockets and the accounts are kept, whatever was counted
 pub aside_keeps : {p q : PoolView} {ds : TableView} {s : SocksView} {ins outs : List ℕ} (a b : Counters)
     → Aside p ds s ins q outs → KeepsParts (net_seen p s ds a) ins (net_seen q s ds b) outs
 aside_keeps a b x = record { accounts = x.accounts a b; ready = x.socks.ready; pcbs = refl; moves = x.moves }
 
--- ---- the sockets beside a step of the unfinished datagrams and of what is in hand
+-- ---- the sockets stay the same in a step on the unfinished datagrams and the caller's chains
 pub record BesideSocks (p : PoolView) (s : SocksView) (before : List ℕ) (q : PoolView) (hand after : List ℕ)
     : Type 0 where
   pub socks : Kept p q s

@@ -1,4 +1,4 @@
--- What a call makes of the fields of a stack: its step, and the invariant after it.
+-- The fields of a stack after a call: the step of the machine, and the invariant.
 use Rattle.std.proofs.Common.{◌≡◌, ℕ, ◌≤◌, List, [], ◌∷◌, length, arith}
 use Rattle.std.proofs.Common.{refl, sym, ap, ◌∙◌, subst}
 use Rattle.std.specs.List.{AllByRecursion}
@@ -48,7 +48,7 @@ abbrev pub with_reass : Fields → PoolView → TableView → Counters → Field
 with_reass s q r d =
     record s { host = record (s.host) { pool = q; reass = r; net = record (s.host.net) { counters = d } } }
 
--- the fields n are those of a stack again, one step from what was shown
+-- the fields n satisfy the invariant of a stack, and the machine took one step
 pub record Called (v : StackView) (event : Event) (reply : Reply) (n : Fields) : Type 0 where
   pub step : Step (state_of v) event reply (state_of (stack_of n))
   pub inside : IsStackInside n
@@ -76,7 +76,7 @@ socks_called s v q w event reply is e can step ready m =
     called s (with_socks s q w) v event reply is e refl refl refl
     (socks_step (stack_of s) q w event reply is.stack can step ready m)
 
--- the same of a call on the control blocks alone
+-- the same for a call that changes only the control blocks
 pub blocks_called : (s : Fields) (v : StackView) (w : SocksView) (event : Event) (reply : Reply) → IsStackInside s
     → stack_of s ≡ v → IsEvent event → ((p : PoolView) → IsSocks p s.host.socks → IsCalled p s.host.socks event reply w)
     → Called v event reply (with_socks s s.host.pool w)
@@ -94,7 +94,7 @@ within : (config : Config) (most : ℕ) (items : List Item) → config.mtu ≤ m
 within config most [] le each = tt
 within config most (item ∷ items) le each = (omega (arith, each.0.fits), within config most items le each.1)
 
--- each packet that waits fits a room of the link's MTU
+-- each packet in the output queue fits the link's MTU
 pub are_within : (s : Fields) (most : ℕ) → IsStackInside s → s.config.mtu ≤ most
     → AreWithin s.host.pool s.host.net.out most
 are_within s most is le =

@@ -1,4 +1,4 @@
--- A packet from the wire: how it lies in its chain, and its arrival.
+-- A packet from the wire: its layout in an mbuf chain, and its arrival.
 use Rattle.std.proofs.Common.{◌≡◌, ◌⊎◌, ℕ, zero, suc, ◌-◌, ◌<◌, ◌≤◌, min, Bool, true, false, cond, List, [], ◌∷◌, ◌++◌, length, is_some, refl, sym, ap, ◌∙◌, subst, arith, inl, inr}
 use Rattle.std.specs.Prelude.{count_by, nat_le, slice_index_or}
 use Rattle.std.proofs.lemmas.Bool.{true≢false, cases_lt}
@@ -29,7 +29,7 @@ use Rattle.sock_calls.specs.Delivery.{NetView, KeepsParts, state_at}
 use Rattle.net_stack.specs.Inside.Arrivals.{HasCome, IsArrived, IsAsked, IsPacketStored}
 use Rattle.net_stack.proofs.Aside.{Aside, aside, aside_keeps, counters_accounts, net_seen, BesideSocks, beside_socks}
 
--- ---- how it came shows in its first mbuf
+-- ---- the first mbuf shows how the packet came
 
 first_room : (n : ℕ) → (rooms : List Room) × (wire n ≡ next_room 2048 100 n ∷ rooms)
 unfolding filled
@@ -76,14 +76,14 @@ came_by_wire v cs xs entries number bytes =
 
 -- ---- the event
 
--- the sockets then
+-- making room for the packet keeps the sockets
 pub asked_socks : {p q : PoolView} {s : SocksView} {r t : TableView} {a b : Counters} {need : Need} {answer : Bool}
     → IsSocks p s → IsOwned p (held_all p r.datagrams ++ queued_chains p s.queues) → IsAsked p r a need answer q t b
     → BesideSocks p s (held_all p r.datagrams) q [] (held_all q t.datagrams)
 asked_socks {p} {q} {s} {r} {t} socks owned is =
     beside_socks (held_all p r.datagrams) [] (held_all q t.datagrams) owned socks is.moves
 
--- what the parts keep then, whatever was counted
+-- and it keeps all parts, whatever was counted
 pub asked_keeps : {p q : PoolView} {s : SocksView} {r t : TableView} {a b : Counters} {need : Need} {answer : Bool}
     (d : Counters) → IsSocks p s → IsOwned p (held_all p r.datagrams ++ queued_chains p s.queues)
     → IsAsked p r a need answer q t b → KeepsParts (net_seen p s r a) [] (net_seen q s t d) []
@@ -126,7 +126,7 @@ lost {p} {q} {s} {r} {t} {a} {b} {d} {need} {answer} packet socks owned is is_ne
       parts = asked_keeps d socks owned is;
     }
 
--- what is asked for before it arrives
+-- the conditions on the chain before the packet arrives
 pub record IsReadyToArrive (q : PoolView) (s : SocksView) (t : TableView) (q1 : PoolView) (c : ℕ) : Type 0 where
   pub beside : Aside q t s [] q1 (c ∷ [])
   pub header : (chain_of q1 c).front.header ≡ true

@@ -30,7 +30,7 @@ use Rattle.net_stack.specs.Inside.Fields.{Fields, stack_of as seen_in, IsStackIn
 use Rattle.net_stack.proofs.Called.{Called, called}
 use Rattle.net_stack.proofs.Lifted.{Stepped, accounts, stepped, input_step, split}
 
--- the bytes behind a reference are bytes
+-- each value of a byte slice is below 256
 pub are_bytes : (xs : List ℕ) → ((k : ℕ) → Fits w8 (get_or xs k 0)) → IsBytes xs
 are_bytes xs fits = All-from_recursion (λ byte. byte < 256) xs (go xs fits)
   where
@@ -58,7 +58,7 @@ rx_step s packet q w es c is can ready came = input_step s q w es c (Comes packe
 
 -- ---- a send
 
--- what a stack with this net shows
+-- the view of a stack with these parts
 abbrev pub shown : Config → PoolView → SocksView → TableView → Net → StackView
 shown config p s r n = record {
   config = config;

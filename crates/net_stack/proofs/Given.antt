@@ -17,21 +17,21 @@ use Rattle.ip_out.specs.Queues.{IsOutputQueue}
 use Rattle.net_stack.specs.Inside.Transmit.{with_packets, AreWithin, IsGiven}
 use Rattle.net_stack.proofs.Lifted.{OutputKept, output_kept}
 
--- the bytes in front of a room, of which some were written
+-- if the bytes were written at the start of the buffer, they are its first n bytes
 pub in_front : (bytes to room : List ℕ) (n : ℕ) → n ≡ length bytes → to ≡ bytes → take n (to ++ room) ≡ bytes
 in_front bytes to room n e f = (λ i. take (e i) (f i ++ room)) ∙ take-append_seam bytes room
 
--- all of a string is copied where there is room for it
+-- if there is room for the whole string, all of it is copied
 pub all_copied : (n k : ℕ) (s to : List ℕ) → to ≡ take k (drop 0 s) → k ≡ n → n ≡ length s → to ≡ s
 all_copied n k s to is is_k is_n = is ∙ ap (λ (j : ℕ). take j s) (is_k ∙ is_n) ∙ take-length s
 
--- the first packet fits where each does
+-- if each packet of the train fits, so does the first
 pub first_within : (p q : PoolView) (t u : TrainView) (c most : ℕ) → AreWithin p t most
     → train_packets p t ≡ item_at q c ∷ train_packets q u → length (string (chain_of q c)) ≤ most
 first_within p q t u c most each e =
     (subst (λ (items : List Item). AllByRecursion (λ (item : Item). length item.bytes ≤ most) items) e each).0
 
--- so does the one at a place, if there is one
+-- and so does the i-th, if there is one
 pub nth_within : (i most : ℕ) (items : List Item) → AllByRecursion (λ (item : Item). length item.bytes ≤ most) items
     → IfSome (nth_packet i items) (λ bytes. length bytes ≤ most)
 nth_within zero most [] each = tt

@@ -103,7 +103,7 @@ stepped s n event reply is can same socks table output m step = record {
   };
 }
 
--- ---- what stays beside a step of others
+-- ---- what a step on other chains leaves the same
 
 pub record ReassKept (p q : PoolView) (r : TableView) : Type 0 where
   pub table : IsReady q r
@@ -140,7 +140,7 @@ split s k = omega (
   times-append k (held_all s.pool s.reass.datagrams) (queued_chains s.pool s.socks.queues),
 )
 
--- ---- a step of the sockets alone
+-- ---- a step that changes only the sockets
 
 pub socks_step : (s : StackView) (q : PoolView) (w : SocksView) (event : Event) (reply : Reply) → IsStack s
     → IsEvent event
@@ -173,7 +173,7 @@ socks_step s q w event reply is can step ready m =
     (λ k. omega (arith, split n k, times-append k xs zs, ap (times_among k) r.chains, ap (times_among k) o.chains)))
     (subst (λ (t : State). Step (state_of s) event reply t) new (step rest))
 
--- ---- a step of the output queue alone
+-- ---- a step that changes only the output queue
 
 pub output_step : (s : StackView) (q : PoolView) (u : TrainView) (event : Event) (reply : Reply) → IsStack s
     → IsEvent event → IsOutputQueue q u → Moves s.pool (numbers s.pool s.output) q (numbers q u)
@@ -201,7 +201,7 @@ output_step s q u event reply is can queue m step =
     (λ k. omega (arith, split n k, times-append k xs ys, ap (times_among k) r.chains, ap (times_among k) v.chains)))
     (subst (λ (t : State). Step (state_of s) event reply t) new step)
 
--- ---- a step of the unfinished datagrams and counters alone
+-- ---- a step that changes only the unfinished datagrams and the counters
 
 pub reass_step : (s : StackView) (q : PoolView) (es : TableView) (c : Counters) (event : Event) (reply : Reply)
     → IsStack s → IsEvent event → IsReady q es → Moves s.pool (held_all s.pool s.reass.datagrams) q
@@ -230,7 +230,7 @@ reass_step s q es c event reply is can table m step =
     (λ k. omega (arith, split n k, times-append k ys zs, ap (times_among k) v.chains, ap (times_among k) o.chains)))
     (subst (λ (t : State). Step (state_of s) event reply t) new step)
 
--- ---- a step of all parts but the output queue
+-- ---- a step that changes all parts except the output queue
 
 pub input_step : (s : StackView) (q : PoolView) (w : SocksView) (es : TableView) (c : Counters) (event : Event)
     (reply : Reply) → IsStack s → IsEvent event → IsSocks q w → IsReady q es

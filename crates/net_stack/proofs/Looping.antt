@@ -25,7 +25,7 @@ use Rattle.net_stack.specs.Inside.Arrivals.{IsArrived, AreArriving, HaveArrived}
 use Rattle.net_stack.proofs.Lifted.{output_weighs}
 use Rattle.net_stack.proofs.Aside.{Aside, aside, as_held, as_owned, net_seen}
 
--- the first packet of a train, once it was taken
+-- the first packet of a train, after it was removed
 record IsFirst (p : PoolView) (t : TrainView) (q : PoolView) (c : ℕ) (u : TrainView) : Type 0 where
   items : train_packets p t ≡ item_at q c ∷ train_packets q u
   plain : (entry_of (chain_of q c) 0).cluster ≡ None
@@ -51,7 +51,7 @@ is_first p q t u c tag held plain some is_queued_packets is_queued_packet = go (
           later = subst AreBegunPlain left begun.1;
         }
 
--- the first of what is in hand goes after the others
+-- the accounts don't depend on the order of what the caller holds
 first_last : {p : PoolView} {s : State} (held a b : Weight) → IsAccounted p s (held ⊕ (a ⊕ b))
     → IsAccounted p s ((held ⊕ b) ⊕ a)
 first_last {p} {s} held a b acc = accounted_as acc refl (record {
@@ -67,7 +67,7 @@ first_last {p} {s} held a b acc = accounted_as acc refl (record {
   );
 })
 
--- the train that is left, beside an arrival
+-- the rest of the train stays the same while its first packet arrives
 record IsLater (p : PoolView) (c : ℕ) (u : TrainView) (xs : List ℕ) (q : PoolView) (ys : List ℕ) : Type 0 where
   numbers_are : numbers q u ≡ numbers p u
   items : train_packets q u ≡ train_packets p u
@@ -93,7 +93,7 @@ is_later p q c u xs ys owned held plain m =
           (λ k. omega (arith, times-append k (numbers q u) ys, ap (times_among k) ns));
     }
 
--- ---- one packet more
+-- ---- one more packet
 
 pub record IsOneMore (v : NetView) (t : TrainView) (q : PoolView) (s : SocksView) (ds : TableView) (b : Counters)
     (u : TrainView) : Type 0 where
@@ -102,7 +102,7 @@ pub record IsOneMore (v : NetView) (t : TrainView) (q : PoolView) (s : SocksView
   pub plain : BeginPlain q u
   pub owned : IsOwned q (numbers q u ++ (held_all q ds.datagrams ++ queued_chains q s.queues))
 
--- what is asked for before it arrives
+-- removing a packet from the train keeps the sockets and the unfinished datagrams
 pub taken : {p q : PoolView} {s : SocksView} {ds : TableView} {c : ℕ} (t u : TrainView)
     → IsOwned p (numbers p t ++ (held_all p ds.datagrams ++ queued_chains p s.queues)) → IsReady p ds → IsSocks p s
     → Moves p (numbers p t) q (c ∷ numbers q u) → Aside p ds s (numbers p t) q (c ∷ numbers q u)

@@ -86,7 +86,7 @@ once {fd} {to} {bytes} {v} {u} {r} {result} is ready owned =
       };
     }
 
--- ---- which answer it was
+-- ---- whether a reply reports that the pool lacks buffers
 
 abbrev lack_reply : Reply → Bool
 lack_reply (Refused errno) = is_pool_lack errno
@@ -119,7 +119,7 @@ was_lack {v = v} {u = u} (Err errno) h is = record { reply = ap Refused (lack_is
     go (inl e) = absurd (true≢false (sym h ∙ ap is_pool_lack e))
     go (inr e) = e
 
--- ---- at once
+-- ---- the first attempt doesn't fail for lack of buffers
 
 pub tried_at_once : {fd : ℕ} {to : Option Addr} {bytes : List ℕ} {v u : SendView} {r : TableView}
     {result : Result ℕ Errno} → lacks_pool result ≡ false → IsOnce fd to bytes v r result u
@@ -131,7 +131,7 @@ tried_at_once {fd} {to} {bytes} {v} {u} {r} {result} enough is = record {
   parts = is.parts;
 }
 
--- ---- the unfinished datagrams are given back
+-- ---- the unfinished datagrams are dropped, and their buffers freed
 
 pub record IsReclaimed (v : SendView) (r : TableView) (q : PoolView) (t : TableView) (c : Counters) : Type 0 where
   pub can : CanSend (sending q v.socks (record (v.net) { counters = c }))
@@ -227,7 +227,7 @@ gives_back {v} {r} {t} {q} {c} k can ready owned none count is_c m =
       moves = all;
     }
 
--- ---- once more
+-- ---- the second attempt
 
 pub tried_again : {fd : ℕ} {to : Option Addr} {bytes : List ℕ} {v u w : SendView} {r t : TableView}
     {first result : Result ℕ Errno} {q : PoolView} {c : Counters}

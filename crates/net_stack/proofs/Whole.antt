@@ -1,4 +1,4 @@
--- A packet that was read where it lies: it's stored at once for the one socket that hears it, or ends.
+-- A packet that was read in place: it's stored directly for the one socket that matches it, or dropped.
 use Rattle.std.proofs.Common.{◌≡◌, ℕ, ◌-◌, Bool, true, false, None, List, [], ◌∷◌, ◌++◌, length, refl, sym, ap, ◌∙◌, subst, arith, inl, inr}
 use Rattle.std.specs.Prelude.{count_by, ◌&&◌}
 use Rattle.std.specs.List.{AllByRecursion as Each}
@@ -37,7 +37,7 @@ use Rattle.net_stack.proofs.Coming.{asked_keeps, asked_socks}
 use Rattle.net_stack.proofs.Lifted.{ReassKept, reass_kept}
 use Rattle.pcb_table.specs.Table.{machine}
 
--- what is free of one state is of another that holds the same
+-- clusters that are free in one state are free in another with the same reference counts
 free_as : (x y : State) → y.config.clusters ≡ x.config.clusters
     → ((c : ℕ) → state.count_of y nothing c ≡ state.count_of x nothing c) → (xs : List ℕ)
     → Each (IsFree x nothing) xs → Each (IsFree y nothing) xs
@@ -56,7 +56,7 @@ enough {p} {s} n acc has =
     ∙ (λ i. le-leb (length (wire n)) (p.mbufs - held_mbufs p) (omega (arith, has.0)) i
     && le-leb (count_by is_cluster (wire n)) (free_clusters p) has.1 i)
 
--- asked for, and nothing was given back
+-- the buffers are available at once, and nothing was reclaimed
 pub asked_now : (p : PoolView) (r : TableView) (a : Counters) (n : ℕ) → Has p (wire n)
     → IsAsked p r a (need_of (wire n)) true p r a
 asked_now p r a n has = record {
@@ -78,7 +78,7 @@ asked_now p r a n has = record {
   moves = moves_none p (held_all p r.datagrams);
 }
 
--- What came once its buffers had been asked for came before: the test that it makes passes again.
+-- A packet that arrives after its buffers were reserved also arrives in the state before: the same test passes again.
 pub again : {p q : PoolView} {s : SocksView} {r t : TableView} {a b : Counters} {packet : List ℕ} {u : NetView}
     → IsSocks p s → IsOwned p (held_all p r.datagrams ++ queued_chains p s.queues)
     → IsAsked p r a (need_of (wire (length packet))) true q t b → Has q (wire (length packet))
@@ -113,7 +113,7 @@ again {p} {q} {s} {r} {t} {a} {b} {packet} {u} socks owned is has came =
       parts = keeps_trans keeps came.parts;
     }
   where
-    -- a packet that comes in where its buffers are free arrives there
+    -- if the buffers of a packet are free, the packet arrives in that state
     goes : (x y : State) (packet : List ℕ) → has_enough x nothing (need_of (wire (length packet))) ≡ true
         → ComesIn exact_ledger packet x y
         → (clusters : List ℕ) × AreTaken exact_ledger x (need_of (wire (length packet))).clusters clusters
@@ -142,7 +142,7 @@ comes_in packet acc has then = (
   record { yes = λ _. then; no = λ e. absurd (true≢false e) },
 )
 
--- it ended
+-- the packet was dropped
 pub ended : {p : PoolView} {s : SocksView} {r : TableView} {a b c : Counters} (packet : List ℕ) (why : Why)
     → IsSocks p s → IsReady p r → IsOwned p (held_all p r.datagrams ++ queued_chains p s.queues)
     → Has p (wire (length packet)) → EndsFor (net_seen p s r a) packet why → b ≡ counts_more IpTotal 1 a
@@ -186,16 +186,16 @@ whole_ends p s r a packet why none ours whole is = λ rest w.
     w none (ours rest) whole
     (is (record rest { unfinished = unfinished p r.datagrams; counters = counts_more IpTotal 1 a }) w)
 
--- its buffers are free where one mbuf and one beside it are
+-- if one mbuf for the packet and one more are free, its buffers are free
 pub has_one : {p : PoolView} {n : ℕ} (is_large : Bool) → HasOne p n is_large → Has p (wire n)
 has_one {p} true h = subst (Has p) (sym h.room) (omega (arith, h.mbufs), omega (arith, h.clusters))
 has_one {p} false h = subst (Has p) (sym h.room) (omega (arith, h.mbufs), omega arith)
 
--- it was stored
+-- the packet was stored
 module _ {p q : PoolView} {s t : SocksView} {r : TableView} {packet : List ℕ}
     (owned : IsOwned p (held_all p r.datagrams ++ queued_chains p s.queues)) (ready : IsReady p r)
     (is : StoresWhole p s packet q t) where
-  -- the unfinished datagrams are as they were
+  -- the unfinished datagrams stay the same
   pub beside : ReassKept p q r
   beside =
       let xs : List ℕ = held_all p r.datagrams in
@@ -247,7 +247,7 @@ module _ {p q : PoolView} {s t : SocksView} {r : TableView} {packet : List ℕ}
     };
   }
 
--- it was delivered by a chain of its own, or dropped
+-- the packet was copied into a chain and delivered, or dropped
 pub came_delivered : (p : PoolView) (s : SocksView) (r : TableView) (a : Counters) {b : Counters} {packet : List ℕ}
     {u : NetView}
     → b ≡ counts_more IpTotal 1 a → Has p (wire (length packet)) → head_fault packet ≡ None

@@ -1,4 +1,4 @@
--- Lists of descriptors: how often one stands in them, and sums over them.
+-- Lists of descriptors: how often a descriptor occurs in one, and sums over them.
 use Rattle.std.proofs.Common.{◌≡◌, ℕ, zero, suc, ◌+◌, ◌<◌, ◌≤◌, Bool, true, false, ◌==◌, cond, List, [], ◌∷◌, map, filter, count_by, refl, sym, ap, ◌∙◌, arith}
 use Rattle.std.specs.Prelude.{sum_by}
 use Rattle.std.specs.List.{range_with_len}
@@ -13,7 +13,7 @@ use Rattle.pcb_table.proofs.Searching.{counted-cons}
 abbrev pub fds_of : List Block → List ℕ
 fds_of bs = map (λ b. b.fd) bs
 
--- ---- how often
+-- ---- how often a descriptor occurs
 
 pub named_times : (fd : ℕ) (bs : List Block) → times fd (fds_of bs) ≡ count_by (has_fd fd) bs
 named_times fd [] = refl
@@ -51,7 +51,7 @@ sum_by-zero : (xs : List ℕ) → sum_by (λ k. 0) xs ≡ 0
 sum_by-zero [] = refl
 sum_by-zero (x ∷ xs) = omega (arith, sum_by-zero xs, sum_by-cons (λ k. 0) x xs)
 
--- v at x, and nothing elsewhere
+-- v at x, and 0 elsewhere
 abbrev only_at : ℕ → ℕ → ℕ → ℕ
 only_at x v k = cond (x == k) v 0
 
@@ -94,7 +94,7 @@ sum_only x v at (suc n) low high = go (sum_only x v (at + 1) n) (x == at) refl
           later (omega arith) (omega arith),
         )
 
--- what the elements that are k add
+-- the sum of f over the elements equal to k
 abbrev share : (ℕ → ℕ) → List ℕ → ℕ → ℕ
 share f xs k = sum_by (λ x. only_at x (f x) k) xs
 
@@ -151,7 +151,7 @@ share_one f (x ∷ xs) k one = go (share_one f xs k) (x == k) refl
           later (omega (arith, one, counted-cons (λ y. y == k) x xs, only_elsewhere x 1 k ne)),
         )
 
--- Where no number stands twice in the list, and f is 0 at each that doesn't stand in it, the sums are the same.
+-- If no number occurs twice in the list, and f is 0 for each number that isn't in it, the sums are the same.
 pub sum_in_range : (f : ℕ → ℕ) (at n : ℕ) (xs : List ℕ) → ((k : ℕ) → times k xs ≤ 1)
     → ((k : ℕ) → 0 < times k xs → at ≤ k) → ((k : ℕ) → 0 < times k xs → k < at + n)
     → ((k : ℕ) → times k xs ≡ 0 → f k ≡ 0) → sum_by f xs ≡ sum_by f (range_with_len at n)

@@ -1,4 +1,4 @@
--- What the look-ups, the checks and a new socket are on each machine.
+-- Lookups, checks and new sockets in the table, as in each machine with these blocks.
 use Rattle.std.proofs.Common.{◌≡◌, ℕ, ◌<◌, Bool, true, false, ◌&&◌, not, nat_lt, cond, List, [], ◌∷◌, map, filter, find, length, Option, Some, None, Ok, Err, option_map, is_some, refl, sym, ap, ◌∙◌, subst, arith, All}
 use Rattle.std.specs.Prelude.{IsNone, IsSome}
 use Rattle.std.proofs.lemmas.Bool.{and_parts, true≢false, lt-ltb}
@@ -73,7 +73,7 @@ pub receivers_range : (q : LookupKey) (bs : List Block) → AreApart bs
     → All IsDescriptor (map (λ b. b.fd) (receiving_blocks q bs))
 receivers_range q bs apart = All-map IsDescriptor (λ b. b.fd) (receiving_blocks q bs) (receiving_range q bs apart)
 
--- the connection that is cached, where it has a packet's ends
+-- a cached connection with the addresses and ports of a packet is the packet's best match
 pub cached_best : (bs : List Block) (cache : Option Connection) (k : Connection) (ip port : ℕ) (source : Addr)
     → AreApart bs → IsCached bs cache → cache ≡ Some k
     → is_addr k.local (record { ip = ip; port = port }) && is_addr k.peer source ≡ true
@@ -90,7 +90,7 @@ cached_best bs cache k ip port source apart cached is e =
           ∙ ap (λ (p : Addr). best_block (packet_key k.local.ip k.local.port p) bs) (sym far) ∙ found.2,
     )
 
--- ---- what an open descriptor's block answers
+-- ---- what the calls on an open descriptor read from its block
 
 module _ (i : Interface) (bs : List Block) (last : Option ℕ) (fd : ℕ) (b : Block) (at : find (has_fd fd) bs ≡ Some b)
   where
@@ -133,7 +133,7 @@ module _ (i : Interface) (bs : List Block) (last : Option ℕ) (fd : ℕ) (b : B
     checks_passed a to e is none rest queues c found =
         (faults_are a rest queues c found ∙ (λ j. cond (e j) (Some IsConnected) (none j)), is)
 
-    -- one that has a port keeps it, and the table is as it was
+    -- a block that has a port keeps it, and the table stays the same
     pub ensured_same : (port : ℕ) → AreApart bs → b.port ≡ Some port
         → EnsuresPort (table_of i bs last) fd port (table_of i bs last)
     ensured_same port apart has = record {

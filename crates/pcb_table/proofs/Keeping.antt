@@ -1,4 +1,4 @@
--- What holds of a table's fields is kept by a write, a removal and a new block.
+-- A write, a removal and a new block keep the invariant of a table's fields.
 use Rattle.std.proofs.Common.{◌≡◌, ◌≢◌, ℕ, zero, suc, ◌+◌, ◌<◌, ◌≤◌, Bool, true, false, ◌&&◌, ◌||◌, ◌==◌, not, cond, List, [], ◌∷◌, find, length, get_or, set, count_by, Option, Some, None, is_some, is_none, unwrap_or, length-set, get_or-set_same, refl, sym, ap, ◌∙◌, subst, arith, ◌⊎◌, inl, inr}
 use Rattle.std.specs.Prelude.{remove}
 use Rattle.std.proofs.lemmas.Bool.{false≢true, true≢false, eq-eqb, eqb-true, eqb-false, and_parts, and_from, and_left, and_right, ne_eqb, false_from_ne_true, cases_eq}
@@ -279,9 +279,9 @@ pub cached_open : (bs : List Block) (b : Block) (cache : Option Connection) → 
 cached_open bs b None h = tt
 cached_open bs b (Some k) h = omega (arith, counted-cons (is_connected_as k) b bs, h)
 
--- ---- what each call makes of the block at its place
+-- ---- how each call changes the block of its descriptor
 
--- where no test of a list passes, this one doesn't
+-- if no test of a list passes, the first one doesn't
 first_test : {E : Type 0} (t : Bool) (x : E) (rest : Option E) → cond t (Some x) rest ≡ None → t ≡ false
 first_test true x rest e = absurd (none-some x (sym e))
 first_test false x rest e = refl
@@ -301,7 +301,7 @@ unbound_port c bs b a e = go b.port b.local refl (first_test (is_some b.port || 
     go None l f g = f
     go (Some p) l f g = absurd (true≢false g)
 
--- nor has another block the four values of one that may be connected
+-- if a connect has no fault, no other block has the four values that it sets
 pub unmet_four : (c : Config) (bs : List Block) (b : Block) (a : Addr)
     → first_fault (block_connect_faults c bs b a) ≡ None
     → is_some (youngest_block 0 (record { local = Some (source_for c (plain b) a.ip); port = b.port; peer = Some a })
@@ -321,7 +321,7 @@ counted_le p r follows (b ∷ bs) = go (counted_le p r follows bs) (p b) refl
         omega (arith, counted-cons p b bs, counted-cons r b bs, ap one_if met, ap one_if (follows b met), rest)
     go rest false missed = omega (arith, counted-cons p b bs, counted-cons r b bs, ap one_if missed, rest)
 
--- where no block is the best, none matches
+-- if no block is the best match, none matches
 no_best_counts : (q : LookupKey) (bs : List Block) → is_some (best_block q bs) ≡ false → count_by (does_match q) bs ≡ 0
 no_best_counts q bs e = go (count_by (does_match q) bs) refl
   where
@@ -366,7 +366,7 @@ agrees_with None ip source from (Some x) e = refl
 agrees_with (Some l) ip source from None e = refl
 agrees_with (Some l) ip source from (Some x) e = eq-eqb x l (same_Some x source e ∙ from)
 
--- no block has the four values that a connect is to give
+-- no block has the four values that a connect sets
 pub no_four : (bs : List Block) (last local asked later : Option ℕ) (ip source port : ℕ) (to : Addr)
     → source ≡ unwrap_or local ip
     → is_some (youngest_block 0 (record { local = Some source; port = asked; peer = Some to }) bs) ≡ false
@@ -419,7 +419,7 @@ module _ (bs : List Block) (fd index : ℕ) (b : Block) (apart : AreApart bs) (a
       go None e f = e
       go (Some a) e f = absurd (true≢false (sym (ap (λ p. is_some p && is_none {T = ℕ} None) e) ∙ f))
 
-  -- a new block at the place
+  -- a new block at this index
   apart_at : (y : Block) → y.fd ≡ b.fd → lacks_port y ≡ false → IsFresh bs b y → AreApart (set bs index y)
   apart_at y same has fresh =
       apart_set bs index y b apart at.within (same ∙ sym (ap (λ c. c.fd) (at.is b))) has
@@ -443,7 +443,7 @@ module _ (bs : List Block) (fd index : ℕ) (b : Block) (apart : AreApart bs) (a
     cached_at (block_with_option ReusePort on b) cache (λ k e old. old) h,
   )
 
-  -- a port for a block without one, which isn't connected
+  -- an unconnected block without a port gets one
   pub bound_keeps : (local : Option ℕ) (port : ℕ) (cache : Option Connection) → b.port ≡ None → IsCached bs cache
       → AreApart (set bs index (bound_block local port b)) × IsCached (set bs index (bound_block local port b)) cache
   bound_keeps local port cache none h = (
@@ -513,7 +513,7 @@ module _ (bs : List Block) (fd index : ℕ) (b : Block) (apart : AreApart bs) (a
           inr ((λ i. count_by (has_four (same_Some l source (sym f.local_is) i) (same_Some p port (sym f.port_is) i)
           (same_Some peer to (sym f.peer_is) i)) bs) ∙ free)
 
-  -- where it stands then
+  -- the new block has the same index
   pub located_after : (y : Block) → y.fd ≡ b.fd → IsLocated fd (set bs index y) index y
   located_after y same = record {
     within = rw length-set at.within;

@@ -1,4 +1,4 @@
--- For the layers above, which have the receive queues: what a table tells of the machines that have its blocks.
+-- For the layers above, which hold the receive queues: properties of the machines with a table's blocks.
 use Rattle.std.proofs.Common.{◌≡◌, ◌≢◌, ℕ, Bool, true, false, ◌==◌, not, nat_lt, cond, List, [], ◌∷◌, map, filter, find, Option, Some, None, option_map, is_some, refl, sym, ap, ◌∙◌, arith}
 use Rattle.std.specs.Prelude.{IsNone, sum_by, if◌then◌else◌}
 use Rattle.std.specs.List.{range_with_len}
@@ -20,7 +20,7 @@ use Rattle.pcb_table.proofs.Steps as steps
 
 -- ---- which descriptors are open
 
--- those of the list
+-- the descriptors of the list are open
 pub open_times : (fd : ℕ) (t : Table) → is_some (block_at fd t) ≡ nat_lt 0 (times fd (descriptors t))
 open_times fd t = is_some-find (has_fd fd) t.blocks ∙ ap (nat_lt 0) (sym (named_times fd t.blocks))
 
@@ -50,7 +50,7 @@ opened_others old new fd k opens ne =
     ) in e)
     ∙ sym (open_times k old)
 
--- how often a number stands in a list from which another was taken
+-- how often a number occurs in a list after another number was removed from it
 times_filtered : (k fd : ℕ) (xs : List ℕ)
     → times k (filter (λ x. not (x == fd)) xs) ≡ (if k == fd then 0 else times k xs)
 times_filtered k fd [] = go (k == fd)
@@ -134,13 +134,13 @@ agree_at f g (b ∷ bs) same =
     later fd true found = refl
     later fd false found = found
 
--- what isn't open has no say
+-- the queue of a descriptor that isn't open doesn't matter
 pub same_machine : (f g : Queues) (t : Table) (rest : State) → ((fd : ℕ) → IsOpen fd t → f fd ≡ g fd)
     → machine rest f t ≡ machine rest g t
 same_machine f g t rest same =
     ap (λ (s : List Socket). record (machine rest f t) { sockets = s }) (agree_at f g t.blocks same)
 
--- Another queue at one descriptor, by what it makes of the old one: `queued` of a datagram, or what `recvfrom` leaves.
+-- The queue of one descriptor changes: `queued` appends a datagram, or `recvfrom` removes one.
 pub queue_changed : (f g : Queues) (t : Table) (rest : State) (fd : ℕ) (change : List Datagram → List Datagram)
     → g fd ≡ change (f fd) → ((k : ℕ) → k ≢ fd → g k ≡ f k)
     → machine rest g t ≡ change_socket fd (λ socket. record socket { queue = change socket.queue }) (machine rest f t)

@@ -1,4 +1,4 @@
--- A block at a place, and what a write or a removal there makes of the list.
+-- A block at an index, and the list after a write or a removal there.
 use Rattle.std.proofs.Common.{subst, ◌≡◌, ℕ, zero, suc, ◌+◌, ◌<◌, ◌≤◌, Bool, true, false, not, cond, List, [], ◌∷◌, map, filter, find, length, get_or, set, position, count_by, nat_lt, All, Option, Some, None, is_some, refl, sym, ap, ◌∙◌, arith}
 use Rattle.std.specs.Prelude.{remove, IfSome, OnSome}
 use Rattle.std.specs.List.{position_or_len, AllByRecursion}
@@ -18,7 +18,7 @@ use Rattle.pcb_table.proofs.Searching.{counted-cons}
 
 -- ---- counts
 
--- how much a block counts
+-- 1 for a block that passes the test, otherwise 0
 abbrev pub one_if : Bool → ℕ
 one_if t = cond t 1 0
 
@@ -72,7 +72,7 @@ module _ (p : Block → Bool) where
             absurd (omega (arith, counted-cons p b bs, ap one_if first, counts_at bs k d (omega arith) met))
         go rest false other = ap (λ cs. b ∷ cs) (rest (omega (arith, counted-cons p b bs)))
 
-    -- a change that leaves it as it was
+    -- a change that keeps this block the same
     pub only_changes : (bs : List Block) (d : Block) → f d ≡ d → find p bs ≡ Some d → count_by p bs ≤ 1
         → bs ≡ map (λ b. cond (p b) (f b) b) bs
     only_changes [] d same e once = refl
@@ -121,7 +121,7 @@ module _ (p : Block → Bool) where
           absurd (omega (arith, counted-cons p b bs, ap one_if first, counts_at bs k d (omega arith) met))
       go rest false other = rest (omega (arith, counted-cons p b bs))
 
-  -- ---- what a search found stands somewhere
+  -- ---- a block that a search found is in the list
 
   pub find_gives : (bs : List Block) (x : Block) → find p bs ≡ Some x
       → (i : ℕ) × (i < length bs) × (get_or bs i x ≡ x) × (p x ≡ true)
@@ -134,7 +134,7 @@ module _ (p : Block → Bool) where
       go rest true met e = let same : b ≡ x = same_Some b x e in (0, omega arith, same, ap p (sym same) ∙ met)
       go rest false missed e = let r = rest e in (suc r.0, omega (arith, r.1), r.2, r.3)
 
--- ---- places by position
+-- ---- indices by `position`
 
 no_place_within : (p : Block → Bool) (bs : List Block) → length bs ≤ position_or_len p bs → find p bs ≡ None
 no_place_within p [] le = refl
@@ -213,7 +213,7 @@ pub best_range : (q : LookupKey) (bs : List Block) (b : Block) → AreApart bs �
     → IsDescriptor b.fd
 best_range q bs b apart e = let k = best_found_as q bs b e in found_range (has_score k.0 q) bs b apart k.1
 
--- a block that stands somewhere is found
+-- a block that has an index is found
 pub located_some : (fd index : ℕ) (bs : List Block) (b : Block) → IsLocated fd bs index b
     → is_some (find (has_fd fd) bs) ≡ true
 located_some fd index bs b at = go (find (has_fd fd) bs) refl
@@ -227,7 +227,7 @@ located_some fd index bs b at = go (find (has_fd fd) bs) refl
           counts_at (has_fd fd) bs index b at.within (ap (has_fd fd) (at.is b) ∙ eq-eqb b.fd fd at.named),
         ))
 
--- ---- a block at its place
+-- ---- a block at its index
 
 module _ (bs : List Block) (fd index : ℕ) (b : Block) (apart : AreApart bs) (at : IsLocated fd bs index b) where
   located_passes : has_fd fd (get_or bs index b) ≡ true
@@ -244,7 +244,7 @@ module _ (bs : List Block) (fd index : ℕ) (b : Block) (apart : AreApart bs) (a
   pub located_remove : remove bs index ≡ filter (λ c. not (has_fd fd c)) bs
   located_remove = remove_filters (has_fd fd) bs index b at.within located_passes (apart.fds fd)
 
--- ---- all that hear
+-- ---- what holds of all blocks holds of those that a test selects
 
 module _ (P : Block → Type 0) where
   pub each_filtered : (p : Block → Bool) (bs : List Block) → AllByRecursion P bs → AllByRecursion P (filter p bs)

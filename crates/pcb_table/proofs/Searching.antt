@@ -32,7 +32,7 @@ pub youngest_stays : (k : ℕ) (q : LookupKey) (xs ys : List Block) (y : Block) 
 youngest_stays k q xs ys y some =
     find-append (has_score k q) xs ys ∙ ap (λ o. option_or o (youngest_block k q ys)) some
 
--- ---- what a walk has found so far
+-- ---- what a search has found so far
 
 abbrev pub fewest_of : Option Block → Option Block → ℕ
 fewest_of (Some b) _ = 1
@@ -151,13 +151,13 @@ seen_stays q xs x found fewest met some no_fewer s = elim (wildcards_cases q x s
         (s.fewest_is ∙ (λ i. fewest_of (e i) (f i)))
     at_two None None e f le two = absurd (omega arith)
 
--- ---- the walk through a list
+-- ---- the search through a list
 
 abbrev pub FirstHas : ℕ → List Block → Type 0
 FirstHas port [] = Unit {0}
 FirstHas port (b ∷ bs) = has_port port b ≡ true
 
--- where a walk stands: what lies after it, and what it has seen before that
+-- the state of a search: the blocks that it has passed, the rest, and the best match so far
 pub record Walked (q : LookupKey) (whole rest : List Block) (found : Option Block) (fewest : ℕ) : Type 0 where
   pub done : List Block
   pub cut : done ++ rest ≡ whole
@@ -217,7 +217,7 @@ reached q port whole after rest found fewest is e w =
 pub walk_begins : (q : LookupKey) (bs : List Block) → Walked q bs bs None 3
 walk_begins q bs = record { done = []; cut = refl; seen = record { exact = refl; found_is = refl; fewest_is = refl } }
 
--- after a block that has the port, whatever was made of it
+-- after a block that has the port, whether it matched or not
 walk_on : (q : LookupKey) (port : ℕ) (whole after rest next : List Block) (d : Block) (found now : Option Block)
     (fewest later : ℕ) → q.port ≡ Some port → rest ≡ from_port port after → 1 ≤ length rest
     → next ≡ take (length rest - 1) (drop 1 rest)
@@ -278,7 +278,7 @@ walk_skips q port whole after rest next d found now fewest later is e long f dif
     seen_same q (done ++ get_or rest 0 d ∷ []) found now fewest later n l
     (seen_skips q done (get_or rest 0 d) found fewest (first_matches q port rest d false is long has differs) s))
 
--- a block without a wildcard, none before it having been so, is the best
+-- the first block that matches without a wildcard is the best
 pub best_here : (q : LookupKey) (port : ℕ) (whole after rest : List Block) (d : Block) (found : Option Block)
     (fewest : ℕ) → q.port ≡ Some port → rest ≡ from_port port after → 1 ≤ length rest
     → does_agree q (get_or rest 0 d) ≡ true
@@ -295,7 +295,7 @@ best_here q port whole after (b ∷ bs) d found fewest is e long agrees none w =
     ∙ youngest_stays 0 q (at.done ++ b ∷ []) bs b here in
     sym (ap (λ o. option_or o (option_or (youngest_block 1 q whole) (youngest_block 2 q whole))) all)
 
--- the walk is over
+-- the search has reached the end
 pub best_seen : (q : LookupKey) (port : ℕ) (whole after rest : List Block) (found : Option Block) (fewest : ℕ)
     → q.port ≡ Some port → rest ≡ from_port port after → length rest < 1 → Walked q whole after found fewest
     → found ≡ best_block q whole
@@ -306,7 +306,7 @@ best_seen q port whole after [] found fewest is e short w =
     at.seen.found_is ∙ sym (ap (λ o. option_or o (option_or (youngest_block 1 q at.done) (youngest_block 2 q at.done)))
     at.seen.exact) ∙ ap (best_block q) all
 
--- nothing is found for want of a port
+-- a key without a port matches nothing
 no_port_meets : (q : LookupKey) (x : Block) → q.port ≡ None → does_match q x ≡ false
 no_port_meets q x is = matches_both q x ∙ ap (λ o. are_same x.port o && does_agree q x) is ∙ unset x.port
   where
@@ -330,7 +330,7 @@ pub counted-cons : {X : Type 0} (p : X → Bool) (x : X) (xs : List X)
     → count_by p (x ∷ xs) ≡ cond (p x) 1 0 + count_by p xs
 counted-cons p x xs = sum_by-cons (λ y. cond (p y) 1 0) x xs
 
--- a test of which another follows counts no more
+-- if p implies r and p finds an element, r passes at least once
 pub found_counts : {X : Type 0} (p r : X → Bool) → ((x : X) → p x ≡ true → r x ≡ true) → (xs : List X)
     → is_some (find p xs) ≡ true → 1 ≤ count_by r xs
 found_counts p r follows [] e = absurd (false≢true e)
@@ -353,7 +353,7 @@ best_counts q bs e = go (youngest_block 0 q bs) (youngest_block 1 q bs) refl ref
     go None (Some x) e f g = found_counts (has_score 1 q) (does_match q) (follows 1) bs (ap is_some f)
     go None None e f g = found_counts (has_score 2 q) (does_match q) (follows 2) bs g
 
--- ---- a walk ends
+-- ---- a search ends
 
 from_port_most : (port : ℕ) (bs : List Block) → length (from_port port bs) ≤ length bs
 from_port_most port [] = omega arith

@@ -31,7 +31,7 @@ interface_of t = record { addr = t.addr; bcast = t.bcast }
 abbrev pub with_change : ℕ → (Block → Block) → Table → Table
 with_change fd f t = record t { blocks = map (λ b. cond (has_fd fd b) (f b) b) t.blocks }
 
--- ---- refusals
+-- ---- errors
 
 pub refused_by : (faults : List (Bool × Errno)) (old : State) (errno : Errno) (G : Type 0)
     → first_fault faults ≡ Some errno → Unless faults old (Refused errno) old G
@@ -310,7 +310,7 @@ module _ (i : Interface) (bs : List Block) (last : Option ℕ) (fd index : ℕ) 
             (machine rest queues (table_of i gone later))) from,
       ))
 
--- ---- what a slice of the blocks tells of a table
+-- ---- steps of a table, by the slice of its blocks
 
 pub closed : (i : Interface) (bs : List Block) (last : Option ℕ) (t : Table) (fd : ℕ) → table_of i bs last ≡ t
     → find (has_fd fd) bs ≡ None

@@ -1,4 +1,4 @@
--- Where no block is connected, none matches a key with a peer without a wildcard.
+-- If no block is connected, none matches a key with a peer without a wildcard.
 use Rattle.std.proofs.Common.{◌≡◌, ℕ, Bool, true, false, cond, List, [], ◌∷◌, Option, Some, None, is_some, refl, sym, ap, ◌∙◌, arith}
 use Rattle.std.specs.Prelude.{find, ◌&&◌}
 use Rattle.std.proofs.lemmas.Bool.{ne_eqb}

@@ -1,4 +1,4 @@
--- From the words of a line to what it asks for.
+-- From the words of a line to its request.
 use Rattle.std.proofs.Common.{◌≡◌, ℕ, ◌≤◌, List, ◌∷◌, length, Option, Some, None, refl, sym, ap, ◌∙◌, arith, subst}
 use Rattle.std.specs.Prelude.{MatchOption}
 use Rattle.flat_model.specs.Machine.Event.{Event, Send, Receive, Comes}
@@ -11,7 +11,7 @@ use Rattle.request.specs.Requests.{event_of}
 use Rattle.request.specs.declared.request.Request.{Request}
 use Rattle.request.proofs.KeywordLemmas.{index-word}
 
--- what a keyword and the words after it ask for, the line asks for
+-- a line requests what its keyword and the words after it request
 pub Asks-form : (text name : List ℕ) (word : Keyword) (args : List (List ℕ)) (r : Option Request)
     → length text ≤ 131200 → words text ≡ name ∷ args → name ≡ word_of word → ReadsForm word args r
     → MatchOption r ((event : Event) → Asks all_events text event → ⊥)
@@ -30,7 +30,7 @@ Asks-form text name word args None short cut same form = λ event h.
     let rest : h.form.args ≡ args = cc (sym h.form.words_are ∙ cut) in
     form event (begins ∙ same, subst (λ (t : List (List ℕ)). HasArguments event t) rest h.form.arguments)
 
--- a line that begins with no keyword asks for nothing
+-- a line that begins with no keyword requests nothing
 pub Asks-none : (text name : List ℕ) (args : List (List ℕ)) → words text ≡ name ∷ args
     → ((event : Event) → keyword event ≡ name → ⊥)
     → (event : Event) → Asks all_events text event → ⊥

@@ -1,4 +1,4 @@
--- Where no host is on an Ethernet at the end, none ever was.
+-- If no host is on an Ethernet at the end, none ever was.
 use Rattle.std.proofs.Common.{◌≡◌, ◌≢◌, ◌⊎◌, inl, inr, ℕ, true, false, List, [], ◌∷◌, length, suc, Option, None, Some, refl, sym, ap, ◌∙◌, arith}
 use Rattle.std.specs.Prelude.{◌==◌, not, slice_get, slice_set}
 use Rattle.std.proofs.Math.ListN.{length-set}
@@ -10,7 +10,7 @@ use Rattle.segment.specs.Segment.{SegmentView, is_ether}
 use Rattle.segment.proofs.BareActs.{AreBare, IsBare}
 use Rattle.segment.proofs.History.{get_within, length-last}
 
--- a segment with as many links as one on an Ethernet
+-- a segment with the same number of links as one on an Ethernet
 not_none : (old : SegmentView) (links : List LinkState) → is_ether old ≡ true → length links ≡ length old.links
     → links ≡ [] → ⊥
 not_none old links is same none = go old.links is (sym same ∙ ap length none)

@@ -1,4 +1,4 @@
--- Packets go under way one after another.
+-- Packets are added to those under way, one after another.
 use Rattle.std.proofs.Common.{◌≡◌, ℕ, List, [], ◌∷◌, ◌++◌, take, refl, sym, ap, ◌∙◌, append_assoc}
 use Rattle.rand_pcg.specs.Lcg.{Lcg}
 use Rattle.segment.specs.Chances.{chances_at, copies_before, entering, fate_of}
@@ -37,7 +37,7 @@ tallied-append chances (x ∷ xs) ys g tallies =
     tallied-append chances xs ys (fate_of (chances_at chances x.sender) g).1
     (with_tally x.sender (fate_of (chances_at chances x.sender) g).0 tallies)
 
--- these packets went under way, behind the first ones, as far as there was room
+-- these packets were added after those under way, up to the capacity
 pub record Entered (room : ℕ) (chances : List Chances) (first last : List Flying) (g h : Lcg)
     (before after : List Tally) (fs : List Flying) : Type 0 where
   pub tallies : after ≡ tallied chances fs g before

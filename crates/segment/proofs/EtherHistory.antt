@@ -362,7 +362,7 @@ module _ (k : ℕ) (c : Config) (t : Host) where
           (get_set_same old.links place (ticks l) (get_within old.links place l e))))
           (link_set old.stacks old.links place (ticks l)) (within (Some l) e)
 
--- ---- as many links as configurations
+-- ---- the number of links is the number of configurations
 
 aged_length : (links : List LinkState) (place : ℕ) (o : Option LinkState) → length (aged_in links place o) ≡ length links
 aged_length links place None = refl

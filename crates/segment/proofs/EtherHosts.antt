@@ -24,7 +24,7 @@ use Rattle.segment.proofs.EtherWires.{frames_come, out_append}
 use Rattle.segment.proofs.History.{get_front, get_within}
 use Rattle.segment.proofs.Hosts.{AreApart, all_pass, get_last_or, told_apart, turned}
 
--- ---- all hosts can be told apart
+-- ---- all hosts have distinct addresses
 
 abbrev AllApart : List Config → Type 0
 AllApart cs =
@@ -253,7 +253,7 @@ module _ (room i j : ℕ) (first second : Config) (s t : Host) (acts : List Act)
       → (l : Link) × IsConfig c × AreHostActs (host_up c l) (of_host k) h
   began k c h e f = host_began k c h acts (no_hosts room) last done w.framed refl e f
 
-  -- what a host gave is its own
+  -- a frame that a host sent isn't forged
   given_up : (k : ℕ) (f : List ℕ) → Contains (frames_out (of_host k)) f → IsUnforged first.addr (of_host i) f
   given_up k f there = by (eqb_tells i k)
     where

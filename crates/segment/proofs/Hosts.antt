@@ -78,7 +78,7 @@ told_apart c d t =
 pub turned : (c d : Config) → AreApart c d → AreApart d c
 turned c d a = record { addr = λ e. a.addr (sym e); bcast = a.back; back = a.bcast }
 
--- Every host has a stack whose packets bear its address, and can be told apart from the others.
+-- Every host has a stack whose packets have its address as the source, and all addresses are distinct.
 pub record AreFine (v : SegmentView) : Type 0 where
   pub even : length v.configs ≡ length v.stacks
   pub sourced : (k : ℕ) (c : Config) (s : StackView) → slice_get v.configs k ≡ Some c → slice_get v.stacks k ≡ Some s
@@ -140,7 +140,7 @@ joined_fine d old new fine j = record {
         (all_pass (are_apart d) old.configs k b j.apart f))
     both i k a b h (inr e) (inr f) = absurd (h (e.0 ∙ sym f.0))
 
--- the same hosts, which went on by some turns
+-- the same hosts, after some turns
 went_on : (old new : SegmentView) (turns : ℕ → StackView → List Turn) → AreFine old → new.configs ≡ old.configs
     → AtEach (λ place s t. AreCalls s (turns place s) t) old.stacks new.stacks → AreFine new
 went_on old new turns fine configs each = record {
@@ -242,7 +242,7 @@ remains (act ∷ acts) v last k c bare (mid, is, done) e =
 
 -- ---- no other host's packets bear a host's address
 
--- a packet of one host doesn't bear the address of one that can be told apart
+-- a packet of one host doesn't have the address of a distinct host as its source
 pub not_from : (c d : Config) (bytes : List ℕ) → IsConfig c → AreApart c d → IsOwn d bytes → ¬ ComesFrom c.addr bytes
 not_from c d bytes is apart own from =
     go (or_cases ((ip_source bytes == d.addr) || (ip_source bytes == d.bcast)) (ip_source bytes == loopback) own)
@@ -259,7 +259,7 @@ not_from c d bytes is apart own from =
     go (inl e) = first (or_cases (ip_source bytes == d.addr) (ip_source bytes == d.bcast) e)
     go (inr e) = lo (sym from.source ∙ eqb-true (ip_source bytes) loopback e)
 
--- what waits at a host that can be told apart doesn't
+-- nor do the packets that wait at such a host
 pub none_from : (c : Config) (v : SegmentView) (k : ℕ)
     (configs : (d : Config) → slice_get v.configs k ≡ Some d → AreApart c d) → IsConfig c → AreFine v
     → Each (λ bytes. ¬ ComesFrom c.addr bytes) (waiting_in (slice_get v.stacks k))

@@ -22,7 +22,7 @@ pub then_calls : (a b c : StackView) (xs ys : List Turn) → AreCalls a xs b →
 then_calls a b c [] ys same later = subst (λ (s : StackView). AreCalls s ys c) same later
 then_calls a b c (x ∷ xs) ys (is, mid, call, rest) later = (is, mid, call, then_calls mid b c xs ys rest later)
 
--- the bytes behind a reference are bytes
+-- each value of a byte slice is below 256
 pub are_bytes : (xs : List ℕ) → ((k : ℕ) → get_or xs k 0 < 256) → IsBytes xs
 are_bytes xs fits = All-from_recursion (λ byte. byte < 256) xs (go xs fits)
   where
@@ -104,7 +104,7 @@ pub come_not : (place : ℕ) (c : Config) (f : Flying) (s t : StackView) → goe
 come_not place c f s t is same =
     subst (λ (b : Bool). AreCalls s (comes (cons_option (if b then Some f.packet else None) [])) t) (sym is) same
 
--- how many packets go there, with one more looked at
+-- the number of packets that go there, after one more was examined
 pub counted_next : (place : ℕ) (c : Config) (i : ℕ) (frames : List Frame) (frame : Frame) (n m : ℕ) (goes : Bool)
     → i < length frames → frame ≡ get_or frames i frame
     → n ≡ length (received place c (map flying (take i frames))) → goes ≡ goes_to place c (flying frame)

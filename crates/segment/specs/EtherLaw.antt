@@ -121,7 +121,7 @@ heard_of place (act ∷ acts) = heard_in place act ++ heard_of place acts
 
 -- Two hosts of an Ethernet segment, and all that was done since it had no hosts. The first has sent fewer than 65,536
 -- times, and neither a frame from outside nor a call brought the second a UDP packet with the first's address as its
--- source: nobody forged it.
+-- source (a forged packet).
 pub record AreOnEtherSegment (room i j : ℕ) (first second : Config) (s t : Host) (acts : List Act) (last : SegmentView)
     (done : AreActs (no_hosts room) acts last) : Type 0 where
   pub framed : GoByFrames acts

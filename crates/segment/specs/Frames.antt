@@ -37,8 +37,8 @@ hosts_in v = hosts_of v.stacks v.links
 
 -- ---- what is sent
 
--- the next frame of a host. A stack that a caller put in the place of another may take longer packets than a frame
--- carries; then nothing is sent.
+-- The next frame of a host. If a caller replaced its stack by one that takes longer packets than a frame carries,
+-- nothing is sent.
 abbrev pub gives_short : Host → Option (List ℕ) × Host
 gives_short h = if nat_le h.machine.config.mtu ETHER_MTU then gives h else (None, h)
 

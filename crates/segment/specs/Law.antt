@@ -109,7 +109,7 @@ called_of place [] = []
 called_of place (act ∷ acts) = called_in place act ++ called_of place acts
 
 -- Two hosts of a segment without links, and all that was done since it had no hosts. The first has sent fewer than
--- 65,536 times, and no call brought the second a packet with the first's address as its source: nobody forged it.
+-- 65,536 times, and no call brought the second a packet with the first's address as its source (a forged packet).
 pub record AreOnSegment (room i j : ℕ) (first second : Config) (s t : StackView) (acts : List Act)
     (last : SegmentView) : Type 0 where
   pub done : AreActs (no_hosts room) acts last

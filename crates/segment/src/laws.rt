@@ -20,11 +20,11 @@ use flat_ether::any_hosts_on_an_ethernet;
 use net_stack::stacks_on_a_wire;
 
 /// Two hosts of a segment, whatever was done since it had no hosts: hosts joined, calls were made on any of them, and
-/// packets were carried in between. If nobody forged the first one's address, and it sent fewer than 65,536 times, and
-/// `recvfrom` of the second one returns a datagram with that address as the sender's, then a send of the first one
-/// succeeded with these bytes, or, if the buffer was shorter, with a datagram that begins with them, from that port,
-/// and to the second one and the port that the socket had then. The law doesn't say that a datagram arrives, or that it
-/// arrives only once.
+/// packets were carried in between. Suppose that no packet with the first one's address was forged, that the first one
+/// sent fewer than 65,536 times, and that `recvfrom` of the second one returns a datagram with that address as the
+/// sender's. Then a send of the first one succeeded with these bytes, or, if the buffer was shorter, with a datagram
+/// that begins with them. It was sent from that port, and to the second one and the port that the socket had then. The
+/// law doesn't say that a datagram arrives, or that it arrives only once.
 pub fn hosts_on_a_segment()
     ensures { (room i j : ℕ) (first second : Config) (s t : StackView) (acts : List Act) (last : SegmentView)
         (before after : List Turn) (fd most : ℕ) (sender : Addr) (bytes : List ℕ)
@@ -37,10 +37,10 @@ pub fn hosts_on_a_segment()
 }
 
 /// Two hosts of a segment on which all are on an Ethernet, whatever was done since it had no hosts: hosts joined, calls
-/// were made on any of them, and frames were carried, lost, repeated and delayed in between. If the first one sent
-/// fewer than 65,536 times, and neither a frame from outside nor a call brought the second one a UDP packet with the
-/// first one's address, and `recvfrom` of the second one returns a datagram with that address as the sender's, then the
-/// first one sent it, as `hosts_on_a_segment` says; and it also sent, whole, each datagram in a queue of the second
+/// were made on any of them, and frames were carried, lost, repeated and delayed in between. Suppose that the first one
+/// sent fewer than 65,536 times, that neither a frame from outside nor a call brought the second one a UDP packet with
+/// the first one's address, and that `recvfrom` of the second one returns a datagram with that address as the sender's.
+/// Then the first one sent it: see `hosts_on_a_segment`. It also sent, whole, each datagram in a queue of the second
 /// one. ARP and ICMP may be forged.
 pub fn hosts_on_an_ether_segment()
     ensures received { (room i j : ℕ) (first second : Config) (s t : Host) (acts : List Act) (last : SegmentView)

@@ -1,4 +1,4 @@
--- A whole datagram that came: what UDP makes of it, and its delivery.
+-- A whole datagram that arrived: UDP's tests, and its delivery.
 use Rattle.std.proofs.Common.{◌≡◌, ℕ, suc, List, [], ◌∷◌, ◌++◌, map, All, Option, Some, None, is_some, refl, sym, ap, ◌∙◌, subst, arith}
 use Rattle.std.specs.List.{AllByRecursion as Each}
 use Rattle.std.proofs.lemmas.List.Elements.{recursion_from_All, All-from_recursion}
@@ -71,7 +71,7 @@ all_open t destination q fds h =
     (All-from_recursion (λ (fd : ℕ). IsOpen fd t) (map (λ b. b.fd) h.found)
     (open_all t h.found (recursion_from_All (λ (b : Block). block_at b.fd t ≡ Some b) h.found h.are_open)))
 
--- ---- what the delivery asks for
+-- ---- the preconditions of the delivery
 pub record Reached (p : PoolView) (c : ℕ) (xs : List ℕ) (s : SocksView) (q : PoolView) (d : ℕ) : Type 0 where
   pub same : SameAt p q xs
   pub socks : Kept p q s
@@ -99,7 +99,7 @@ reached p q c d xs s o r m =
       moves = mv;
     }
 
--- the same of what a view shows
+-- the same for the sockets that a view shows
 pub reached_in : (p q : PoolView) (c d : ℕ) (xs : List ℕ) (s v : SocksView) → s ≡ v
     → IsOwned p (c ∷ (xs ++ queued_chains p v.queues)) → IsSocks p v → Moves p (c ∷ []) q (d ∷ [])
     → Reached p c xs s q d
@@ -107,7 +107,7 @@ reached_in p q c d xs s v e o r m =
     reached p q c d xs s (subst (λ (t : SocksView). IsOwned p (c ∷ (xs ++ queued_chains p t.queues))) (sym e) o)
     (subst (IsSocks p) (sym e) r) m
 
--- ---- both ends
+-- ---- both outcomes
 same_accounts : {p q : PoolView} {s : State} (held : Weight) (c d : ℕ) → IsAccounted p s (held ⊕ weight_at p c)
     → IsOwned p (c ∷ []) → Moves p (c ∷ []) q (d ∷ []) → weight_at q d ≡ weight_at p c
     → IsAccounted q s (held ⊕ weight_at q d)
@@ -201,7 +201,7 @@ dropped_input {p} {q} {t} {bs} {us} {vs} {xs} {ys} {c} {e} {chain} {h} why socks
       };
     }
 
--- the table that the look-up leaves is the same
+-- the lookup leaves the table the same
 pub delivered_to : {p q r : PoolView} {t t' u : Table} {bs cs : List SockBufView} {us vs ws : List Unfinished}
     {xs ys zs : List ℕ} {c e : Counters} {chain d : ℕ} {h : IpHead} {to fds : List ℕ} {from : Addr}
     → IsSocks p (record { pcbs = t; queues = bs }) → IsOwned p (chain ∷ (xs ++ queued_chains p bs))

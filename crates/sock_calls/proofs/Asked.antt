@@ -1,4 +1,4 @@
--- What the questions about the sockets find, as the flat machine has it.
+-- Queries about the sockets return what the flat machine returns.
 use Rattle.std.specs.Prelude.{slice_index_or, Ok}
 use Rattle.std.proofs.Common.{◌≡◌, ℕ, zero, suc, ◌+◌, ◌*◌, ◌%◌, ◌<◌, ◌≤◌, ◌^◌, Bool, true, false, not, cond, List, [], length, Option, None, Some, option_map, refl, sym, ap, ◌∙◌, subst, ◌==◌, arith}
 use Rattle.std.proofs.lemmas.Nat.{pow_pos}
@@ -28,7 +28,7 @@ block_named f t fd rest = go (block_at fd t) ∙ ap name_or_fault (sym (socket_f
     go None = refl
     go (Some b) = refl
 
--- the oldest datagram of a queue is that of the socket whose block was found
+-- the oldest datagram in a descriptor's queue is the oldest of its socket
 pub next_found : (f : Queues) (t : Table) (fd : ℕ) (b : Block) (rest : State) → block_at fd t ≡ Some b → b.fd ≡ fd
     → oldest_datagram (f fd) ≡ next_datagram fd (machine rest f t)
 next_found f t fd b rest is names =
@@ -42,7 +42,7 @@ next_refused f t fd rest is =
     ap (λ (o : Option Block). next_in (option_map (socket_with f) o)) (sym is)
     ∙ ap next_in (sym (socket_found rest f t fd))
 
--- the same of how many bytes wait
+-- the same for the number of bytes that wait
 pub bytes_found : (f : Queues) (t : Table) (fd : ℕ) (b : Block) (rest : State) → block_at fd t ≡ Some b → b.fd ≡ fd
     → Ok (queue.bytes_queued (f fd)) ≡ bytes_queued_at fd (machine rest f t)
 bytes_found f t fd b rest is names =
@@ -56,7 +56,7 @@ bytes_refused f t fd rest is =
     ap (λ (o : Option Block). bytes_waiting (option_map (socket_with f) o)) (sym is)
     ∙ ap bytes_waiting (sym (socket_found rest f t fd))
 
--- the same of how much memory is behind them
+-- the same for the memory that they occupy
 pub memory_found : (f : Queues) (t : Table) (fd : ℕ) (b : Block) (rest : State) → block_at fd t ≡ Some b → b.fd ≡ fd
     → Ok (queue.memory_queued (f fd)) ≡ memory_queued_at fd (machine rest f t)
 memory_found f t fd b rest is names =
@@ -75,12 +75,12 @@ memory_refused f t fd rest is =
 pub power_most : (n : ℕ) → n < 64 → 2 ^ n + 2 ^ n ≤ 2 ^ 64
 power_most n lt = omega (arith, pow-le-pow_right {n = 2} (omega arith) {i = suc n} {j = 64} (omega (arith, lt)))
 
--- the bit of a place below 64 isn't lost
+-- the bit at a position below 64 fits a number of 64 bits
 pub bit_kept : (n : ℕ) → n < 64 → 1 * 2 ^ n % 18446744073709551616 ≡ 2 ^ n
 bit_kept n lt = mod-eq_of_lt {n = 1 * 2 ^ n} {m = 18446744073709551616} (omega (arith, power_most n lt, pow_pos n))
     ∙ (let e : 1 * 2 ^ n ≡ 2 ^ n = omega arith in e)
 
--- one place more
+-- one more position
 pub set_more : (test : ℕ → Bool) (n : ℕ) → set_below test (suc n) ≡ set_below test n + cond (test n) (2 ^ n) 0
 unfolding set_below
 set_more test n = refl
@@ -89,7 +89,7 @@ pub set_none : (test : ℕ → Bool) → 0 ≡ set_below test 0
 unfolding set_below
 set_none test = refl
 
--- the walk over the queues: one place more, in whose queue nothing waits where it says so
+-- one more step of the loop over the queues: a queue's bit is set if a datagram waits in the queue
 pub one_more : (p : PoolView) (bs : List SockBufView) (i set after : ℕ) (b : SockBufView) (none : Bool) → i < length bs
     → (IsSockBuf p (slice_index_or bs i b) → none ≡ (length (datagrams p (slice_index_or bs i b)) == 0))
     → ((k : ℕ) → IsSockBuf p (queue_at bs k)) → set ≡ set_below (waits_at p bs) i → after ≡ set + cond none 0 (2 ^ i)
@@ -116,7 +116,7 @@ set_same f g (suc n) same =
     ap (λ (t : Bool). cond {A = ℕ} t (2 ^ n) 0) (same n (omega arith)) in
     omega (arith, here, set_same f g n (λ k lt. same k (omega (arith, lt))))
 
--- a datagram waits in a queue where it waits in the socket
+-- a datagram waits in the queue of a descriptor if and only if one waits at its socket
 waits_found : (f : Queues) (t : Table) (fd : ℕ) (rest : State) → (block_at fd t ≡ None → f fd ≡ [])
     → not (length (f fd) == 0) ≡ waits_in (socket_at fd (machine rest f t))
 waits_found f t fd rest closed = go (block_at fd t) refl ∙ ap waits_in (sym (socket_found rest f t fd))

@@ -51,7 +51,7 @@ copied_item room (e ∷ es) = go (copied_item MBUF_HEADER es) e.cluster
       weight = record { mbufs = suc (rest i).weight.mbufs; bag = c ∷ (rest i).weight.bag };
     }
 
--- ---- a copy came beside the chain in hand
+-- ---- a copy was made, in addition to the caller's chain
 record Copied (p : PoolView) (c : ℕ) (ys : List ℕ) (s : SocksView) (q : PoolView) (d : ℕ) : Type 0 where
   same : SameAt p q ys
   chain : chain_of q c ≡ chain_of p c
@@ -79,7 +79,7 @@ copy_came p q c d ys s o r m =
       owned = owned_after mv o;
     }
 
--- the accounts then: the copy is in hand too
+-- the accounts then include the copy, which the caller holds too
 pub copy_accounts : {p q : PoolView} {s : State} {held : Weight} (d : ℕ) → IsAccounted p s held → Moves p [] q (d ∷ [])
     → IsAccounted q s (held ⊕ weight_at q d)
 copy_accounts {p} {q} {s} {held} d b m =
@@ -95,7 +95,7 @@ copy_accounts {p} {q} {s} {held} d b m =
       );
     })
 
--- the copy went to its queue or was freed
+-- the copy was queued or freed
 record Gone (p : PoolView) (c d : ℕ) (ys : List ℕ) (bs : List SockBufView) (q : PoolView) (zs : List ℕ)
     (cs : List SockBufView) : Type 0 where
   chain : chain_of q c ≡ chain_of p c
@@ -113,7 +113,7 @@ copy_gone p q c d ys zs bs cs o m =
           (λ k. omega arith) (λ k. omega arith);
     }
 
--- ---- an offer's two ends
+-- ---- the two outcomes of an offer
 lacking_offers : (held : Weight) (sender : Addr) (item : Item) (to : Socket) (old mid new : State) (n : ℕ)
     → n ≡ item.weight.mbufs → HasBuffers exact_ledger old (held ⊕ item.weight) (need_mbufs n) false mid
     → new ≡ ends NoBufs mid → Offers held sender item to old new
@@ -143,7 +143,7 @@ appending_offers held sender item to old mid new n is a copy at now ec es em ap 
   };
 }
 
--- ---- one receiver of several, as the contract has it
+-- ---- one receiver of several, as in the contract
 
 -- the pool lacks mbufs for the copy
 pub lacking_offer : {p q : PoolView} {t : Table} {bs : List SockBufView} {us vs : List Unfinished} {xs ys : List ℕ}
@@ -178,7 +178,7 @@ lacking_offer {p} {q} {t} {bs} {us} {vs} {xs} {ys} {c} {d} {e} {chain} {n} fd se
       };
     }
 
--- what the delivery of the copy asks for
+-- the preconditions for delivering the copy
 pub record CopyReady (p q : PoolView) (t : Table) (bs : List SockBufView) (xs : List ℕ) (copy : ℕ) : Type 0 where
   pub same : SameAt p q xs
   pub socks : IsSocks q (record { pcbs = t; queues = bs })
@@ -282,7 +282,7 @@ find_named fd (x ∷ bs) b e = go (find_named fd bs b) (x.fd == fd) refl e
 pub named_at : (t : Table) (fd : ℕ) (b : Block) → block_at fd t ≡ Some b → b.fd ≡ fd
 named_at t fd b e = find_named fd t.blocks b e
 
--- an open descriptor is one of those that there are
+-- an open descriptor is in the range of descriptors
 pub descriptor_of : (t : Table) (fd : ℕ) → AreApart t.blocks → IsOpen fd t → IsDescriptor fd
 descriptor_of t fd apart is_open =
     let some : 0 < count_by (has_fd fd) t.blocks = counted_open t.blocks is_open in
@@ -305,7 +305,7 @@ descriptor_of t fd apart is_open =
           rest later,
         )
 
--- one more receiver in front
+-- one more receiver before the others
 more_delivers : (held : Weight) (sender : Addr) (item : Item) (f : Queues) (t : Table) (fd : ℕ) (later : List ℕ)
     (old after new : State) → 0 < length later
     → Offers held sender item (socket_named f t fd) old after
@@ -327,7 +327,7 @@ module _ (v : NetView) (c : ℕ) (fds : List ℕ) (sender : Addr) where
     parts = keeps_none ready;
   }
 
-  -- the queue of the next receiver is that of the beginning
+  -- the queue of the next receiver hasn't changed since the start
   next_socket : (i fd : ℕ) (u : NetView) → IsUnderWay v c fds sender i u → drop i fds ≡ fd ∷ drop (suc i) fds
       → (b : Block) → block_at fd u.socks.pcbs ≡ Some b
       → socket_with (queues_at u) b ≡ socket_named (queues_at v) v.socks.pcbs fd

@@ -1,4 +1,4 @@
--- A delivery to one receiver: its three ends, and the accounts after each.
+-- A delivery to one receiver: its three outcomes, and the accounts after each.
 use Rattle.std.proofs.Common.{◌≡◌, ℕ, ◌+◌, Bool, true, false, List, [], ◌∷◌, ◌++◌, length, Some, is_some, refl, sym, ap, ◌∙◌, subst, arith}
 use Rattle.std.proofs.lemmas.Bool.{false≢true}
 use Rattle.flat_model.specs.Amounts.Weight.{Weight, Item, mbuf, nothing, ◌⊕◌, all_of, times as bag_times}
@@ -31,7 +31,7 @@ use Rattle.sock_calls.proofs.Frames.{Kept, kept}
 
 -- ---- accounts
 
--- what is in hand changes as the chains that come to the queues and leave them
+-- the held weight changes from `held` to `kept` as the chains' weight changes from `before` to `after`
 pub record Hand (held : Weight) (before : Weight) (kept : Weight) (after : Weight) : Type 0 where
   pub mbufs : held.mbufs + after.mbufs ≡ kept.mbufs + before.mbufs
   pub bag : (c : ℕ) → bag_times c held.bag + bag_times c after.bag ≡ bag_times c kept.bag + bag_times c before.bag
@@ -79,7 +79,7 @@ moved_accounts {p} {q} {held} {kept} t bs cs rest ins outs is_p is_q m o h a =
       );
     })
 
--- one chain in hand goes
+-- the caller gives up one chain
 pub one_goes : (p q : PoolView) (c : ℕ) (held : Weight)
     → Hand (held ⊕ weight_at p c) (weight_owned p (c ∷ [])) held (weight_owned q [])
 one_goes p q c held = record {
@@ -87,7 +87,7 @@ one_goes p q c held = record {
   bag = λ k. omega (arith, times-both k held (weight_at p c), times-both k (weight_at p c) nothing);
 }
 
--- a packet's end leaves the accounts
+-- counting a dropped packet keeps the accounts
 pub ends_accounted : {p : PoolView} {s : State} {held : Weight} (why : Why) → IsAccounted p s held
     → IsAccounted p (ends why s) held
 ends_accounted why b = record { mbufs = b.mbufs; clusters = b.clusters; total = b.total; references = b.references }
@@ -107,7 +107,7 @@ freed_accounts {p} {q} {s} {held} c why b o e =
       );
     })
 
--- ---- the machine after a step that no queue shows
+-- ---- the machine after a step that changes no queue
 pub shows_same : (p q : PoolView) (t : Table) (bs : List SockBufView) {us vs : List Unfinished} (c : Counters)
     (rest : State) → ((k : ℕ) → queues_of q bs k ≡ queues_of p bs k) → vs ≡ us
     → with_net q (record { pcbs = t; queues = bs }) vs c rest ≡ with_net p (record { pcbs = t; queues = bs }) us c rest
@@ -123,7 +123,7 @@ pub ends_here : (p q : PoolView) (t : Table) (bs : List SockBufView) {us vs : Li
 ends_here p q t bs {us} {vs} c {d} why rest shows same is =
     shows_same p q t bs d rest shows same ∙ (λ i. with_net p (record { pcbs = t; queues = bs }) us (is i) rest)
 
--- ---- the three ends, as the machine has them
+-- ---- the three outcomes, as in the machine
 module _ (held : Weight) (sender : Addr) (item : Item) (to : Socket) (old mid new : State) where
   full_appends : fits to.queue (length item.bytes) ≡ false → new ≡ ends UdpFullSocket old
       → Appends exact_ledger held sender item to old new
@@ -157,7 +157,7 @@ module _ (held : Weight) (sender : Addr) (item : Item) (to : Socket) (old mid ne
     no = λ t. absurd (false≢true (sym t ∙ f));
   }
 
--- ---- the chain in hand is freed
+-- ---- the caller's chain is freed
 pub record Freed (p : PoolView) (c : ℕ) (xs : List ℕ) (s : SocksView) (q : PoolView) : Type 0 where
   pub same : SameAt p q xs
   pub socks : Kept p q s
@@ -205,7 +205,7 @@ tested p q c xs ys s o r m =
       moves = all;
     }
 
--- ---- the chain in hand came to a queue
+-- ---- the caller's chain is put into a queue
 pub record Joined (p : PoolView) (c : ℕ) (xs : List ℕ) (bs : List SockBufView) (q : PoolView) (cs : List SockBufView)
     : Type 0 where
   pub same : SameAt p q xs
@@ -222,13 +222,13 @@ joined p q c xs bs cs o m = record {
       (λ k. omega (arith, times-append k xs (queued_chains q cs)));
 }
 
--- ---- the three ends, as the contract has them
+-- ---- the three outcomes, as in the contract
 
 -- the block that the clause names is that of the descriptor
 abbrev Named : ℕ → Table → Type 0
 Named fd t = (b : Block) → block_at fd t ≡ Some b → b.fd ≡ fd
 
--- what a full queue leaves: the chain was freed and counted
+-- if the queue is full, the chain is freed and counted
 pub record IsFull (p : PoolView) (t : Table) (bs : List SockBufView) (us : List Unfinished) (xs : List ℕ) (c : Counters)
     (chain fd : ℕ) (q : PoolView) (vs : List Unfinished) (ys : List ℕ) (d : Counters) : Type 0 where
   pub socks : IsSocks p (record { pcbs = t; queues = bs })
@@ -266,7 +266,7 @@ full_end {p} {q} {t} {bs} {us} {vs} {xs} {ys} {c} {d} {chain} {fd} sender f =
       };
     }
 
--- what a test of the pool leaves, in the words of the machine
+-- the state after a test of the pool, as in the machine
 pub record IsTested (p : PoolView) (t : Table) (bs : List SockBufView) (us : List Unfinished) (xs : List ℕ)
     (c : Counters) (chain : ℕ) (n : ℕ) (answer : Bool) (q : PoolView) (vs : List Unfinished) (ys : List ℕ)
     (d : Counters) : Type 0 where
@@ -278,7 +278,7 @@ pub record IsTested (p : PoolView) (t : Table) (bs : List SockBufView) (us : Lis
       → Reserves (with_net p (record { pcbs = t; queues = bs }) us c rest) held (need_mbufs n) answer
       (with_net p (record { pcbs = t; queues = bs }) vs d rest) q
 
--- the pool lacks an mbuf: the chain was freed and counted
+-- if the pool lacks an mbuf, the chain is freed and counted
 pub lacking_end : {p q r : PoolView} {t : Table} {bs : List SockBufView} {us vs ws : List Unfinished}
     {xs ys zs : List ℕ} {c d e : Counters} {chain fd : ℕ} (sender : Addr)
     → IsTested p t bs us xs c chain 1 false q vs ys d → Named fd t

@@ -28,7 +28,7 @@ at_other (x ∷ qs) zero (suc k) q ne = refl
 at_other (x ∷ qs) (suc i) zero q ne = refl
 at_other (x ∷ qs) (suc i) (suc k) q ne = at_other qs i k q (λ e. ne (ap suc e))
 
--- the chains of all, with one queue changed
+-- the chains of all queues, with one queue changed
 pub times_set : (p : PoolView) (qs : List SockBufView) (i : ℕ) (q : SockBufView) (k : ℕ) → i < length qs
     → times_among k (queued_chains p (slice_set qs i q)) + times_among k (chains_of p (queue_at qs i))
     ≡ times_among k (queued_chains p qs) + times_among k (chains_of p q)
@@ -127,7 +127,7 @@ one_steps {p} {q} ins outs qs i v h each owned ready m =
     set-set (z ∷ qs) zero x y = refl
     set-set (z ∷ qs) (suc i) x y = ap (λ (l : List SockBufView). z ∷ l) (set-set qs i x y)
 
--- ---- all queues beside a step of others
+-- ---- a step on other chains leaves all queues the same
 pub record Kept (p q : PoolView) (v : SocksView) : Type 0 where
   pub ready : IsSocks q v
   pub shows : (k : ℕ) → queues_of q v.queues k ≡ queues_of p v.queues k
@@ -159,7 +159,7 @@ at_default [] i d e h = absurd (omega arith)
 at_default (x ∷ bs) zero d e h = refl
 at_default (x ∷ bs) (suc i) d e h = at_default bs i d e (omega arith)
 
--- the step of one queue among all of them
+-- a step of one queue, as a step of all queues
 pub steps_at : {p q : PoolView} (ins outs : List ℕ) (bs : List SockBufView) (i : ℕ) (x e y : SockBufView)
     → i < length bs → x ≡ slice_index_or bs i e → ((k : ℕ) → IsSockBuf p (queue_at bs k))
     → IsOwned p (ins ++ queued_chains p bs)
@@ -177,7 +177,7 @@ steps_at {p} {q} ins outs bs i x e y lt is each owned ready m =
       moves = s.moves;
     }
 
--- ---- a queue in which nothing waits has no chain
+-- ---- an empty queue has no chain
 pub none_there : (q : PoolView) (b : SockBufView) → IsSockBuf q b → datagrams q b ≡ [] → chains_of q b ≡ []
 none_there q b is e = go (chains_of q b) e
   where
@@ -188,7 +188,7 @@ none_there q b is e = go (chains_of q b) e
 pub moves_to : {p q : PoolView} {xs ys : List ℕ} → Moves p xs q [] → ys ≡ [] → Moves p xs q ys
 moves_to {p} {q} {xs} {ys} m e = subst (Moves p xs q) (sym e) m
 
--- where nothing waits in any queue, there is no chain
+-- if nothing waits in any queue, there is no chain
 pub all_gone : (q : PoolView) (bs : List SockBufView) → ((k : ℕ) → IsSockBuf q (queue_at bs k))
     → ((k : ℕ) → k < length bs → queues_of q bs k ≡ []) → queued_chains q bs ≡ []
 all_gone q [] each none = refl
@@ -214,7 +214,7 @@ all_empty q (b ∷ bs) each none = (
   all_empty q bs (λ k. each (suc k)) (λ k lt. none (suc k) (omega arith)),
 )
 
--- ---- the frame
+-- ---- what a step keeps
 
 -- nothing was done yet
 pub keeps_none : {v : NetView} {xs : List ℕ} → IsSocks v.pool v.socks → KeepsParts v xs v xs

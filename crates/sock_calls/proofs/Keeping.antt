@@ -1,4 +1,4 @@
--- Sockets whose control blocks alone changed.
+-- Calls that change only the control blocks of the sockets.
 use Rattle.std.proofs.Common.{◌≡◌, ℕ, zero, suc, ◌∷◌, ◌++◌, length, subst, arith, false, List, [], Option, None, Some, is_some, refl, sym, ap, ◌∙◌, inl, inr}
 use Rattle.std.specs.Prelude.{IsNone, Result, Ok, Err, IfOk, OnErr}
 use Rattle.std.proofs.lemmas.Bool.{cases_eq, true≢false}
@@ -17,7 +17,7 @@ pub none_of : {T : Type 0} (o : Option T) → is_some o ≡ false → o ≡ None
 none_of None e = refl
 none_of (Some x) e = absurd (true≢false e)
 
--- those that aren't open now weren't before
+-- if each descriptor that is closed now was closed before, the sockets stay valid
 pub keeps : (p : PoolView) (v : SocksView) (t : Table) → IsSocks p v → AreApart t.blocks
     → ((fd : ℕ) → block_at fd t ≡ None → block_at fd v.pcbs ≡ None) → IsSocks p (record { pcbs = t; queues = v.queues })
 keeps p v t is apart none = record {
@@ -48,7 +48,7 @@ pub keeps_more : (p : PoolView) (v : SocksView) (t : Table) (fd : ℕ) → IsSoc
     → OpensOnly v.pcbs fd t → IsSocks p (record { pcbs = t; queues = v.queues })
 keeps_more p v t fd is apart opens = keeps p v t is apart (none_beside v.pcbs t fd opens)
 
--- what waits at a descriptor that is about to be opened
+-- nothing waits at a descriptor that is about to be opened
 pub none_waits : (p : PoolView) (v : SocksView) (t : Table) (fd : ℕ) → IsSocks p v → OpensOnly v.pcbs fd t
     → queues_of p v.queues fd ≡ []
 none_waits p v t fd is opens = is.closed fd (none_of (block_at fd v.pcbs) (none_is (block_at fd v.pcbs) opens.before))
@@ -57,7 +57,7 @@ none_waits p v t fd is opens = is.closed fd (none_of (block_at fd v.pcbs) (none_
     none_is None h = refl
     none_is (Some x) h = absurd (true≢false h)
 
--- a socket was opened, or none could be
+-- a socket was opened, or the call failed
 pub keeps_opened : (p : PoolView) (v : SocksView) (t : Table) (result : Result ℕ Errno) → IsSocks p v
     → AreApart t.blocks → IfOk result (λ fd. OpensOnly v.pcbs fd t) → OnErr result (t ≡ v.pcbs)
     → IsSocks p (record { pcbs = t; queues = v.queues })
@@ -123,7 +123,7 @@ keeps_closed p q v t cs fd is apart closes steps empty = record {
   ];
 }
 
--- what isn't open any more has no say in the machine
+-- the queue of a closed descriptor doesn't matter to the machine
 pub closed_machine : (f g : Queues) (t old : Table) (fd : ℕ) (rest : State) → ClosesOnly old fd t
     → ((k : ℕ) → (k ≡ fd → ⊥) → g k ≡ f k) → machine rest f t ≡ machine rest g t
 closed_machine f g t old fd rest closes others =

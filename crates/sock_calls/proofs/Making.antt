@@ -22,7 +22,7 @@ Stores p bytes q d =
     (cs : List ℕ) × AreFree p cs × (length cs ≡ count_by is_cluster (user (length bytes)))
     × Makes p q d (alone true) (stored_first 56 true cs (user (length bytes)) bytes)
 
--- the headers in front of them give the layout of a send
+-- with the headers prepended, the chain has the layout of a send
 abbrev pub SentLayout : Type 0
 SentLayout = (cs xs hs : List ℕ) → length cs ≡ count_by is_cluster (user (length xs)) → length hs ≡ 28
     → layout_entries (prepended (record {

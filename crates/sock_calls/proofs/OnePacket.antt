@@ -1,4 +1,4 @@
--- A send that makes one packet for the link: what it takes, its datagram, and what it puts where.
+-- A send that makes one packet for the link: the buffers that it needs, its datagram, and where the packet is stored.
 use Rattle.std.proofs.Common.{◌≡◌, ◌≢◌, ℕ, ◌+◌, ◌<◌, ◌≤◌, Bool, true, false, cond, List, [], ◌∷◌, ◌++◌, length, drop, Option, Some, None, refl, sym, ap, ◌∙◌, subst, arith}
 use Rattle.std.specs.Prelude.{count_by, sum_by, ◌==◌, ◌||◌}
 use Rattle.std.proofs.lemmas.Bool.{cond-true, cond-false, le-leb, lt-leb, ne_eqb}
@@ -23,7 +23,7 @@ use Rattle.ip_out.specs.declared.ways.Way.{Way}
 use Rattle.sock_calls.specs.Inside.Putting.{IsBuilt, IsSendLaidOut, IsStored, way_of}
 use Rattle.sock_calls.proofs.SentRooms.{laid_count}
 
--- ---- what it takes
+-- ---- the buffers that it needs
 
 one_part : (n mtu : ℕ) (rooms : List Room) → n + 28 ≤ mtu → sent n ≡ rooms
     → need n mtu ≡ record { mbufs = length rooms + 0; clusters = count_by is_cluster rooms }
@@ -47,7 +47,7 @@ small_need n mtu few fits = sym (one_part n mtu (Plain (28 + n) ∷ []) fits (sm
 pub large_need : (n mtu : ℕ) → 208 ≤ n → n ≤ 1992 → n + 28 ≤ mtu → record { mbufs = 2; clusters = 1 } ≡ need n mtu
 large_need n mtu many most fits = sym (one_part n mtu (Plain 28 ∷ Cluster n ∷ []) fits (large_rooms n many most))
 
--- and what is free for it
+-- if they are free, at least one mbuf is
 pub small_free : (p : PoolView) (n : ℕ) → n ≤ 72 → Has p (sent n) → held_mbufs p < p.mbufs
 small_free p n few has = omega (arith, has.0, ap (λ (rs : List Room). length rs) (small_rooms n few))
 
@@ -81,7 +81,7 @@ by_link c ip (apart, one, outside) =
     go false false true e f g = cc
     go false false false e f g = refl
 
--- ---- its bytes behind the headers, in one mbuf
+-- ---- the bytes after the headers, in one mbuf
 
 abbrev pub entry : List ℕ → ℕ → Option ℕ → Entry
 entry xs start o = record { bytes = xs; start = start; cluster = o }
@@ -122,7 +122,7 @@ one_free p k within none = record {
     most true = omega arith
     most false = omega arith
 
--- in its own room
+-- in the mbuf itself
 pub stored_plain : {p q : PoolView} {c : ℕ} (hs xs : List ℕ) (start : ℕ) → length hs ≡ 28 → length xs ≤ 72
     → Adds p q c (one_mbuf true (entry (hs ++ xs) start None) c) → IsStored p xs q c
 unfolding laid_on
@@ -144,7 +144,7 @@ pub plain_string : {p q : PoolView} {c : ℕ} (hs xs : List ℕ) (start : ℕ)
     → Adds p q c (one_mbuf true (entry (hs ++ xs) start None) c) → string (chain_of q c) ≡ hs ++ xs
 plain_string hs xs start adds = ap string (shown_adds adds) ∙ append-nil (hs ++ xs)
 
--- in a cluster, behind an mbuf with the headers
+-- in a cluster, after an mbuf with the headers
 pub stored_cluster : {p q : PoolView} {c k : ℕ} (hs xs : List ℕ) (start : ℕ) (cells : List ℕ) → length hs ≡ 28
     → 208 ≤ length xs → length xs ≤ 1992 → k < p.clusters → references p k ≡ 0
     → Adds p q c (record {
@@ -188,7 +188,7 @@ linked {p} {q} {r} {s} {b} {c} e f back front is =
     (subst (λ (t : PoolView). Adds t s c (joined v (chain_of q b))) (adds_undone (without q b) back refl)
     (linked_front q r s b c v (live_adds back) front is))
 
--- a send to the link goes by the link's MTU
+-- a send to the link uses the link's MTU
 pub mtu_link : (c : Config) (ip : ℕ) → Way.Link ≡ way_of c ip → mtu_to c ip ≡ c.mtu
 mtu_link c ip e = go (is_looped c ip) (ip == c.bcast) e
   where

@@ -1,4 +1,4 @@
--- What a receive makes of the machine.
+-- The machine after a receive.
 use Rattle.std.proofs.Common.{◌≡◌, ℕ, cond, List, [], ◌∷◌, length, take, Option, None, Some, is_some, refl, sym, ap, ◌∙◌, subst, arith, inl, inr}
 use Rattle.std.specs.Prelude.{MatchOption}
 use Rattle.std.specs.Option.{ok_or}
@@ -17,7 +17,7 @@ use Rattle.pcb_table.specs.Table.{Table, Queues, IsDescriptor, block_at, machine
 use Rattle.pcb_table.proofs.Laws.{on_open, not_open, same_machine, queue_changed}
 use Rattle.sock_calls.proofs.Copies.{named_at, descriptor_of}
 
--- what was taken of a queue, and how it was copied
+-- what was removed from a queue, and how it was copied
 abbrev pub TookOf : List Datagram → List Datagram → ℕ → Option (Addr × ℕ) → List ℕ → Type 0
 TookOf was now most found room =
     MatchOption found ((was ≡ []) × (now ≡ []))
@@ -26,7 +26,7 @@ TookOf was now most found room =
 abbrev pub Took : Queues → Queues → ℕ → ℕ → Option (Addr × ℕ) → List ℕ → Type 0
 Took f g fd most found room = TookOf (f fd) (g fd) most found room
 
--- the same of queues that are equal
+-- the same for equal queues
 pub took_as : {was now before after : List Datagram} (most : ℕ) (found : Option (Addr × ℕ)) (room : List ℕ)
     → before ≡ was → after ≡ now → TookOf was now most found room → TookOf before after most found room
 took_as {was} {now} {before} {after} most found room e f h =
@@ -62,7 +62,7 @@ pub record Found (fd : ℕ) (t : Table) : Type 0 where
   pub at : block_at fd t ≡ Some block
   pub named : block.fd ≡ fd
 
--- where a datagram waits, the socket is open
+-- if a datagram waits, the socket is open
 pub waits_open : (f : Queues) (t : Table) (fd : ℕ) (d : Datagram) (ds : List Datagram)
     → (block_at fd t ≡ None → f fd ≡ []) → f fd ≡ d ∷ ds → Found fd t
 waits_open f t fd d ds closed waits = go (block_at fd t) refl
@@ -71,7 +71,7 @@ waits_open f t fd d ds closed waits = go (block_at fd t) refl
     go None none = absurd (omega (arith, ap length (sym (closed none) ∙ waits)))
     go (Some b) is = record { block = b; at = is; named = named_at t fd b is }
 
--- a number that no descriptor has
+-- a number that isn't a descriptor has no block
 pub not_descriptor : (t : Table) (fd : ℕ) → AreApart t.blocks → (IsDescriptor fd → ⊥) → block_at fd t ≡ None
 not_descriptor t fd apart past = go (block_at fd t) refl
   where
@@ -84,7 +84,7 @@ pub not_open_receives : (f : Queues) (t : Table) (fd most : ℕ) → block_at fd
 not_open_receives f t fd most none rest = not_open rest f t fd
     (λ (me : Socket). Receives fd most me.queue (machine rest f t) (Refused BadDescriptor) (machine rest f t)) none
 
--- a receive where no datagram waits
+-- a receive from an empty queue
 pub receives_none : (f g : Queues) (t : Table) (fd most : ℕ) (errno : Errno)
     → errno ≡ cond (is_some (block_at fd t)) WouldBlock BadDescriptor → (f fd ≡ []) × (g fd ≡ [])
     → ((k : ℕ) → (k ≡ fd → ⊥) → g k ≡ f k)

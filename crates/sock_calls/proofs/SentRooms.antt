@@ -1,4 +1,4 @@
--- What a send takes, and what its packets take: the rooms of the flat machine, and the mbufs of a chain laid out so.
+-- The buffers of a send and of its packets: the layout in the flat machine, and the mbufs of a chain with that layout.
 use Rattle.std.proofs.Common.{◌≡◌, ℕ, zero, suc, ◌+◌, ◌-◌, ◌<◌, ◌≤◌, min, max, Bool, true, false, cond, List, [], ◌∷◌, length, drop, Some, None, refl, sym, ap, ◌∙◌, arith, inl, inr}
 use Rattle.std.specs.Prelude.{◌⊎◌, ◌==◌, ◌||◌, nat_lt, nat_le, sum_by, count_by}
 use Rattle.std.proofs.lemmas.Bool.{cases_lt, le-leb, lt-leb, cond-true, cond-false, eqb-true, ne_eqb, true≢false}
@@ -30,7 +30,7 @@ laid_count (c ∷ cs) (Plain n ∷ rooms) = ap suc (laid_count (c ∷ cs) rooms)
 laid_count [] (Cluster n ∷ rooms) = ap suc (laid_count [] rooms)
 laid_count (c ∷ cs) (Cluster n ∷ rooms) = ap suc (laid_count cs rooms)
 
--- one more mbuf, which a range meets or doesn't
+-- one more mbuf, which overlaps the range or doesn't
 met_one : (at a b n : ℕ) (e : flat.LayoutEntry) (es : List flat.LayoutEntry) (room : Room) (rooms : List Room)
     → e.size ≡ size_of room
     → ((at : ℕ) → length (meets_from (λ (x : flat.LayoutEntry). x.size) at es a b)
@@ -74,7 +74,7 @@ met_laid [] (Cluster n ∷ rooms) a b at = met_one at a b n (record { size = n; 
 met_laid (c ∷ cs) (Cluster n ∷ rooms) a b at = met_one at a b n (record { size = n; cluster = Some c })
     (laid_on cs rooms) (Cluster n) rooms refl (met_laid cs rooms a b)
 
--- ---- what the later fragments take
+-- ---- the buffers of the later fragments
 parts_need : (v : ChainView) (cs : List ℕ) (rooms : List Room) → layout_entries v.entries ≡ laid_on cs rooms
     → (ps : List Part)
     → sum_by (part_need v) ps ≡ sum_by (need_of_part rooms) ps
@@ -104,7 +104,7 @@ unfolding cuts
 uncut n mtu h = ap (λ (ps : List Part). drop 1 ps)
     (cond-true {A = List Part} (nat_le (20 + (n + 8)) mtu) _ _ (le-leb (20 + (n + 8)) mtu (omega (arith, h))))
 
--- ---- what a send takes
+-- ---- the buffers of a send
 pub some_sent : (n : ℕ) → 0 < length (sent n)
 some_sent n = go (nat_le n 72)
   where
@@ -128,7 +128,7 @@ user_small (suc m) h =
     ∙ (λ j. or_empty (room j ∷ rest_rooms (n - size_of (room j)))) ∙ ap (λ (k : ℕ). Plain n ∷ rest_rooms k) none
     ∙ ap (λ (rs : List Room). Plain n ∷ rs) rest_none
 
--- the rooms of the bytes alone, and those with the headers
+-- without the headers, a layout has the same number of clusters, and no more mbufs
 pub record Beside (n : ℕ) : Type 0 where
   pub clusters : count_by is_cluster (sent n) ≡ count_by is_cluster (user n)
   pub mbufs : length (user n) ≤ length (sent n)
@@ -168,7 +168,7 @@ pub has_mbufs : (p : PoolView) (c : Config) (ip n : ℕ)
 has_mbufs p c ip n h = enough_mbufs p (need_to c ip n).mbufs (need_to c ip n).clusters h
     (omega (arith, some_sent n, need_most c ip n))
 
--- ---- the packets beyond the datagram take the rest
+-- ---- the packets need the buffers that the datagram doesn't
 pub need_is_way : (c : Config) (ip n : ℕ) (v : ChainView) (cs : List ℕ) → IsRouted c → (ip ≡ c.bcast → n + 28 ≤ c.mtu)
     → layout_entries v.entries ≡ laid_on cs (sent n) → length (string v) ≡ n + 28
     → (need_to c ip n).mbufs ≡ length (sent n) + way_need (way_of c ip) v (mtu_to c ip)

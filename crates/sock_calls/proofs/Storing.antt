@@ -46,7 +46,7 @@ use Rattle.sock_calls.proofs.Going.{bag_of_times, free_each}
 use Rattle.sock_calls.proofs.Copies.{copy_accounts, descriptor_of}
 use Rattle.sock_calls.proofs.Whole.{arrives_as}
 
--- ---- trims leave weights
+-- ---- trims keep weights
 
 pub only_weighs : (n : ℕ) (es : List Entry) → entries_weight (only_first n es) ≡ entries_weight es
 only_weighs n [] = refl
@@ -94,7 +94,7 @@ data_stored {p} {q} {r} {s} {c} {packet} {clusters} end free number made layout 
       moves = then_with s c _ [] came_cut (λ k. omega arith) off;
     }
 
--- ---- what is beside that chain
+-- ---- making that chain leaves the sockets the same
 
 pub record IsBeside (p : PoolView) (xs : List ℕ) (s : SocksView) (q : PoolView) (d : ℕ) : Type 0 where
   pub same : SameAt p q xs
@@ -199,7 +199,7 @@ delivers_whole {p} {q} {r} {t} {u} {bs} {cs} {us} {vs} {ws} {xs} {ys} {zs} {c} {
       };
     }
 
--- the table that the look-up leaves is the same
+-- the lookup leaves the table the same
 pub delivers_to : {p q r : PoolView} {t t' u : Table} {bs cs : List SockBufView} {us vs ws : List Unfinished}
     {xs ys zs : List ℕ} {c e : Counters} {d end : ℕ} {fds to_all packet : List ℕ} {from to : Addr}
     → IsSocks p (record { pcbs = t; queues = bs }) → IsOwned p (xs ++ queued_chains p bs)
@@ -224,7 +224,7 @@ none_found : (f : Queues) (found : List Block) → length (map (λ (b : Block). 
 none_found f [] e = refl
 none_found f (b ∷ found) e = absurd (omega (arith, e))
 
--- none of it is stored, and it ends for this cause
+-- nothing is stored, and the packet is dropped for this cause
 ends_whole : {p : PoolView} {t : Table} {bs : List SockBufView} {us : List Unfinished} {xs : List ℕ} {c e : Counters}
     {end : ℕ} {packet : List ℕ} {from to : Addr} (why : Why) → IsSocks p (record { pcbs = t; queues = bs })
     → IsChecked packet end from to → Has p (wire (length packet)) → e ≡ counted why c

@@ -26,12 +26,12 @@ use Rattle.sock_calls.specs.Sends.{RefusesAll, SendsBy, SendsOnce}
 abbrev Lacks : Reply → Type 0
 Lacks reply = reply ≡ Refused (NoBufs Pool)
 
--- what comes back of nothing
+-- no packet comes back
 none_arrive : (looped : List Item) (mid new : State) → looped ≡ [] → AllArrive exact_ledger looped mid new → new ≡ mid
 none_arrive looped mid new e arrive = subst (λ (l : List Item). AllArrive exact_ledger l mid new) e arrive
 
 module _ (fd : ℕ) (to : Option Addr) (bytes : List ℕ) where
-  -- ---- one that isn't refused for the pool
+  -- ---- a send that doesn't fail for lack of buffers
   by_at_once : (me : Socket) (old : State) (reply : Reply) (looped : List Item) (mid new : State) → (Lacks reply → ⊥)
       → SendsBy exact_ledger fd to bytes me old reply looped mid → AllArrive exact_ledger looped mid new
       → Sends exact_ledger fd to bytes me old reply new
@@ -111,13 +111,13 @@ not_queued : (lost : Bool) (n : ℕ) → Refused (NoBufs Pool) ≡ (if lost then
 not_queued true n e = true≢false (ap lacks e)
 not_queued false n e = true≢false (ap lacks e)
 
--- ---- one that is, and then once more without the unfinished datagrams
+-- ---- a send that does, and is retried without the unfinished datagrams
 module _ (fd : ℕ) (to : Option Addr) (bytes : List ℕ) where
-  -- what is needed then
+  -- the buffers that the send needs
   abbrev pub need_of_send : Socket → State → Need
   need_of_send me old = need_to old.config (target old me to).ip (length bytes)
 
-  -- what a test leads to
+  -- the outcome of a test of the pool
   abbrev pub Tested : Socket → State → Reply → List Item → State → Type 0
   Tested me old reply looped new =
       (yes : Bool) × (yes ≡ has_enough old nothing (need_of_send me old))

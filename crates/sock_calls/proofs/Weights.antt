@@ -79,7 +79,7 @@ by_place f g (b ∷ bs) at same =
       by_place f g bs (at + 1) (λ i k lt e. same (suc i) k (omega arith) (omega (arith, e))),
     )
 
--- a sum over 0 to 66 is one over 3 to 66, where nothing stands below
+-- a sum over 0 to 66 is one over 3 to 66, if f is 0 at 0, 1 and 2
 from_three : (f : ℕ → ℕ) → f 0 ≡ 0 → f 1 ≡ 0 → f 2 ≡ 0 → sum_by f (range_with_len 0 67) ≡ sum_by f (range_with_len 3 64)
 from_three f a b c = omega (
   arith,

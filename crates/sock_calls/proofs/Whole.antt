@@ -100,7 +100,7 @@ arrives_as packet end from to w old new is one =
     (subst (λ (x : ℕ). WholeArrives exact_ledger nothing from.ip to.ip x (record { bytes = s; weight = w }) old new)
     (sym is.protocol) whole))
 
--- ---- it ends
+-- ---- it's dropped
 
 pub refused : (p : PoolView) (s : SocksView) (packet : List ℕ) (why : Why) → datagram_fault packet ≡ Some why
     → EndsWhole p s packet why
@@ -158,7 +158,7 @@ module _ (p : PoolView) (t : Table) (bs : List SockBufView) (packet : List ℕ) 
 
 -- ---- it's stored
 
--- what is known of the packet when it's stored, and what that left
+-- the packet when it's stored, and the state after it
 pub record IsStored (p : PoolView) (t : Table) (bs : List SockBufView) (packet : List ℕ) (end : ℕ) (from to : Addr)
     (fd : ℕ) (is_large : Bool) (q : PoolView) (cs : List SockBufView) : Type 0 where
   pub checked : IsChecked packet end from to
@@ -191,7 +191,7 @@ module _ (p q : PoolView) (t : Table) (bs cs : List SockBufView) (packet : List 
   is_bag : IsBag p is_large is.cluster (length packet)
   is_bag = bag p is_large is.cluster (length packet) is.taken
 
-  -- the mbuf for the sender's address is free beside it
+  -- one more mbuf is free, for the sender's address
   one_more : has_enough old (nothing ⊕ w) (need_mbufs 1) ≡ true
   one_more =
       let some : 1 ≤ state.free_mbufs old (nothing ⊕ w) = omega (arith, acc.total, acc.mbufs, is.has.mbufs) in
@@ -242,7 +242,7 @@ module _ (p q : PoolView) (t : Table) (bs cs : List SockBufView) (packet : List 
     arrives,
   )
 
--- ---- and what that leaves
+-- ---- the state after it's stored
 
 pub stores_whole : {p q : PoolView} {t : Table} {bs cs : List SockBufView} {packet : List ℕ} {end : ℕ} {from to : Addr}
     {fd : ℕ} {is_large : Bool} → IsStored p t bs packet end from to fd is_large q cs

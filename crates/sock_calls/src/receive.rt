@@ -15,7 +15,7 @@ use params::MAX_SOCKETS;
 use pcb_table::Pcbs;
 use sockbuf::SockBuf;
 
-/// Removes the oldest datagram of a queue, and copies as many of its bytes as fit into `buffer`; the others are lost.
+/// Removes the oldest datagram of a queue, and copies the bytes that fit into `buffer`; the others are lost.
 /// Returns the sender and the number of bytes copied; `None` if the queue is empty.
 fn take_oldest(pool: &mut Pool, queue: &mut SockBuf, buffer: &mut [u8]) -> Option<(Addr, usize)>
     requires ready { IsSockBuf pool.old queue.old }

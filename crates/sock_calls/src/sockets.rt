@@ -249,8 +249,8 @@ impl Socks {
         self.parts.send_any(pool, net, fd, to, bytes)
     }
 
-    /// Removes the oldest datagram from a socket's queue, copies as many of its bytes as fit into `buffer`, and returns
-    /// its sender and the number of bytes copied. The other bytes are lost, and all its buffers are freed (`soreceive`
+    /// Removes the oldest datagram from a socket's queue, copies the bytes that fit into `buffer`, and returns its sender
+    /// and the number of bytes copied. The other bytes are lost, and all its buffers are freed (`soreceive`
     /// of volume 2, chapter 16). The rest of `buffer` is unchanged. It never blocks.
     ///
     /// # Errors

@@ -1,4 +1,4 @@
--- A queue under steps of others.
+-- A queue stays the same in steps on other chains.
 use Rattle.std.proofs.Common.{◌≡◌, Err, ℕ, List, [], ◌∷◌, refl, sym, ap, ◌∙◌, subst, arith}
 use Rattle.std.specs.List.{AllByRecursion as Each}
 use Rattle.flat_model.specs.Sockets.Fits.{bytes_queued, memory_queued}
@@ -17,7 +17,7 @@ use Rattle.flat_model.specs.declared.address.Addr.{Addr}
 pub new_ready : (p : PoolView) → IsSockBuf p no_datagrams
 new_ready p = record { held = held_none p _ refl; each = tt; cc = refl; mbcnt = refl }
 
--- ---- a step of somebody else leaves a queue as it was
+-- ---- a step on other chains leaves a queue the same
 pub chains_same : (p q : PoolView) (b : SockBufView) → SameAt p q (chains_of p b) → chains_of q b ≡ chains_of p b
 chains_same p q b s = numbers_same p q b.train s
 

@@ -1,4 +1,4 @@
--- An mbuf with an address in front of a chain.
+-- An mbuf with an address, linked before a chain.
 use Rattle.std.proofs.Common.{◌≡◌, ℕ, true, false, List, [], ◌∷◌, drop, None, refl, ap, ◌∙◌, subst, arith}
 use Rattle.flat_model.specs.declared.address.Addr.{Addr}
 use Rattle.mbuf_chain.specs.Chain.{ChainView, PoolView, IsLive, alone, chain_of, with_chain, without, Adds}
@@ -47,7 +47,7 @@ addressed {p} {q} {d} s c a adds live linked =
       moves = then_with s d (joined (chain_of q d) (chain_of q c)) [] parted owned linked;
     }
 
--- ---- the mbuf in front taken off again
+-- ---- the first mbuf, removed again
 pub record Stripped (p : PoolView) (c : ℕ) (q : PoolView) (d : ℕ) : Type 0 where
   pub entries : (chain_of q d).entries ≡ drop 1 (chain_of p c).entries
   pub front : (chain_of q d).front ≡ alone false

@@ -2,9 +2,9 @@
 
 -- A new queue fits every pool.
 pub use Rattle.sockbuf.proofs.Beside.{new_ready}
--- A step of somebody else leaves a queue as it was.
+-- A step on other chains leaves a queue the same.
 pub use Rattle.sockbuf.proofs.Beside.{chains_same, datagrams_same, ready_same}
--- A chain that is made beside a queue is none of its own, and one that is freed leaves it as it was.
+-- A new chain isn't in the queue, and freeing a chain outside it leaves the queue the same.
 pub use Rattle.sockbuf.proofs.Beside.{apart_ready, ready_made, ready_freed}
--- What a refusal leaves, whichever it is.
+-- The state after a datagram is refused, whatever the reason.
 pub use Rattle.sockbuf.proofs.Beside.{refused}

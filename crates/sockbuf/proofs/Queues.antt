@@ -1,4 +1,4 @@
--- What appending and taking make of a queue.
+-- A queue after an append and after a take.
 use Rattle.std.proofs.Common.{◌≡◌, ℕ, ◌+◌, ◌-◌, ◌<◌, false, List, [], ◌∷◌, ◌++◌, length, take, drop, None, refl, sym, ap, ◌∙◌, subst, arith, inl, inr, length-append}
 use Rattle.std.specs.Prelude.{slice_index_or}
 use Rattle.std.specs.List.{insert, remove, AllByRecursion as Each}
@@ -19,9 +19,9 @@ use Rattle.ledger.specs.Accounts.{entries_weight}
 use Rattle.sockbuf.specs.SockBuf.{SockBufView, IsSockBuf, IsDatagram, TakesOldest, queued_datagram, datagrams_of, datagrams, chains_of, datagram_from, memory_of, sockaddr_in, address_entry}
 use Rattle.sockbuf.proofs.Fronts.{address_again}
 
--- ---- a step beside the queue
+-- ---- a step on a chain outside the queue
 
--- an owner of a train whose one chain outside became another
+-- the train stays the same when a chain outside it becomes another
 pub beside_one : {p q : PoolView} {c d : ℕ} (t : TrainView) → Moves p (c ∷ []) q (d ∷ [])
     → times_among c (numbers p t) ≡ 0
     → IsHeld p t → SameAt p q (numbers p t)
@@ -113,7 +113,7 @@ each_end : (xs : List QueuedPacket) (x : QueuedPacket)
 each_end [] x h here = (here, tt)
 each_end (y ∷ ys) x h here = (h.0, each_end ys x h.1 here)
 
--- chain c became chain d, with the address in front, and d was put in at the end
+-- chain c became chain d, with the address prepended, and d was appended to the queue
 pub record IsPutIn (p : PoolView) (b : SockBufView) (c d : ℕ) (a : Addr) (q r : PoolView) (u : TrainView) : Type 0 where
   pub live : IsLive p c
   pub some : 0 < length (chain_of p c).entries
@@ -223,7 +223,7 @@ no_more : (cs : List QueuedPacket) → length cs ≡ 0 → cs ≡ []
 no_more [] e = refl
 no_more (c ∷ cs) e = absurd (omega arith)
 
--- what the sums were, where nothing else waited
+-- the counts of a queue with one datagram
 pub record LastOne (b : SockBufView) (es : List Entry) : Type 0 where
   pub cc : b.cc ≡ length (flat_bytes es)
   pub mbcnt : b.mbcnt ≡ memory_of (entries_weight es)
@@ -265,7 +265,7 @@ pub record Taken (p : PoolView) (b : SockBufView) (sender : Addr) (d : ℕ) (r :
     pub takes : TakesOldest p b sender d r e
     pub ready : IsSockBuf r e
 
--- the mbuf in front was taken off chain c, which is chain d now
+-- the first mbuf was removed from chain c, which is chain d now
 pub taken : {p q r : PoolView} {b : SockBufView} {u : TrainView} {c d tag : ℕ} (sender : Addr) (cc mbcnt : ℕ)
     → IsSockBuf p b → IsTakenOut p b c tag q u
     → (chain_of r d).entries ≡ drop 1 (chain_of q c).entries → (chain_of r d).front ≡ alone false

@@ -18,7 +18,7 @@ use Rattle.sockbuf.proofs.Beside.{apart_ready, chains_same, datagrams_same, made
 abbrev pub entry : List ℕ → ℕ → Option ℕ → Entry
 entry bytes start o = record { bytes = bytes; start = start; cluster = o }
 
--- what is in hand then, beside the queue
+-- the caller's new chain, which isn't in the queue yet
 pub record InHand (p : PoolView) (b : SockBufView) (bytes : List ℕ) (o : Option ℕ) (q : PoolView) (d : ℕ) : Type 0 where
   pub ready : IsSockBuf q b
   pub live : IsLive q d

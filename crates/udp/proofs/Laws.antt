@@ -1,5 +1,5 @@
--- For the layers above: what becomes of a datagram as the flat machine's arrival, and what the steps leave of a chain's
--- weight.
+-- For the layers above: what happens to a datagram in the flat machine's arrival, and the weight of a chain after each
+-- step.
 use Rattle.std.proofs.Common.{◌≡◌, ℕ, ◌-◌, ◌<◌, true, false, ◌==◌, cond, List, [], ◌∷◌, map, length, filter_map, Option, Some, None, refl, sym, ap, ◌∙◌, subst, arith, inl, inr}
 use Rattle.std.specs.Prelude.{◌⊎◌}
 use Rattle.std.proofs.lemmas.List.{length-map}
@@ -38,7 +38,7 @@ module _ (L : Ledger) (held : Weight) where
   some_match sender item destination [] old new some delivers = absurd (omega arith)
   some_match sender item destination (to ∷ more) old new some delivers = delivers
 
-  -- One that is delivered arrives so, whatever becomes of its deliveries. It may weigh anything.
+  -- A datagram that is delivered arrives in the machine, whatever happens at its receivers. Its weight is arbitrary.
   pub delivered_arrives : (p q : PoolView) (c d : ℕ) (h : IpHead) (t : Table) (to : List ℕ) (from : Addr) (w : Weight)
       → (is : IsForSockets p c h t q to from d)
       → (rest new : State) (queues : Queues)
@@ -74,7 +74,7 @@ module _ (L : Ledger) (held : Weight) where
         no = λ not17. absurd (none-some NoProtocol (sym (untested h s None is.faultless not17)));
       }
 
-  -- one that is dropped ends, and is counted
+  -- a datagram that is dropped is counted
   pub dropped_arrives : (p q : PoolView) (c : ℕ) (h : IpHead) (t : Table) (why : Why) (w : Weight)
       → IsDropped p c h t q why
       → (rest : State) (queues : Queues)

@@ -1,4 +1,4 @@
--- A checksum is right where the folded sum is 65,535.
+-- A checksum is right if the folded sum is 65,535.
 use Rattle.std.proofs.Common.{◌≡◌, ℕ, zero, suc, ◌+◌, ◌-◌, ◌*◌, ◌/◌, ◌%◌, ◌≤◌, Bool, true, false, ◌==◌, ◌++◌, List, take, refl, sym, ap, ◌∙◌, arith}
 use Rattle.std.specs.Prelude.{◌||◌}
 use Rattle.std.proofs.lemmas.Bool.{eq-eqb, ne_eqb, eqb-true, eqb-false}
@@ -28,7 +28,7 @@ right_sum src dst s x h said given is =
     ∙ ap (λ (k : Header). (k.sum == 0)
     || (folded_sum (pseudo_header src dst (u16_at 4 s) ++ take (u16_at 4 s) s) == 65535)) said
 
--- ---- sums of numbers; the high halves of the addresses count as if they stood at the low end
+-- ---- sums of numbers; the high halves of the addresses can be added to the low ones
 
 pub pseudo_folded : (src dst n w : ℕ) → w ≡ src + dst + 17 + n → fold16 w ≡ folded_sum (pseudo_header src dst n)
 pseudo_folded src dst n w is =

@@ -47,7 +47,7 @@ parts_join s c i (suc k) =
     ∙ sym (take-add c (k * c) (drop (i * c) s))
     ∙ ap (λ m. take m (drop (i * c) s)) (sym both)
 
--- the parts where the string is cut
+-- the parts of a string that is cut
 abbrev pub grid : ℕ → ℕ → List Part
 grid n c = map (part n c) (range_with_len 0 (chunks n c))
 

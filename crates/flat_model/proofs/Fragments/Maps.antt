@@ -8,13 +8,13 @@ use Rattle.std.proofs.lemmas.Option.{none-some, same_Some}
 use Rattle.flat_model.specs.Fragments.Overlay.{Held, Map}
 use Rattle.flat_model.specs.Fragments.Whole.{IsWhole, bytes_below, byte_of}
 
--- the map has only bytes of t, and where a piece has no more after it, something at t's end
+-- the map has only bytes of t; if a piece is the last one of its datagram, there is a byte at the end of t
 pub record IsMapOf (t : List ℕ) (bytes : Map) : Type 0 where
   pub inside : (offset : ℕ) (h : Held) → bytes offset ≡ Some h → offset < length t
   pub byte : (offset : ℕ) (h : Held) → bytes offset ≡ Some h → h.byte ≡ slice_index t offset
   pub ended : (offset : ℕ) (h : Held) → bytes offset ≡ Some h → h.piece.more ≡ false → IsSome (bytes (length t - 1))
 
--- what is read from a map that has something
+-- the entry at an offset, if there is one
 some_value : (x : Option Held) → IsSome x → (h : Held) × (x ≡ Some h)
 some_value None e = absurd (false≢true e)
 some_value (Some h) e = (h, refl)

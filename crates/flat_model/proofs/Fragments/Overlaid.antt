@@ -1,4 +1,5 @@
--- A fragment laid over the bytes of an unfinished datagram leaves pieces without gaps, and adds its own weight at most.
+-- A fragment overlaid on the bytes of an unfinished datagram leaves pieces without gaps, and adds at most its own
+-- weight.
 use Rattle.std.proofs.Common.{◌≡◌, ℕ, zero, suc, ◌+◌, ◌-◌, ◌<◌, ◌≤◌, Bool, true, false, List, length, refl, sym, ◌∙◌, ap, subst, arith, Option, Some, None, cond, ◌⊎◌, inl, inr}
 use Rattle.std.specs.Prelude.{◌==◌, ◌&&◌, nat_lt, nat_le, count_by, filter_map}
 use Rattle.std.specs.List.{AllByRecursion as Each, range_with_len, cons_option}
@@ -12,14 +13,14 @@ use Rattle.flat_model.specs.declared.config.Config.{Config}
 use Rattle.flat_model.proofs.Lists.Each.{each-append}
 use Rattle.flat_model.proofs.Lists.Totals.{total, total_le, total_add, total_spike, total_spike_most, spike, spike_here, count_cons}
 
--- less is covered too
+-- a weight that covers n bytes covers fewer
 pub covers_less : (w : Weight) (m n : ℕ) → m ≤ n → Covers w n → Covers w m
 covers_less w m n le c = record { some = c.some; references = c.references; room = omega (arith, c.room) }
 
 pub carries_less : (c : Config) (w : Weight) (m n : ℕ) → m ≤ n → Carries c w n → Carries c w m
 carries_less c w m n le h = record { covers = covers_less w m n le h.covers; exist = h.exist }
 
--- ---- the pieces of a map, by the offsets where one begins
+-- ---- the pieces of a map, counted at the offsets at which they begin
 
 pub starts : ℕ → Option Held → ℕ
 starts offset None = 0
@@ -96,7 +97,7 @@ zeros at (suc n) = let rest = zeros (at + 1) n in omega arith
 pub pieces_none : (weight_of_pieces empty).mbufs ≡ 0
 pieces_none = pieces_mbufs empty ∙ zeros 0 65515
 
--- ---- a test that passes in front and fails after, counted
+-- ---- the count of a test that passes up to an offset, and fails from there on
 
 none_pass : (p : ℕ → Bool) (at n : ℕ) → ((k : ℕ) → at ≤ k → k < at + n → p k ≡ false)
     → count_by p (range_with_len at n) ≡ 0
@@ -107,7 +108,7 @@ none_pass p at (suc n) h =
     let here : cond {A = ℕ} (p at) 1 0 ≡ 0 = ap (λ b. cond {A = ℕ} b 1 0) (h at (omega arith) (omega arith)) in
     omega (arith, count_cons p at (range_with_len (at + 1) n))
 
--- Only offsets in front pass.
+-- Only the offsets below at + count pass.
 record Splits (p : ℕ → Bool) (at count k : ℕ) : Type 0 where
   passes : p k ≡ true → k < at + count
   fails : p k ≡ false → at + count ≤ k
@@ -150,7 +151,7 @@ splits p at (suc n) closed k low high =
             split false t = t
             split true t = no (sym e ∙ closed at j (omega arith) l m t)
 
--- ---- the fragment laid over the map
+-- ---- the fragment overlaid on the map
 
 module _ (c : Config) (bytes : Map) (f : Fragment) (is_map : IsMap c bytes)
     (carries : Carries c f.weight (length f.bytes)) (inside : fragment_end f ≤ 65515) where
@@ -182,7 +183,7 @@ module _ (c : Config) (bytes : Map) (f : Fragment) (is_map : IsMap c bytes)
       is_staying j at.0 at.1 (let same : at.0.piece.first ≡ s.0.piece.first = ap (λ (p : Piece). p.first) at.2 in
       omega (arith, s.2))
 
-  -- what stays lies in front of what the fragment owns
+  -- an offset that keeps its old byte is below those that the fragment owns
   owned_from : (offset : ℕ) → f.offset ≤ offset → offset < fragment_end f
       → (stays f.offset (bytes offset) ≡ true → offset < first_owned bytes f)
       × (stays f.offset (bytes offset) ≡ false → first_owned bytes f ≤ offset)
@@ -195,7 +196,8 @@ module _ (c : Config) (bytes : Map) (f : Fragment) (is_map : IsMap c bytes)
   unfolding first_owned
   owned_low = omega arith
 
-  -- how something comes to lie at an offset
+  -- the byte at an offset afterwards: an old one in the fragment's range, one of the fragment's, or one outside the
+  -- range
   record Stayed (offset : ℕ) (h : Held) : Type 0 where
     low : f.offset ≤ offset
     high : offset < fragment_end f
@@ -322,7 +324,7 @@ module _ (c : Config) (bytes : Map) (f : Fragment) (is_map : IsMap c bytes)
   straddles_too g h e s = let same : g.piece.first ≡ h.piece.first = first_of g h e in
       record { low = omega (arith, s.low); high = omega (arith, s.high) }
 
-  -- what lay at an offset, with a piece that loses nothing, is still there
+  -- an old byte of a piece that loses nothing is still at its offset
   still : (k : ℕ) (g h : Held) → bytes k ≡ Some g → g.piece ≡ h.piece → (Straddles h → ⊥)
       → (f.offset ≤ k → k < fragment_end f → h.piece.first ≤ f.offset)
       → (x : Held) × (overlay bytes f k ≡ Some x) × (x.piece ≡ h.piece)
@@ -424,7 +426,7 @@ module _ (c : Config) (bytes : Map) (f : Fragment) (is_map : IsMap c bytes)
           subst (IsConsistentAt c (overlay bytes f) offset) (sym b.is) (brought_place offset b.low b.high b.new)
       go (inr (inr k)) = kept_place offset h k.old k.was k.outside k.is
 
-  -- ---- what it weighs
+  -- ---- the weight
 
   starts_is : (offset : ℕ) (h : Held) → starts offset (Some h) ≡ spike h.piece.first h.piece.weight.mbufs offset
   unfolding starts
@@ -437,7 +439,7 @@ module _ (c : Config) (bytes : Map) (f : Fragment) (is_map : IsMap c bytes)
       go true e false t = absurd (eqb-false _ _ t (sym (eqb-true _ _ e)))
       go false e true t = absurd (eqb-false _ _ e (sym (eqb-true _ _ t)))
 
-  -- An offset where no cut piece begins now has as much as before, or the fragment's weight.
+  -- If no cut piece begins at the offset now, the weight there is at most the old one and the fragment's.
   no_more : (offset : ℕ) → ((h : Held) → offset ≡ fragment_end f → bytes offset ≡ Some h → Straddles h → ⊥)
       → starts offset (overlay bytes f offset)
       ≤ starts offset (bytes offset) + spike (first_owned bytes f) f.weight.mbufs offset
@@ -498,7 +500,7 @@ module _ (c : Config) (bytes : Map) (f : Fragment) (is_map : IsMap c bytes)
       let most = total_spike_most (first_owned bytes f) f.weight.mbufs 0 65515 in
       omega arith
 
-  -- One is: it begins after the fragment now, and no more where it began.
+  -- One piece is cut: it begins after the fragment now, and no longer at its old offset.
   is_cut : (s : Held) → bytes (fragment_end f) ≡ Some s → Straddles s
       → total (λ k. starts k (overlay bytes f k)) 0 65515 ≤ total (λ k. starts k (bytes k)) 0 65515 + f.weight.mbufs
   is_cut s at straddles =
@@ -521,7 +523,7 @@ module _ (c : Config) (bytes : Map) (f : Fragment) (is_map : IsMap c bytes)
       v : ℕ
       v = s.piece.weight.mbufs
 
-      -- where the piece began
+      -- at the piece's old offset
       at_first : (k : ℕ) → k ≡ s.piece.first
           → starts k (overlay bytes f k) + s.piece.weight.mbufs
           ≤ starts k (bytes k) + spike (first_owned bytes f) f.weight.mbufs k
@@ -540,7 +542,7 @@ module _ (c : Config) (bytes : Map) (f : Fragment) (is_map : IsMap c bytes)
           ap (starts k) (at_brought k low high goes) ∙ starts_is k (brought bytes f k) in
           omega arith
 
-      -- where it begins now
+      -- at its new offset
       at_after : (k : ℕ) → k ≡ fragment_end f → starts k (overlay bytes f k) ≤ s.piece.weight.mbufs
       at_after k e =
           let out : is_within f k ≡ false = outside_is k (inr (omega arith)) in

@@ -77,7 +77,7 @@ most_zero : (g : ℕ → ℕ) (at n : ℕ) → ((k : ℕ) → g k ≡ 0) → fol
 most_zero g at zero none = refl
 most_zero g at (suc n) none = rw (none at) (most_zero g (at + 1) n none)
 
--- where nothing is held, all is free and no cluster is referred to
+-- if nothing is held, all buffers are free and no cluster has references
 pub none_held : (s : State) → s.sockets ≡ [] → s.unfinished ≡ [] → s.output ≡ []
     → usage_of s ≡ record {
       free_mbufs = s.config.mbufs;

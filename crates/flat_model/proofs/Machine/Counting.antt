@@ -1,4 +1,4 @@
--- A counter that counts: one number of a list changes, and so does one counter's value.
+-- Increasing a counter: one number of a list changes, and so does one counter's value.
 use Rattle.std.proofs.Common.{◌≡◌, ℕ, ◌<◌, cond, List, length, map, get_or, set, refl, sym, ap, ◌∙◌, arith, inl, inr}
 use Rattle.std.specs.Prelude.{◌==◌}
 use Rattle.std.specs.List.{range_with_len}
@@ -14,7 +14,7 @@ use Rattle.flat_model.specs.declared.counter.TheConstants.{COUNTERS}
 use Rattle.flat_model.specs.declared.counter.Counter.{Counter}
 use Rattle.flat_model.specs.declared.counters.Counters.{Counters}
 
--- a list with the number at one place changed is the list of what stands at each place, changed at that one
+-- a list with one number changed, by its values at each index
 module _ (n : ℕ) (xs : List ℕ) (i : ℕ) (f : ℕ → ℕ) (long : length xs ≡ n) (lt : i < n) where
   abbrev pub changed : ℕ → ℕ
   changed j = cond (j == i) (f (get_or xs j 0)) (get_or xs j 0)
@@ -42,7 +42,7 @@ places = refl
 at_places : (f : ℕ → ℕ) → map f (map counter_place all_counters) ≡ map (λ other. f (counter_place other)) all_counters
 at_places f = refl
 
--- the number at a counter's place, made so much more, is that counter's count
+-- increasing the number at a counter's place increases that counter
 pub counts_is : (counter : Counter) (k : ℕ) (c : Counters) (value : ℕ) → length c.values ≡ COUNTERS
     → value ≡ more_by k (value_of counter c)
     → ◌≡◌ {A = Counters} (record { values = set c.values (counter_place counter) value }) (counts_more counter k c)

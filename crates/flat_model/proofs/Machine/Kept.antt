@@ -1,4 +1,4 @@
--- Every arrival keeps what holds of the state, and never holds more than there is.
+-- Every arrival keeps the invariant of the state, and never holds more buffers than there are.
 use Rattle.std.proofs.Common.{◌≡◌, ℕ, ◌+◌, ◌*◌, ◌<◌, ◌≤◌, Bool, true, false, List, [], ◌∷◌, ◌++◌, length, take, drop, refl, sym, ◌∙◌, ap, subst, eq-eqb, arith, Some, None, cond, ◌⊎◌, inl, inr}
 use Rattle.std.specs.Prelude.{◌==◌, not, nat_lt, count_by}
 use Rattle.std.specs.List.{AllByRecursion as Each}
@@ -32,7 +32,7 @@ use Rattle.flat_model.proofs.Lists.Totals.{count_cons, each_sub_bag, count-appen
 use Rattle.flat_model.proofs.Fragments.Overlaid.{carries_less, pieces_bag, pieces_none, overlay_is, overlay_mbufs}
 use Rattle.flat_model.proofs.Machine.KeptLists.{count-map, count-same, count-filter, none_found, find_after, mbufs-append, mbufs-without, mbufs-changed, mbufs-replaced, AreIn, Apart, the_one, matching_in}
 
--- ---- the state while a step holds h mbufs beside it
+-- ---- the state while a step holds h more mbufs
 
 pub record Good (c : Config) (h : ℕ) (s : State) : Type 0 where
   pub config : s.config ≡ c
@@ -72,7 +72,7 @@ module _ (c : Config) where
     mbufs = omega (arith, good.mbufs);
   }
 
-  -- the counters are no part of it
+  -- the invariant doesn't depend on the counters
   pub same_rest : (h : ℕ) (old new : State) → new.config ≡ old.config → new.sockets ≡ old.sockets
       → new.unfinished ≡ old.unfinished → new.output ≡ old.output
       → new.last_port ≡ old.last_port → new.next_id ≡ old.next_id → Good c h old → Good c h new
@@ -109,7 +109,7 @@ module _ (c : Config) where
     mbufs = omega (arith, good.mbufs);
   }
 
-  -- a test that passes leaves so many mbufs more to hold
+  -- if the test passes, the step can also hold the mbufs that it needs
   module _ (old new : State) (held : Weight) (need : Need) where
     room_left : (s : State) → Good c held.mbufs s → true ≡ has_enough s held need → Good c (held.mbufs + need.mbufs) s
     room_left s good e =
@@ -306,7 +306,7 @@ module _ (c : Config) where
     mbufs = let rest = mbufs-without weight_of_unfinished (is_key k) s.unfinished u at in omega (arith, good.mbufs);
   }
 
-  -- ---- who receives
+  -- ---- the receivers
 
   still_there : (old mid : State) (fd : ℕ) (me : Socket) → ((mid ≡ old) ⊎ (mid ≡ reclaimed old))
       → socket_at fd old ≡ Some me → socket_at fd mid ≡ Some me
@@ -325,7 +325,7 @@ module _ (c : Config) where
         h.0.carries.covers.some,
       )
 
-  -- what comes into one queue leaves the other sockets
+  -- a datagram for one queue leaves the other sockets the same
   others_stay : (held : Weight) (sender : Addr) (item : Item) (to : Socket) (old after : State)
       → Arrival.Tests exact_ledger old (held ⊕ item.weight) item.weight.mbufs after
       (λ mid. Arrival.Appends exact_ledger (held ⊕ item.weight) sender item to mid after)
@@ -359,7 +359,7 @@ module _ (c : Config) where
           (λ p t. tested mid (held ⊕ item.weight ⊕ item.weight) 1 _ t (λ s r in_s. queued_at _ s r in_s) at)
           (λ p r. ap (socket_at y.fd) r ∙ at)
 
-  -- ---- an arrival; the step holds the item beside `held`, and afterwards `held` alone
+  -- ---- an arrival; the step holds the item and `held`, and afterwards only `held`
 
   good_appends : (held : Weight) (sender : Addr) (item : Item) (to : Socket) (old new : State)
       → Good c (held.mbufs + item.weight.mbufs) old → Carries c item.weight (length item.bytes)
@@ -502,7 +502,7 @@ module _ (c : Config) where
   each_drop P [] h = tt
   each_drop P (x ∷ xs) h = h.1
 
-  -- a weight pulled up still has room
+  -- a weight still has room for its bytes after a pullup
   pulled : (total n : ℕ) (w : Weight) → total ≡ 20 + n → Carries c w n → Carries c (Arrival.pulled_up total w) n
   pulled total n w e is = go (nat_lt 40 total) refl
     where

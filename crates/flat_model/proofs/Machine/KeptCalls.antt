@@ -1,4 +1,4 @@
--- The socket calls but for sends keep what holds of the state.
+-- The socket calls except sends keep the invariant of the state.
 use Rattle.std.proofs.Common.{◌≡◌, ℕ, zero, suc, ◌+◌, ◌<◌, ◌≤◌, Bool, true, false, List, [], ◌∷◌, length, map, refl, sym, ap, subst, arith, Option, Some, None, cond, ◌⊎◌, inl, inr}
 use Rattle.std.specs.Prelude.{◌==◌, ◌||◌, not, count_by, find, unwrap_or, is_some, IsSome, IsNone}
 use Rattle.std.specs.List.{AllByRecursion as Each}
@@ -125,7 +125,7 @@ module _ (c : Config) (host : is_ours c c.addr ≡ true) (lo : is_ours c loopbac
       go socket g true = keeps socket g
       go socket g false = g
 
-  -- the same where the queues stay
+  -- the same if the queues don't change
   pub renames : (h fd : ℕ) (change : Socket → Socket) (s : State) → Good c h s
       → ((socket : Socket) → IsSocket c socket → IsSocket c (change socket))
       → ((socket : Socket) → (change socket).fd ≡ socket.fd)

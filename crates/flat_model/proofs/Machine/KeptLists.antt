@@ -1,4 +1,4 @@
--- What the proofs that the machine keeps its numbers say of lists: counts, mbufs, and sockets that hear.
+-- Lists in the proof that the machine keeps its invariant: counts, mbufs, and matching sockets.
 use Rattle.std.proofs.Common.{◌≡◌, ℕ, ◌+◌, ◌≤◌, Bool, true, false, List, [], ◌∷◌, ◌++◌, map, refl, sym, ◌∙◌, ap, eq-eqb, arith, Option, Some, None, cond}
 use Rattle.std.specs.Prelude.{◌==◌, not, count_by, find, filter, ⊤, option_to_list}
 use Rattle.std.specs.List.{AllByRecursion as Each}
@@ -86,7 +86,7 @@ module _ {X : Type 0} (w : X → Weight) where
   mbufs-map f same [] = refl
   mbufs-map f same (x ∷ xs) = let here = same x in let rest = mbufs-map f same xs in omega arith
 
-  -- one that is found and the others
+  -- an element that is found, and the others
   pub mbufs-without : (p : X → Bool) (xs : List X) (x : X) → find p xs ≡ Some x
       → (all_of w (filter (λ y. not (p y)) xs)).mbufs + (w x).mbufs ≤ (all_of w xs).mbufs
   mbufs-without p [] x e = absurd (none-some x e)
@@ -124,7 +124,7 @@ module _ {X : Type 0} (w : X → Weight) where
       go true t rest n = let one : cond {A = ℕ} (p x) 1 0 ≡ 1 = ap (λ b. cond {A = ℕ} b 1 0) t in absurd (omega arith)
       go false t rest n = let later = rest (omega arith) in omega arith
 
-  -- One element at most changes, and has so much more then.
+  -- At most one element changes, and gains at most k mbufs.
   pub mbufs-changed : (p : X → Bool) (f : X → X) (k : ℕ) → ((x : X) → (w (f x)).mbufs ≤ (w x).mbufs + k) → (xs : List X)
       → count_by p xs ≤ 1
       → (all_of w (map (λ x. cond (p x) (f x) x) xs)).mbufs ≤ (all_of w xs).mbufs + k
@@ -278,7 +278,7 @@ apart_some : (o : Option Socket) → Apart (option_to_list o)
 apart_some None = tt
 apart_some (Some x) = (tt, tt)
 
--- those who hear a datagram are open sockets, no two the same
+-- the sockets that match a datagram are open, and no two are the same
 pub matching_in : (s : State) (destination : ℕ) (q : LookupKey)
     → ((fd : ℕ) → count_by (λ (x : Socket). x.fd == fd) s.sockets ≤ 1)
     → Each (AreIn s) (Arrival.matching_sockets s destination q) × Apart (Arrival.matching_sockets s destination q)

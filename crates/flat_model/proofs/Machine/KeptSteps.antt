@@ -1,4 +1,4 @@
--- Sends, arrivals and the clock keep what holds of the state, and so does every step.
+-- Sends, arrivals and the clock keep the invariant of the state, and so does every step.
 use Rattle.std.proofs.Common.{◌≡◌, ℕ, zero, suc, ◌+◌, ◌-◌, ◌*◌, ◌/◌, ◌^◌, ◌<◌, ◌≤◌, Bool, true, false, List, [], ◌∷◌, ◌++◌, length, map, take, drop, refl, sym, ◌∙◌, ap, subst, eq-eqb, arith, Option, Some, None, cond, ◌⊎◌, inl, inr}
 use Rattle.std.specs.Prelude.{◌==◌, ◌&&◌, ◌||◌, not, nat_lt, count_by, sum_by, filter, is_none}
 use Rattle.std.specs.List.{AllByRecursion as Each}
@@ -88,7 +88,7 @@ module _ (c : Config) (boots : IsConfig c) where
       go (inr h) = boots.bcast.no_loopback (ap (λ n. n / 2 ^ 24) (sym same ∙ eqb-true ip loopback h))
 
   module _ (fd : ℕ) (x : Sending) (clusters : List ℕ) (s : State) where
-    -- the state once the port and the identification are spent
+    -- the state after the port is recorded and the identification is used up
     good_spent : (h : ℕ) → Good c h s → IsPort c host lo x.port → Good c h (spent fd x.port (parts_of s.config x) s)
     good_spent h good port =
         KeptCalls.renames c host lo h fd (λ socket. record socket { port = Some x.port })
@@ -120,7 +120,7 @@ module _ (c : Config) (boots : IsConfig c) where
         })
         (λ socket. refl) (λ socket. refl)
 
-  -- packets go to the link, up to fifty
+  -- packets are appended to the output queue, up to fifty
   good_enqueued : (h : ℕ) (out : List Item) (s : State) → Good c (h + (all_of weight_of_item out).mbufs) s
       → Each (ItemFits c c.mtu) out → Good c h (enqueued out s)
   good_enqueued h out s good fits = record {
@@ -149,7 +149,7 @@ module _ (c : Config) (boots : IsConfig c) where
   all_carry mtu [] h = tt
   all_carry mtu (x ∷ xs) h = (h.0.carries, all_carry mtu xs h.1)
 
-  -- the packets go their ways; `s` is the state before the port is spent, which holds what the send needs
+  -- the packets are queued or come back; `s` is the state before the port is recorded, which holds what the send needs
   leaves : (x : Sending) (fd : ℕ) (s new : State) (out : List Item) (parts : List Part) → IsPort c host lo x.port
       → ((x.to.ip == c.bcast) ≡ true → length x.bytes + 28 ≤ c.mtu)
       → (l b : Bool) → is_looped c x.to.ip ≡ l → (x.to.ip == c.bcast) ≡ b
@@ -190,14 +190,14 @@ module _ (c : Config) (boots : IsConfig c) where
       (omega (arith, few)) good) port in
       good_all_arrive c [] _ new (good_enqueued 0 out _ at fits) tt h
 
-  -- what was taken is there, and no more than was asked for
+  -- the clusters that were taken exist
   exist : (s : State) (n : ℕ) (clusters : List ℕ) → s.config ≡ c → AreTaken exact_ledger s n clusters
       → Each (λ k. k < c.clusters) clusters
   exist s n clusters e t =
       subst (λ (cc : Config). Each (λ k. k < cc.clusters) clusters) e
       (recursion_from_All (λ k. k < s.config.clusters) clusters (λ k d h. (t.free k d h).exists))
 
-  -- the packets of a send have room for their bytes, and weigh no more than was asked for
+  -- the packets of a send have room for their bytes, and weigh no more than the send reserved
   module _ (x : Sending) (clusters : List ℕ) (mtu : ℕ) (low : 28 ≤ mtu)
       (number : length clusters ≡ count_by is_cluster (sent (length x.bytes)))
       (there : Each (λ k. k < c.clusters) clusters) where

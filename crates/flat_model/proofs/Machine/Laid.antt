@@ -26,7 +26,7 @@ pub bytes_in : List Room → ℕ
 bytes_in [] = 0
 bytes_in (room ∷ rooms) = size_of room + bytes_in rooms
 
--- the next room takes some bytes and no more than there are
+-- the next mbuf takes at least one byte, and no more than are left
 record IsNext (room : Room) (left : ℕ) : Type 0 where
   fits : RoomFits room
   some : 0 < left → 1 ≤ size_of room
@@ -150,9 +150,9 @@ laid_carries c clusters rooms n f some e exist =
       exist = each_laid (λ k. k < c.clusters) clusters rooms exist;
     }
 
--- ---- the mbufs met
+-- ---- the mbufs that overlap a range
 
--- the bytes of a stretch that lie in the range
+-- the number of bytes of a stretch that are in the range
 shared : ℕ → ℕ → ℕ → ℕ → ℕ
 shared at size a b = min (at + size) b - max at a
 
@@ -160,7 +160,7 @@ shared_none : (at a b : ℕ) → shared at 0 a b ≤ 0
 unfolding shared
 shared_none at a b = omega arith
 
--- n bytes more in front add at most n, and nothing where they lie outside
+-- n more bytes at the start of a stretch add at most n
 shared_more : (at n size a b : ℕ) → shared at (n + size) a b ≤ n + shared (at + n) size a b
 unfolding shared
 shared_more at n size a b = omega arith

@@ -57,7 +57,7 @@ fold16-shift n =
           sym (ap fold16 parts ∙ fold16-more (256 * times n) (256 * fold16 n) (omega (arith, fold16_positive n some)))
     ]
 
--- a part above 16 bits counts as if it stood at the low end
+-- the part above 16 bits can be added to the low one
 pub fold16-high : (a b : ℕ) → fold16 (65536 * a + b) ≡ fold16 (a + b)
 fold16-high a b =
     elim (eq-zero-or-pos (a + b)) [

@@ -1,4 +1,4 @@
--- What a line asks for has numbers in their ranges.
+-- The numbers in a line's request are in their ranges.
 use Rattle.std.proofs.Common.{◌≡◌, ℕ, ◌<◌, ◌≤◌, List, length, get_or, Some, None, inl, inr, arith, rules}
 use Rattle.std.proofs.lemmas.List.{get_or_default}
 use Rattle.hex.proofs.HexLemmas.{decode_of-ok}

@@ -16,7 +16,7 @@ one_more_turn L old mid new [] turn run is step =
 one_more_turn L old mid new (first ∷ turns) turn (range, next, taken, later) is step =
     (range, next, taken, one_more_turn L next mid new turns turn later is step)
 
--- the turns of lines that were answered so
+-- the turns of lines with these replies
 record Told (L : Ledger) (serves : Event → Bool) (old : State) (lines : List (List ℕ)) (answers : List (Option Reply))
     (new : State) : Type 0 where
   turns : List Turn
@@ -40,7 +40,7 @@ told L serves old new (line ∷ lines) (None ∷ answers) (mid, (nothing, same),
     told L serves old new lines answers (subst (λ s. AnswersAll serves (StepBy L) s lines answers new) same later) in
     record { turns = rest.turns; are = (nothing, rest.are); leads = rest.leads }
 
--- what is printed for lines is of a run
+-- what is printed for lines is the output of a run
 pub print_of_run : (L : Ledger) (serves : Event → Bool) (old new : State) (lines : List (List ℕ)) (printed : List ℕ)
     → Prints serves (StepBy L) old lines printed new → IsPrintOfRun L serves old lines printed new
 print_of_run L serves old new lines printed (answers, answered, text) =

@@ -1,5 +1,5 @@
 -- A whole run of the exact machine, worked out: a socket is opened and bound, a packet comes, and its bytes are taken.
--- So the definitions ask for nothing that can't be met.
+-- So the definitions can be met.
 use Rattle.std.specs.Prelude.{◌≡◌, refl, ℕ, ◌<◌, Bool, true, false, List, [], ◌∷◌, Some, None}
 use Rattle.std.proofs.Common.{arith, inl, sym, ◌∙◌, subst}
 use Rattle.std.proofs.lemmas.Option.{none-some, same_Some}
@@ -77,7 +77,7 @@ s3 = record s2 {
   counters = counts_more IpTotal 1 s2.counters;
 }
 
--- the packet comes into the socket's queue
+-- the packet is put into the socket's queue
 comes : Step s2 (Comes w) Done s3
 unfolding filled laid_on counted s3
 comes = (

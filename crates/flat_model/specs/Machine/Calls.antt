@@ -84,7 +84,7 @@ pub record IsNextPort (s : State) (local : Option ℕ) (port : ℕ) : Type 0 whe
   pub free : is_in_use s local port ≡ false
   pub passed : (k : ℕ) → k < turns → is_in_use s local (port_after s.last_port k) ≡ true
 
--- the requested port, or if there is none, the next ephemeral port, which is then recorded as chosen
+-- the requested port; without one, the next ephemeral port, which is then recorded as chosen
 abbrev pub GetsPort : State → Option ℕ → Option ℕ → ℕ → State → Type 0
 GetsPort old local (Some asked) port new = (port ≡ asked) × (new ≡ old)
 GetsPort old local None port new = IsNextPort old local port × (new ≡ record old { last_port = Some port })

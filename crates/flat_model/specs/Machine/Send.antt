@@ -1,4 +1,4 @@
--- A send: its errors in order, its packets, and where they go (`sosend`, `udp_output` and `ip_output` of volume 2,
+-- A send: its errors in order, its packets, and their routes (`sosend`, `udp_output` and `ip_output` of volume 2,
 -- chapters 16, 23, 8 and 10). The order of the errors is this project's own, and so is that an error changes nothing,
 -- with ENOBUFS as the exception. If the pool lacks buffers, the test has dropped all unfinished datagrams. If the
 -- output queue is full, the port is chosen and the identification used up, and the first packets may be in the queue.
@@ -23,7 +23,7 @@ use Rattle.flat_model.specs.Machine.Ledger.{Ledger, HasBuffers, AreTaken}
 use Rattle.flat_model.specs.Machine.Arrival.{AllArrive}
 use Rattle.flat_model.specs.declared.address.Addr.{Addr}
 
--- the destination of a send: the given address, or if there is none, the peer
+-- the destination of a send: the given address, otherwise the peer
 abbrev pub target : State → Socket → Option Addr → Addr
 target s me None = unwrap_or me.peer (record { ip = 0; port = 0 })
 target s me (Some a) = read_addr s.config a

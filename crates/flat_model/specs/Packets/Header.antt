@@ -94,7 +94,7 @@ head_fault bytes = first_fault (
 abbrev pub pseudo_header : ℕ → ℕ → ℕ → List ℕ
 pseudo_header source destination n = address_bytes source destination ++ 0 ∷ PROTOCOL_UDP ∷ two_bytes n
 
--- a computed checksum of 0 is written as 65,535, because 0 means that there is none
+-- a computed checksum of 0 is written as 65,535, because 0 means no checksum
 abbrev pub not_zero : ℕ → ℕ
 not_zero n = if n == 0 then 65535 else n
 

@@ -10,7 +10,7 @@ use Rattle.flat_model.specs.Scripts.Errnos.{errno_number, name_of, lack_name}
 use Rattle.flat_model.specs.Machine.Event.{Reply, Done, Opened, Sent, Received, Given, Counted, Shown, Refused}
 use Rattle.flat_model.specs.Scripts.Grammar.{address_text}
 
--- two lower-case digits for each byte, or a dash if there is none
+-- two lower-case digits for each byte, or a dash for no bytes
 abbrev pub hex_text : List ℕ → List ℕ
 hex_text bytes = if length bytes == 0 then codes "-" else encode_lower bytes
 

@@ -1,4 +1,4 @@
--- A send step by step: its packets, and where they are stored (this project's own).
+-- A send step by step: its packets, and the queues that hold them (this project's own).
 use Rattle.std.specs.Prelude.{◌≡◌, ◌≢◌, ℕ, ◌+◌, ◌≤◌, ◌%◌, ◌==◌, nat_lt, Bool, true, false, if◌then◌else◌, List, ◌++◌, length, take, drop, count_by}
 use Rattle.params.specs.declared.TheConstants.{MIN_MTU, LOOPBACK, IP_HEADER, IP_UDP_HEADERS, OUTPUT_QUEUE_PACKETS, IP_DEFAULT_TTL, PROTOCOL_UDP}
 use Rattle.flat_model.specs.Machine.Count.{counts_more}

@@ -1,4 +1,4 @@
--- The law holds whatever answers for the buffers.
+-- The law holds for every ledger of the buffers.
 use Rattle.flat_model.specs.Machine.Ledger.{exact_ledger, loose_ledger}
 use Rattle.flat_model.proofs.Runs.Runs.{one_more_turn}
 use Rattle.flat_model.proofs.theorems.leads_on.Goals as goal

@@ -1,4 +1,4 @@
--- The law holds whatever answers for the buffers.
+-- The law holds for every ledger of the buffers.
 use Rattle.flat_model.specs.Machine.Ledger.{exact_ledger, loose_ledger}
 use Rattle.flat_model.specs.Machine.State.{boot}
 use Rattle.flat_model.specs.Scripts.Script.{all_events}

@@ -1,4 +1,4 @@
--- What is received was sent, whatever a machine answers for its buffers.
+-- What is received was sent, for every ledger of the buffers.
 use Rattle.flat_model.specs.Machine.Ledger.{exact_ledger}
 use Rattle.flat_wire.proofs.Received.{received_law_lem}
 use Rattle.flat_wire.proofs.laws.received_law.Goals as goal

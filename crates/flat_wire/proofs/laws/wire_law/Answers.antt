@@ -1,4 +1,4 @@
--- The law holds whatever a machine answers for its buffers.
+-- The law holds for every ledger of the buffers.
 use Rattle.flat_model.specs.Machine.Ledger.{exact_ledger}
 use Rattle.flat_wire.proofs.Law.{wire_law_lem}
 use Rattle.flat_wire.proofs.laws.wire_law.Goals as goal

@@ -2,7 +2,7 @@ use Rattle.std.proofs.Common.{arith}
 use Rattle.pcb_table.proofs.Circle.{some_port_free}
 use Rattle.pcb_table.proofs.ports.next_free.Goals as goal
 
--- else each port of the circle would be in use
+-- otherwise each ephemeral port would be in use
 pub unreachable-requires : goal.unreachable-requires
 unreachable-requires c =
     some_port_free c.args.blocks.now c.args.last c.args.local

@@ -104,7 +104,7 @@ returns-then-not-give-clause-tallies g c =
     c.loop.invariant.entered.tallies
     ∙ ap (λ fs. tallies_after c.args.impairment.now (sent_by c.args.sender fs)) (given_then g c)
 
--- as many as there may be
+-- the maximum number of frames was taken
 full : (g : _) (c : goal.After-loop g) → frames_given FRAMES (halves c.args.stack.now (link_seen c.args.link.now))
     ≡ (c.loop.invariant.given, halves c.loop.stack (link_seen c.loop.link))
 full g c =

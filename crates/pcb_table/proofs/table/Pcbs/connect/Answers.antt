@@ -20,7 +20,7 @@ returns-in_default-clause-step c = λ rest queues.
     closed c.self.inside.interface c.self.inside.blocks c.self.inside.last_port _ _ c.self.view_is c.in_default.ensures
     rest queues _
 
--- where the call is refused, the block is disconnected
+-- if the connect fails, the block is disconnected
 pub invariant_of-self : goal.invariant_of-self
 invariant_of-self c =
     let bs = c.self.inside.blocks in

@@ -27,7 +27,7 @@ taken_out c = record {
   moves = c.take-whole.ensures.moves;
 }
 
--- what it counted, which is all where nothing else is left
+-- the bytes and the memory counted for the removed chain: all that was counted, if the queue is empty now
 counted : (c : goal.After-self-2-1)
     → (c.if-is_empty-2.len.0 ≡ length (flat_bytes (chain_of c.take-whole.new.pool c.take-whole.result.0).entries))
     × (c.if-is_empty-2.len.1 ≡ memory_of
