@@ -1,4 +1,4 @@
--- A packet that waited goes; and what the stack gives, one by one.
+-- A packet that waited is sent; and the packets that the stack gives, one by one.
 use Rattle.std.proofs.Common.{◌≡◌, ℕ, ◌<◌, List, [], ◌∷◌, length, map, get_or, Option, Some, None, refl, sym, ap, ◌∙◌}
 use Rattle.std.specs.Prelude.{remove, slice_get}
 use Rattle.std.proofs.lemmas.Option.{none-some, same_Some}

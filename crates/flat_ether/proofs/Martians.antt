@@ -253,7 +253,7 @@ module _ (c : Config) (l : Link) where
       ap (λ (x : Tally). x.2) (acts_count 0 (host_up c l) new acts refl done)
       ∙ ap (λ (n : ℕ). more_by n 0) (omega (arith))
 
--- ---- none of them comes to the machine
+-- ---- no martian arrives at the machine
 
 pub no_martian : (c : Config) (mac : Mac) (f : List ℕ)
     → All (λ packet. is_martian c packet ≡ false) (packets_in c mac (Comes_in f))

@@ -56,7 +56,7 @@ not_own c o packet is not_addr not_bcast own from =
     go (inl e) = first (or_cases (ip_source packet == o.addr) (ip_source packet == o.bcast) e)
     go (inr e) = not_loopback (sym from.source ∙ eqb-true (ip_source packet) loopback e)
 
--- ---- what comes to a host
+-- ---- packets that arrive at a host
 
 no_arp : Arp ≡ Packet → ⊥
 no_arp e = cc

@@ -43,8 +43,8 @@ module _ (c : Config) (l : Link) where
     answer = each-weaker (Sent.more_made c l F G G') s.answer good.answer;
   }
 
-  -- What an act makes of a machine and its link, after these frames came and these packets were given: `then'` are the
-  -- frames that came then.
+  -- An act on a machine and its link, after these frames arrived and these packets were given: `then'` are the frames
+  -- that have arrived afterwards.
   record Makes (F G then' : List (List ℕ)) (old new : State) (link : LinkState) (packets out : List (List ℕ)) : Type 0
     where
       turns : List Turn
@@ -60,7 +60,7 @@ module _ (c : Config) (l : Link) where
   quiet : (F G : List (List ℕ)) (s t : State) (link : LinkState) → t ≡ s → Good F G link → Makes F G F s t link [] []
   quiet F G s t link e good = record { turns = []; leads = e; in' = refl; good = same F G link good; sent = tt }
 
-  -- ---- what goes
+  -- ---- frames that are sent
 
   sent_list : (F G : List (List ℕ)) (f : Option (List ℕ)) → ((x : List ℕ) → f ≡ Some x → IsFrameSent c l F G x)
       → Each (IsFrameSent c l F G) (option_to_list f)
@@ -281,7 +281,7 @@ module _ (c : Config) (l : Link) where
 
   -- ---- all of them
 
-  -- the frames that came before acts and in them, the last one first
+  -- the frames that arrived before acts and during them, the last one first
   abbrev all_then : List HostAct → List (List ℕ) → List (List ℕ)
   all_then [] F = F
   all_then (act ∷ acts) F = all_then acts (frames_then act F)

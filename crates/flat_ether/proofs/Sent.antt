@@ -1,4 +1,4 @@
--- What goes out on the link: where each packet comes from, and to whom it goes.
+-- The frames that a host sends: the source of each packet, and its destination on the link.
 use Rattle.std.proofs.Common.{◌≡◌, ◌≢◌, ◌⊎◌, inl, inr, ℕ, Bool, true, false, cond, List, [], ◌∷◌, ◌++◌, length, take, drop, Option, Some, None, refl, sym, ap, ◌∙◌, subst, zero, suc, ◌+◌, ◌-◌, add-one, get_or}
 use Rattle.std.specs.Prelude.{Contains, ◌==◌, ◌&&◌, ◌||◌, not, filter, is_some, map, nat_lt, position, slice_get, remove}
 use Rattle.std.specs.List.{AllByRecursion as Each}
@@ -407,9 +407,9 @@ module _ (c : Config) (l : Link) (F G : List (List ℕ)) where
       (or_given first gives_request (or_given (gives_claim s) gives_reply (claim_given s good) reply_given)
       request_given) held_given) answer_given
 
-  -- ---- what comes, and the clock
+  -- ---- frames that arrive, and the clock
 
-  -- a change of what no packet and no address depends on
+  -- a change that no packet and no address depends on
   same_good : (s t : LinkState) → IsGood s → t.config ≡ s.config → t.link ≡ s.link → t.neighbours ≡ s.neighbours
       → t.held ≡ s.held → t.answer ≡ s.answer → IsGood t
   same_good s t good a b n h w = record {
@@ -535,7 +535,7 @@ module _ (c : Config) (l : Link) (F G : List (List ℕ)) where
       go true d = same_good s _ good refl refl refl refl refl
       go false d = inner (nat_lt 0 s.unreachables)
 
--- ---- a frame more came
+-- ---- one more frame arrived
 
 -- a neighbour is neither this host nor 0
 neighbour_other : (c : Config) (l : Link) (ip : ℕ) → is_neighbour c l ip ≡ true → (ip ≢ c.addr) × (ip ≢ 0)

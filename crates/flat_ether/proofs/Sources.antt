@@ -1,4 +1,4 @@
--- The packets that a machine gives to the link have an address of its own as their source.
+-- The packets that a machine gives to the link have one of its addresses as their source.
 use Rattle.std.proofs.Common.{◌≡◌, ℕ, ◌+◌, ◌*◌, ◌/◌, ◌%◌, Bool, true, false, List, [], ◌∷◌, ◌++◌, length, map, take, drop, refl, sym, ap, ◌∙◌, subst, eq-eqb, arith, Option, Some, None, cond, inl, inr}
 use Rattle.std.specs.Prelude.{◌==◌, ◌||◌, filter_map, unwrap_or}
 use Rattle.std.specs.List.{AllByRecursion as Each, cons_option}
@@ -28,7 +28,7 @@ use Rattle.flat_model.proofs.Laws.{by_choice, by_case, each-append, each-find, e
 use Rattle.flat_wire.specs.Wire.{given, packet_out}
 use Rattle.flat_ether.specs.Laws.{IsOwn}
 
--- ---- what an arrival leaves as it was
+-- ---- what an arrival doesn't change
 
 module _ (c : Config) (out : List Item) where
   abbrev As : State → Type 0
@@ -162,7 +162,7 @@ module _ (c : Config) (out : List Item) where
   as_receives fd most [] old new reply k h = as_refused old new reply _ k h
   as_receives fd most (d ∷ later) old new reply k h = subst As (sym h.1) k
 
--- ---- whose address a packet bears
+-- ---- the source address of a packet
 
 four : (n : ℕ) → 65536 * (256 * (n / 65536 / 256) + n / 65536 % 256) + (256 * (n % 65536 / 256) + n % 65536 % 256) ≡ n
 four n = omega arith
@@ -348,7 +348,7 @@ holds_then : (P : List ℕ → Type 0) (o : Option (List ℕ)) (packets : List (
 holds_then P None packets h later = later
 holds_then P (Some packet) packets h later = (h, later)
 
--- what holds of each packet that waits for the link holds of each that the machine gave
+-- a property of each packet that waits for the link is one of each packet that the machine gave
 pub given_each : (c : Config) (P : List ℕ → Type 0)
     → ((s : State) → IsSourced c s → Each (λ (item : Item). P item.bytes) s.output) → (old new : State)
     → (turns : List Turn) → IsSourced c old → Leads exact_ledger old turns new → Each P (filter_map packet_out turns)
@@ -358,7 +358,7 @@ given_each c P holds old new (turn ∷ turns) k (is, mid, step, later) =
     (gave P old mid turn.reply (holds old k) turn.event step)
     (given_each c P holds mid new turns (goes_on_sourced c old mid turn.event turn.reply k is step) later)
 
--- each packet that it gave has an address of its own as its source
+-- each packet that it gave has one of its addresses as its source
 pub given_own : (c : Config) (old new : State) (turns : List Turn) → IsSourced c old → Leads exact_ledger old turns new
     → Each (IsOwn c) (filter_map packet_out turns)
 given_own c = given_each c (IsOwn c) (λ s k. k.output)

@@ -54,7 +54,7 @@ pub distinct_stays : (ns : List Neighbour) → AreDistinct ns
     → AreDistinct (filter neighbour_stays (map neighbour_aged ns))
 distinct_stays ns h = distinct_filter (map neighbour_aged ns) (distinct_map ns h)
 
--- ---- a neighbour that is asked again keeps its address
+-- ---- a neighbour that gets another request keeps its address
 
 pub each_again : (P : Neighbour → Type 0) → ((n : Neighbour) → P n → P (asked_again n))
     → (ns : List Neighbour) (i : ℕ) (d : Neighbour) → Each P ns → Each P (slice_set ns i (asked_again (get_or ns i d)))

@@ -59,7 +59,7 @@ TakesFrame f old new = ReceivesKind (kind_of old.link.config old.link.link.mac f
 -- ---- a frame is sent
 
 -- what happens to the machine's packets, one after another, until one is sent: the frame, the packets that still wait
--- for the link, and the link then
+-- for the link, and the link afterwards
 pub record Drained : Type 0 where
   pub frame : Option (List ℕ)
   pub output : List Item

@@ -204,7 +204,7 @@ abbrev pub asks : ℕ → LinkState → LinkState
 asks hop s =
     if is_some (neighbour_place hop s.neighbours) then s else record s { neighbours = put (unknown hop) s.neighbours }
 
--- what is sent now, and the link then
+-- the frame sent now, if there is one, and the link afterwards
 abbrev pub Gives : Type 0
 Gives = Option (List ℕ) × LinkState
 

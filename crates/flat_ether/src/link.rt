@@ -7,7 +7,7 @@ use crate::sizes::ETHER_MTU;
 use flat_model::Config;
 use params::LIMITED_BROADCAST;
 
-/// What a host has to know of its link, apart from its IP addresses.
+/// The configuration of a host's link, apart from the IP addresses.
 #[derive(Clone, Copy, Debug, PartialEq, Eq)]
 pub struct Link {
     /// Its own hardware address.

@@ -1,4 +1,4 @@
--- Fragments: cuts, and what an overlay leaves.
+-- Fragments: cuts, and the map after an overlay.
 pub mod Grid
 pub mod Maps
 pub mod Overlaid

@@ -17,7 +17,7 @@ use Rattle.flat_model.specs.declared.counters.Why.{Why}
 use Rattle.flat_model.specs.declared.counters.Why.TheVariants.{TooSmall, BadVersion, BadHeaderLength, Options, BadSum, BadLength, TooShort, CantForward, BadFragment, FragmentDropped, NoProtocol, UdpHeaderDrops, UdpBadLength, UdpBadSum, UdpNoPort, UdpNoPortBroadcast, UdpFullSocket, NoBufs}
 use Rattle.flat_model.proofs.Laws.{by_choice, by_case}
 
--- a packet that ends isn't a send
+-- counting a dropped packet doesn't change the number of sends
 pub counted-localout : (why : Why) (c : Counters) → value_of IpLocalout (counted why c) ≡ value_of IpLocalout c
 unfolding counted
 counted-localout TooSmall c = refl

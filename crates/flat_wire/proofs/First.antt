@@ -1,4 +1,4 @@
--- The first machine: what its runs give out.
+-- The first machine: the packets that its runs transmit.
 use Rattle.std.proofs.Common.{◌≡◌, ◌≢◌, ℕ, zero, suc, ◌*◌, ◌^◌, ◌<◌, Bool, true, false, List, [], ◌∷◌, length, refl, sym, ◌∙◌, ap, subst, arith, Option, Some, None, cond}
 use Rattle.std.specs.Prelude.{◌==◌, not, is_some, unwrap_or}
 use Rattle.std.specs.List.{AllByRecursion as Each}
@@ -34,7 +34,7 @@ pub record IsSound (socket : Socket) : Type 0 where
   pub port : (p : ℕ) → socket.port ≡ Some p → p < 65536
   pub peer : (a : Addr) → socket.peer ≡ Some a → IsTarget a
 
--- what an arrival leaves
+-- the state after an arrival
 pub record IsKept (c : Config) (out : List Item) (next count : ℕ) (s : State) : Type 0 where
   pub config : s.config ≡ c
   pub output : s.output ≡ out

@@ -55,7 +55,7 @@ module _ (L M : Ledger) (first second : Config) (sent came : List Turn) (s t : S
       (sym r.2 ∙ e ∙ ap (λ (q : Sending). q.id) (sym b) ∙ n.0))
   unique (z ∷ older) l n x y (inr a) (inr b) e = unique older (omega arith) n.1 x y a b e
 
-  -- what was given out
+  -- a packet that the first machine transmitted
   record IsPart (x : Sending) (p : Part) : Type 0 where
     logged : Among told.log x
     sendable : IsSendable first.mtu x

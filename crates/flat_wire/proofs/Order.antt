@@ -1,4 +1,4 @@
--- The order in which the parts of a cut are laid makes no difference.
+-- The order in which the parts of a cut are overlaid makes no difference.
 use Rattle.std.proofs.Common.{◌≡◌, ℕ, zero, suc, ◌+◌, ◌-◌, ◌*◌, ◌/◌, ◌<◌, ◌≤◌, true, false, List, [], ◌∷◌, length, refl, sym, ◌∙◌, ap, subst, ◌⊎◌, inl, inr, arith, min, Option, Some, None}
 use Rattle.std.specs.Prelude.{IsSome, IfSome, slice_index, Contains, Any, All, slice_index_or}
 use Rattle.std.specs.Option.{option_map}
@@ -15,7 +15,7 @@ use Rattle.flat_model.proofs.Laws.{chunks_needed, chunks_enough, grid, length-gr
 use Rattle.flat_wire.proofs.Grid.{cuts_grid, index_of}
 use Rattle.flat_wire.proofs.Laying.{IsCut, IsIn, IsOf, IsMade, same_index, laying_step}
 
--- the i-th part is among those laid
+-- the i-th part is one of the fragments
 abbrev pub Index : ℕ → List Fragment → ℕ → Type 0
 Index c [] i = ⊥
 Index c (f ∷ fragments) i = (f.offset ≡ i * c) ⊎ Index c fragments i

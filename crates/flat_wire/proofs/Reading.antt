@@ -62,7 +62,7 @@ module _ (mtu : ℕ) (low : 28 ≤ mtu) (x : Sending) (p : Part) (is : IsSendabl
       ∙ take_all p.size (datagram x)
       (omega (arith, length-take p.size (drop p.offset (datagram x)), length-drop p.offset (datagram x)))
 
--- what is for us and came by the wire is for one of our two addresses
+-- a destination that this host accepts from the wire is one of its two addresses
 pub here_is : (c : Config) (ip : ℕ) → (is_ours c ip || (ip == limited_broadcast)) ≡ true → ip ≢ loopback
     → ip ≢ limited_broadcast → (ip ≡ c.addr) ⊎ (ip ≡ c.bcast)
 here_is c ip e not_loopback not_limited_broadcast = outer (or_cases (is_ours c ip) _ e)

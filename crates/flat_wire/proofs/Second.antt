@@ -119,7 +119,7 @@ module _ (S A B mtu : ℕ) (P : Sending → Part → Type 0) (Answered : Sending
         let at : IsGood ports t.mid = good_has_buffers old t.mid held (need_mbufs n) t.answer good t.has_buffers in
         by_choice t.goes_on (λ e h. goes t.mid at h) (λ e h. good_ends t.mid at new NoBufs h)
 
-    -- a datagram comes into the queue of the sockets with a descriptor
+    -- a datagram is appended to the queue of the sockets with a descriptor
     good_queued : (s : State) (fd : ℕ) (d : Datagram) → IsGood ports s → IsGoodDatagram (ports fd) d
         → IsGood ports (change_socket fd (Arrival.with_datagram d) s)
     good_queued s fd d good is = record {

@@ -1,4 +1,4 @@
--- What a send that goes by the wire has.
+-- The properties of a send to the link.
 use Rattle.std.specs.Prelude.{◌≢◌, ℕ, ◌<◌, ◌≤◌, length}
 use Rattle.flat_model.specs.Machine.Sending.{Sending}
 use Rattle.flat_model.specs.Machine.State.{loopback, limited_broadcast}

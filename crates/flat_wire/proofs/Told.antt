@@ -176,7 +176,7 @@ module _ (L : Ledger) (c : Config) (boots : IsConfig c) where
   gets_sockets old new local (Some q) port g = ap (λ (s : State). s.sockets) g.1
   gets_sockets old new local None port g = ap (λ (s : State). s.sockets) g.1
 
-  -- a send that went on, from a state with the sockets of the one before
+  -- a send that passed its tests, from a state with the same sockets as the one before
   module _ (turns : List Turn) (fd : ℕ) (to : Option Addr) (me : Socket) (bytes : List ℕ) (before old new : State)
       (reply : Reply)
       (told : IsTold turns before) (leads : Leads L (boot c) turns before) (at : socket_at fd before ≡ Some me)

@@ -1,4 +1,4 @@
--- A fragment from the wire that was laid at once, from the bytes of its packet: one step of the machine.
+-- A fragment from the wire that is stored directly, from the bytes of its packet: one step of the machine.
 use Rattle.std.proofs.Common.{◌≡◌, ℕ, ◌-◌, ◌<◌, ◌≤◌, Bool, true, false, cond, List, [], ◌∷◌, ◌++◌, length, take, drop, refl, sym, ap, ◌∙◌, subst, arith, inl}
 use Rattle.std.specs.Prelude.{All, count_by, ◌==◌, ◌&&◌, nat_le}
 use Rattle.std.proofs.lemmas.Bool.{true≢false, le-leb, lt-leb, leb-true, leb-false, cond-false}
@@ -65,7 +65,7 @@ module _ (p : PoolView) (s : SocksView) (r : TableView) (a c : Counters) (packet
     (head : IsHeaded packet h) (part : is_fragment (flat_head h) ≡ true)
     (ours : (rest : State) → is_for_us (with_net p s (unfinished p r.datagrams) a rest).config h.dst ≡ true)
     (fits : Fits p h packet) (counts : c ≡ counts_more IpTotal 1 a) where
-  -- the machine before, and once the packet is counted
+  -- the machine before, and after the packet is counted
   abbrev old : State → State
   old rest = with_net p s (unfinished p r.datagrams) a rest
 
@@ -89,7 +89,7 @@ module _ (p : PoolView) (s : SocksView) (r : TableView) (a c : Counters) (packet
       ∙ (λ i. le-leb (length rooms) (p.mbufs - held_mbufs p) (omega (arith, fits.mbufs, few)) i
       && le-leb (count_by is_cluster rooms) (free_clusters p) (omega (arith, fits.clusters, most)) i)
 
-  -- what its header says
+  -- the packet arrives if its fragment arrives with the decoded header
   arrives : (rest new : State) (w : Weight)
       → FragmentArrives exact_ledger (By_wire (length packet)) nothing (flat_head h)
       (record { bytes = drop 20 packet; weight = w }) (counts_packet (old rest)) new
@@ -123,7 +123,7 @@ module _ (p : PoolView) (s : SocksView) (r : TableView) (a c : Counters) (packet
 
   module _ (result : Arrival) (q : PoolView) (t : TableView) (b : Counters)
       (is : ArrivesAtOnce p r.datagrams c packet h result q t.datagrams b) where
-    -- it came in mbufs for these rooms, on these clusters
+    -- the packet is stored in mbufs of this layout, with these clusters
     comes_in : (rest new : State) (cs : List ℕ) (rooms : List Room) (w : Weight) → IsAccounted p (old rest) nothing
         → wire (length packet) ≡ rooms → length rooms ≤ 2 → count_by is_cluster rooms ≤ 1
         → length cs ≡ count_by is_cluster rooms
@@ -199,7 +199,7 @@ module _ (p : PoolView) (s : SocksView) (r : TableView) (a c : Counters) (packet
           λ i. machine (record rest { unfinished = unfinished q t.datagrams; counters = b })
           (λ fd. beside.socks.shows fd i) s.pcbs
 
-      -- what the parts keep then
+      -- the parts are kept
       pub laid : KeepsParts (net_seen p s r a) [] (net_seen q s t b) (in_hand result)
       laid = record {
         accounts = λ rest held acc. as_held held (in_hand result)
@@ -218,7 +218,7 @@ module _ (p : PoolView) (s : SocksView) (r : TableView) (a c : Counters) (packet
         parts = subst (λ (hand : List ℕ). KeepsParts (net_seen p s r a) [] (net_seen q s t b) hand) none laid;
       }
 
--- its datagram is whole, and went to the sockets
+-- its datagram is complete, and was delivered to the sockets
 pub came_whole : {p q : PoolView} {s : SocksView} (r t : TableView) {a b c : Counters} {packet : List ℕ} {h : IpHead}
     {d : ℕ} {u : NetView} (g : IpHead) (head : IsHeaded packet h) (part : is_fragment (flat_head h) ≡ true)
     → ((rest : State) → is_for_us (with_net p s (unfinished p r.datagrams) a rest).config h.dst ≡ true)

@@ -129,7 +129,7 @@ sent_called s v h fd to bytes result is e can sent =
       inside = record { stack = t.stack; mtu = sent.mtu ∙ is.mtu; looped = sent.none };
     }
 
--- the fields of a stack after a packet came
+-- the fields of a stack after a packet arrived
 pub come_called : (s : Fields) (v : StackView) (h : Host) (packet : List ℕ) → IsStackInside s → seen_in s ≡ v
     → IsEvent (Comes packet) → HasCome (arrival_view s.host) packet (arrival_view h) → IsReady h.pool h.reass
     → KeepsOutput s.host.net h.net → Called v (Comes packet) Done (record s { host = h })

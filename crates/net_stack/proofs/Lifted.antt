@@ -85,7 +85,7 @@ pub record Stepped (s : StackView) (event : Event) (reply : Reply) (n : StackVie
   pub step : Step (state_of s) event reply (state_of n)
   pub stack : IsStack n
 
--- a step of the machine whose parts fit together again, under the same configuration
+-- a step of the machine, under the same configuration, after which the parts satisfy the invariant together
 pub stepped : (s n : StackView) (event : Event) (reply : Reply) → IsStack s → IsEvent event → n.config ≡ s.config
     → IsSocks n.pool n.socks → IsReady n.pool n.reass → IsOutputQueue n.pool n.output
     → Moves s.pool (stack_chains s) n.pool (stack_chains n) → Step (state_of s) event reply (state_of n)

@@ -1,4 +1,4 @@
--- A send whose packets that come back arrive.
+-- A send, and the arrival of its packets that come back.
 use Rattle.std.proofs.Common.{◌≡◌, ℕ, ◌+◌, List, ◌++◌, Option, refl, sym, ap, subst, arith}
 use Rattle.std.specs.Prelude.{Result}
 use Rattle.flat_model.specs.Machine.State.{State}

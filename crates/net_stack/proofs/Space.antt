@@ -1,4 +1,4 @@
--- The buffers of a packet are free if two mbufs are, and a cluster if it takes one.
+-- The buffers of a packet are free if two mbufs are, and, for a packet that takes a cluster, a cluster is.
 use Rattle.std.proofs.Common.{◌≡◌, ℕ, ◌<◌, false, true, sym, subst, arith}
 use Rattle.flat_model.specs.Amounts.Layout.{wire}
 use Rattle.mbuf_chain.specs.Chain.{PoolView}

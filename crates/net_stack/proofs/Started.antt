@@ -1,4 +1,4 @@
--- How a stack starts, and what it leaves.
+-- How a stack starts, and the pool after it ends.
 use Rattle.std.proofs.lemmas.List.{length-replicate}
 use Rattle.mbuf_pool.specs.Store.{StoreView, free_store, free_cluster}
 use Rattle.std.proofs.Common.{◌≡◌, ℕ, ◌*◌, ◌≤◌, List, [], ◌++◌, length, None, sym, ap, ◌∙◌, subst, arith}
@@ -106,7 +106,7 @@ started config s is h = record {
 
 -- ---- the end
 
--- a pool whose chains have all gone
+-- a pool whose chains were all freed
 gone : (config : Config) (p q : PoolView) (xs : List ℕ) → config.mbufs ≡ p.mbufs → config.clusters ≡ p.clusters
     → IsAll p xs → Moves p xs q [] → q ≡ free_pool config
 gone config p q xs em ec all m = moves_nothing {p = free_pool config} {q = q} (record {
@@ -116,7 +116,7 @@ gone config p q xs em ec all m = moves_nothing {p = free_pool config} {q = q} (r
   owned = λ k. omega (arith, m.owned k, all k, free_live config k);
 })
 
--- once the sockets ended
+-- after the sockets were closed
 pub record SocksGone (s : Fields) (q : PoolView) : Type 0 where
   pub reass : ReassKept s.host.pool q s.host.reass
   pub output : OutputKept s.host.pool q s.host.net.out
@@ -137,7 +137,7 @@ socks_gone s q is m =
           (λ k. omega (arith, times-append k xs zs))) is.output;
     }
 
--- once the unfinished datagrams ended too
+-- after the unfinished datagrams were freed, too
 pub record ReassGone (s : Fields) (r : PoolView) : Type 0 where
   pub output : OutputKept s.host.pool r s.host.net.out
   pub moves : Moves s.host.pool (held_all s.host.pool s.host.reass.datagrams
@@ -162,7 +162,7 @@ reass_gone s q r is m n =
       moves = both;
     }
 
--- once all ended
+-- after everything was freed
 pub all_gone : (s : Fields) (r t : PoolView) → IsStack (stack_of s) → ReassGone s r
     → Moves r (numbers r s.host.net.out) t [] → t ≡ free_pool s.config
 all_gone s r t is g n =

@@ -1,4 +1,4 @@
--- An address that is reached and isn't the machine's own: it's read as it stands.
+-- An address that an interface leads to and that isn't the machine's own: it's used as given.
 use Rattle.std.proofs.Common.{◌≡◌, ◌≢◌, ℕ, Bool, true, false, ◌==◌, not, cond, List, Option, Some, None, refl, sym, ap, ◌∙◌, ◌⊎◌, inl, inr}
 use Rattle.std.specs.Prelude.{is_some}
 use Rattle.std.proofs.lemmas.Bool.{false≢true, true≢false}

@@ -23,7 +23,7 @@ has_port local p b e =
 same_rest : (a j k : ℕ) → j < k → k < 3977 → (a + j) % 3977 ≡ (a + k) % 3977 → ⊥
 same_rest a j k lt most e = omega arith
 
--- the ports of a whole turn are different
+-- the ports in one pass through the circle are all different
 pub apart_ports : (last : Option ℕ) (j k : ℕ) → j < k → k < 3977 → port_after last j ≡ port_after last k → ⊥
 apart_ports None j k lt most e = same_rest 0 j k lt most (omega arith)
 apart_ports (Some last) j k lt most e = same_rest (last - 1023) j k lt most (omega arith)

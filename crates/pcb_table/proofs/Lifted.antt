@@ -1,4 +1,4 @@
--- What is said of blocks holds of the sockets of each machine that has them.
+-- A property of the blocks holds of the sockets of each machine that has these blocks.
 use Rattle.std.proofs.Common.{◌≡◌, ℕ, Bool, true, false, ◌&&◌, ◌==◌, not, cond, List, [], ◌∷◌, map, filter, find, Option, Some, None, option_map, refl, ap, ◌∙◌}
 use Rattle.std.specs.Option.{option_or}
 use Rattle.flat_model.specs.declared.lookup_key.LookupKey.{LookupKey}

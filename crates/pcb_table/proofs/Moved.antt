@@ -1,8 +1,8 @@
--- A list whose elements are moved by one place, a step at a time.
+-- A list whose elements move down by one index, one step at a time.
 use Rattle.std.proofs.Common.{◌≡◌, ℕ, zero, suc, ◌+◌, ◌<◌, List, [], ◌∷◌, length, get_or, set, subst, ap, refl, arith}
 use Rattle.std.specs.Prelude.{remove}
 
--- the element after the one that goes takes its place, and goes itself
+-- removing an element: the one after it is copied to its index, and then that one is removed
 remove_next : {X : Type 0} (xs : List X) (i : ℕ) (d : X) → suc i < length xs
     → remove (set xs i (get_or xs (suc i) d)) (suc i) ≡ remove xs i
 remove_next [] i d lt = absurd (omega arith)

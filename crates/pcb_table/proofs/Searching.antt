@@ -1,4 +1,4 @@
--- The youngest and the best block of a list, one block further on.
+-- The youngest and the best block of a list, after one more block.
 use Rattle.std.proofs.Common.{◌≡◌, ◌≢◌, ℕ, zero, suc, ◌+◌, ◌<◌, ◌≤◌, Bool, true, false, ◌&&◌, ◌==◌, cond, List, [], ◌∷◌, ◌++◌, take, take_all, ◌-◌, drop, length, get_or, Option, Some, None, is_some, find, count_by, refl, sym, ap, ◌∙◌, subst, arith, ◌⊎◌, inl, inr, append_assoc, append-nil}
 use Rattle.std.specs.Option.{option_or}
 use Rattle.std.proofs.lemmas.List.Folds.{find-append}
@@ -10,7 +10,7 @@ use Rattle.pcb_table.specs.declared.block.Block.{Block}
 use Rattle.pcb_table.specs.Inside.Search.{does_agree, from_port, has_port, youngest_block, best_block}
 use Rattle.pcb_table.specs.Apart.{plain, does_match, has_score}
 
--- ---- one block further on
+-- ---- one more block
 
 pub option_or-None : {X : Type 0} (o : Option X) → option_or o None ≡ o
 option_or-None None = refl

@@ -78,7 +78,7 @@ IsCall old event reply new =
 abbrev pub packet_key : ℕ → ℕ → Addr → LookupKey
 packet_key destination port source = record { local = Some destination; port = Some port; peer = Some source }
 
--- ---- a block's ends
+-- ---- a block's addresses and ports
 
 -- with 0 where unset
 abbrev pub local_of : Block → Addr

@@ -1,4 +1,4 @@
--- What is done by hand, on frames and on what they carry.
+-- Changes by hand to frames and the packets in them.
 use Rattle.std.proofs.Common.{◌≡◌, ℕ, ◌<◌, ◌≤◌, List, [], ◌∷◌, ◌++◌, length, map, take, get_or, Option, sym, ap, ◌∙◌, cond, arith}
 use Rattle.std.specs.Prelude.{◌&&◌, nat_lt, slice_get, swap, option_to_list}
 use Rattle.std.proofs.lemmas.Bool.{and_from, lt-ltb}

@@ -1,4 +1,4 @@
--- Whatever is drawn, a packet that goes under way or comes is one of those that there were.
+-- Whatever the generator draws, a packet that is added or arrives is one of the packets that there were.
 use Rattle.std.proofs.Common.{ℕ, ◌+◌, ◌-◌, Bool, true, false, List, [], ◌∷◌, ◌++◌, length, map, take, drop, zero, suc, cond}
 use Rattle.std.specs.Prelude.{filter, nat_lt, slice_get, slice_set, slice_index_or, swap, remove, option_to_list}
 use Rattle.std.specs.List.{AllByRecursion as Each}

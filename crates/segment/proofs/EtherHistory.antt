@@ -61,7 +61,7 @@ out_pair : (n : ℕ) (o : Option (List ℕ)) (k : Host) → frames_out (taking n
 out_pair n None k e = refl
 out_pair n (Some f) k e = ap (λ (fs : List (List ℕ)). f ∷ fs) e
 
--- the frames that go are those that it gives
+-- the frames that the link takes are those that the host gives
 pub taking_out : (n : ℕ) (h : Host) → frames_out (taking n h) ≡ (frames_given n h).0
 taking_out zero h = refl
 taking_out (suc n) h = go (taking_out n (gives h).1) (nat_le h.machine.config.mtu ETHER_MTU)
@@ -98,7 +98,7 @@ hosts_get (s ∷ stacks) (l ∷ links) (suc k) = hosts_get stacks links k
 both_each : (R : Host → Host → Type 0) (x y u v : Option Host) → x ≡ u → y ≡ v → AreBoth R x y → AreBoth R u v
 both_each R x y u v e f h = subst (λ p. AreBoth R p v) e (subst (λ q. AreBoth R x q) f h)
 
--- the hosts of two segments, at one place
+-- the hosts of two segments, at one index
 pub at_place : (R : ℕ → Host → Host → Type 0) (old new : SegmentView) (k : ℕ)
     → AtEach R (hosts_of old.stacks old.links) (hosts_of new.stacks new.links)
     → AreBoth (R k) (host_at k old) (host_at k new)
@@ -201,7 +201,7 @@ module _ (k : ℕ) (c : Config) (t : Host) where
   same_config acts old new e from =
       subst (λ (xs : List Config). BeginsHost c acts t (slice_get xs k) (host_at k new)) e from
 
-  -- one host went on by an act, or another one did
+  -- an act on this host, or on another one
   one_went : (act : HostAct) (other : ℕ) (acts : List HostAct) (o : Option Config) (x y : Option Host)
       → (other ≡ k → AreBoth (λ h u. AreHostActs h (act ∷ []) u) x y) → (other ≢ k → y ≡ x)
       → BeginsHost c acts t o y → BeginsHost c ((if other == k then if_host x act else []) ++ acts) t o x

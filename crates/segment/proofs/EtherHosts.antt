@@ -47,7 +47,7 @@ joined_apart cs d all pass i k a b h e f = by (get_last_or cs d a i e) (get_last
         told_apart a b (subst (λ (x : Config). are_apart x b ≡ true) e.1 (all_pass (are_apart d) cs k b pass f))
     by (inr e) (inr f) = absurd (h (e.0 ∙ sym f.0))
 
--- ---- what an act leaves there
+-- ---- the hosts after an act
 
 both_some : (x : Option StackView) (y : Option LinkState) (h : Host) → host_of_halves x y ≡ Some h
     → (s : StackView) × (l : LinkState) × (x ≡ Some s) × (y ≡ Some l)
@@ -150,7 +150,7 @@ configs_on (Loses place) old new framed is all = subst (λ (w : SegmentView). Al
 configs_on (Repeats place) old new framed is all = subst (λ (w : SegmentView). AllApart w.configs) (sym is) all
 configs_on (Swaps place other) old new framed is all = subst (λ (w : SegmentView). AllApart w.configs) (sym is) all
 
--- ---- and what all acts leave
+-- ---- and after all acts
 
 all_apart : (acts : List Act) (v last : SegmentView) → GoByFrames acts → AreActs v acts last → AllApart v.configs
     → AllApart last.configs

@@ -1,4 +1,4 @@
--- What comes to a host of an Ethernet segment is what its hosts gave, or what came from outside.
+-- The frames that arrive at a host of an Ethernet segment are those that its hosts gave, or came from outside.
 use Rattle.std.proofs.Common.{◌≡◌, ℕ, ◌+◌, List, [], ◌∷◌, ◌++◌, length, zero, suc, Bool, true, false, Option, None, Some, refl, sym, ap, ◌∙◌, subst, arith, append_assoc}
 use Rattle.std.specs.Prelude.{slice_get, ◌==◌, ◌&&◌, nat_lt, if◌then◌else◌, Contains}
 use Rattle.std.specs.List.{AllByRecursion as Each, cons_option}
@@ -95,7 +95,7 @@ module _ (P : List ℕ → Type 0) where
       (each_entering P old.chances (frames_of old) old.random
       (each_below (hosts_in old) (length old.links) given))))
 
-  -- what a host gives now is among what it gives from now on
+  -- the frames that a host gives now are among those of all its acts from now on
   given_now : (o : Option Host) (acts : List HostAct)
       → ((f : List ℕ) → Contains (frames_out (taking_in o ++ acts)) f → P f) → Each P (given_in o)
   given_now None acts up = tt
@@ -155,7 +155,7 @@ module _ (P : List ℕ → Type 0) where
         (sym (out_append (host_acts k v act) (acts_of k mid acts last done)))
         (contains_after (frames_out (host_acts k v act)) (frames_out (acts_of k mid acts last done)) f there))
 
-    -- what comes to the host at this place
+    -- the frames that arrive at the host at this place
     pub frames_come : (acts : List Act) (v : SegmentView) (done : AreActs v acts last) → GoByFrames acts
         → Fly v.flight → Up acts v done → Each P (heard_of j acts) → Each P (frames_in (acts_of j v acts last done))
     frames_come [] v done framed flies up outside = tt

@@ -99,7 +99,7 @@ hosts_long (x ∷ stacks) [] k h g = absurd (omega arith)
 hosts_long (x ∷ stacks) (y ∷ links) zero h g = omega arith
 hosts_long (x ∷ stacks) (y ∷ links) (suc k) h g = omega (arith, hosts_long stacks links k (omega arith) (omega arith))
 
--- the host at a place whose stack and link are these
+-- the host with the stack and the link at this index
 pub hosts_here : (stacks : List StackView) (links : List LinkLayer) (k : ℕ) (s ds : StackView) (l dl : LinkLayer)
     (d : Host) → k < length stacks → k < length links → s ≡ get_or stacks k ds → l ≡ get_or links k dl
     → halves s (link_seen l) ≡ get_or (hosts_of stacks (map link_seen links)) k d
@@ -122,7 +122,7 @@ walk_none R old now place w past =
         let o : slice_get old k ≡ None = sym (w.rest k h) ∙ n in
         subst (λ x. AreBoth (R k) x (slice_get now k)) (sym o) (subst (λ y. AreBoth (R k) None y) (sym n) tt)
 
--- what the hosts at one more place give
+-- the frames of the hosts up to the next place
 pub below_next : (place : ℕ) (R : ℕ → Host → Host → Type 0) (old now : List Host) (h d : Host)
     → IsWalked R old now place → place < length now → h ≡ get_or now place d
     → frames_below old (place + 1) ≡ frames_below old place ++ sent_by place (frames_given FRAMES h).0
@@ -147,7 +147,7 @@ pub then_hear : (a b c : Host) (xs ys : List (List ℕ)) → ReceiveEach xs a b 
 then_hear a b c [] ys same later = subst (λ (h : Host). ReceiveEach ys h c) same later
 then_hear a b c (x ∷ xs) ys (mid, heard, rest) later = (mid, heard, then_hear mid b c xs ys rest later)
 
--- the frame, if it goes there
+-- the frame, if it's for the host at this place
 abbrev pub if_heard : ℕ → Mac → Flying → List (List ℕ)
 if_heard place mac f = cons_option (if frame_goes_to place mac f then Some f.packet else None) []
 
@@ -236,7 +236,7 @@ walked_past R old stacks ss links ls place w past a b =
     ∙ ap (λ (ys : List LinkLayer). hosts_of stacks (map link_seen ys)) b))
     (walk_none R old (hosts_of stacks (map link_seen links)) place w (omega (arith, hosts_short stacks links)))
 
--- what a host at one more place gives
+-- the frames of the host at the next place
 pub below_by : (place : ℕ) (R : ℕ → Host → Host → Type 0) (old : List Host) (stacks : List StackView)
     (links : List LinkLayer) (s : StackView) (l : LinkLayer)
     → IsWalked R old (hosts_of stacks (map link_seen links)) place

@@ -1,4 +1,4 @@
--- What the hosts give, one after another.
+-- The packets that the hosts give, one host after another.
 use Rattle.std.proofs.Common.{◌≡◌, ℕ, ◌+◌, ◌<◌, List, ◌++◌, length, get_or, Option, Some, sym, ap, ◌∙◌, add-one, arith}
 use Rattle.std.specs.Prelude.{slice_get}
 use Rattle.net_stack.specs.Stack.{StackView}

@@ -16,7 +16,7 @@ use Rattle.segment.proofs.BareActs.{AreBare}
 use Rattle.segment.proofs.Taking.{then_calls}
 use Rattle.segment.proofs.Walking.{below_or, get_set_same, get_set_other, get_past}
 
--- a stack as `boot` gives it, from which these turns led here
+-- a stack that these turns lead to from a booted one
 abbrev pub Started : Config → List Turn → StackView → Type 0
 Started c turns t = (start : StackView) × IsConfig c × (state_of start ≡ boot c) × AreCalls start turns t
 
@@ -50,7 +50,7 @@ get_within [] i x e = absurd (none-some _ e)
 get_within (y ∷ xs) zero x e = omega arith
 get_within (y ∷ xs) (suc i) x e = omega (arith, get_within xs i x e)
 
--- lists whose elements go together are of one length
+-- lists that are related element by element have the same length
 pub AtEach-length : {X : Type 0} (R : ℕ → X → X → Type 0) (xs ys : List X) → AtEach R xs ys → length xs ≡ length ys
 AtEach-length R [] [] h = refl
 AtEach-length R [] (y ∷ ys) h = absurd (h 0)
@@ -103,7 +103,7 @@ module _ (k : ℕ) (c : Config) (t : StackView) where
           (subst (λ n. slice_get (old.configs ++ d ∷ []) n ≡ Some d) e (get_last old.configs d))
           (subst (λ n. slice_get (old.stacks ++ j.stack ∷ []) n ≡ Some j.stack) f (get_last old.stacks j.stack))))
 
-  -- a host that went on by some turns
+  -- a host after more turns
   on : (turns more : List Turn) (o : Option Config) (x y : Option StackView) → (o ≡ None → x ≡ None → more ≡ [])
       → AreBoth (λ s u. AreCalls s more u) x y → Begins c turns t o y
       → Begins c (more ++ turns) t o x

@@ -66,7 +66,7 @@ sent_next sender i packets =
 
 -- ---- packets that come
 
--- the packet, if it goes there
+-- the packet, if it's for the host at this place
 abbrev pub if_goes : ℕ → Config → Flying → List (List ℕ)
 if_goes place c f = cons_option (if goes_to place c f then Some f.packet else None) []
 
@@ -104,7 +104,7 @@ pub come_not : (place : ℕ) (c : Config) (f : Flying) (s t : StackView) → goe
 come_not place c f s t is same =
     subst (λ (b : Bool). AreCalls s (comes (cons_option (if b then Some f.packet else None) [])) t) (sym is) same
 
--- the number of packets that go there, after one more was examined
+-- the number of packets for this host, after one more was examined
 pub counted_next : (place : ℕ) (c : Config) (i : ℕ) (frames : List Frame) (frame : Frame) (n m : ℕ) (goes : Bool)
     → i < length frames → frame ≡ get_or frames i frame
     → n ≡ length (received place c (map flying (take i frames))) → goes ≡ goes_to place c (flying frame)

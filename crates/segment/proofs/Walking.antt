@@ -36,7 +36,7 @@ get_past [] i h = refl
 get_past (x ∷ xs) zero h = absurd (omega arith)
 get_past (x ∷ xs) (suc i) h = get_past xs i (omega arith)
 
--- the hosts below a place went on so, and the others are as they were
+-- the hosts below a place have changed by this relation, and the others are unchanged
 pub record IsWalked {X : Type 0} (R : ℕ → X → X → Type 0) (old now : List X) (place : ℕ) : Type 0 where
   pub done : (k : ℕ) → k < place → AreBoth (R k) (slice_get old k) (slice_get now k)
   pub rest : (k : ℕ) → place ≤ k → slice_get now k ≡ slice_get old k

@@ -1,4 +1,4 @@
--- What comes to a host of a segment from another's address is what that gave.
+-- A packet that arrives at a host of a segment with another host's address as its source was sent by that host.
 use Rattle.std.proofs.Common.{◌≡◌, ◌≢◌, ◌⊎◌, inl, inr, ℕ, List, [], ◌∷◌, ◌++◌, length, zero, suc, Bool, true, false, Option, None, Some, refl, sym, ap, ◌∙◌, subst, arith}
 use Rattle.std.specs.Prelude.{slice_get, ◌==◌, ◌&&◌, nat_lt, if◌then◌else◌, Contains, filter_map}
 use Rattle.std.specs.List.{AllByRecursion as Each, cons_option}
@@ -17,7 +17,7 @@ use Rattle.segment.proofs.Choosing.{each_entering, each_leaving, each_lost, each
 use Rattle.segment.proofs.Hosts.{AreFine, act_fine, none_from, remains}
 use Rattle.segment.specs.Law.{Act, Ether, Joins, Calls, Collects, Delivers, Impairs, Seeds, Loses, Repeats, Swaps, AreActs, called_in, called_of, turns_in, turns_of}
 
--- the packets that turns gave out, and those that came in them
+-- the packets that were transmitted in turns, and those that arrived in them
 abbrev out : List Turn → List (List ℕ)
 out turns = filter_map packet_out turns
 
@@ -34,7 +34,8 @@ contains_each [] ys = tt
 contains_each (x ∷ xs) ys =
     ((0, omega arith, refl), each-weaker (λ y h. (suc h.0, omega (arith, h.1), h.2)) xs (contains_each xs ys))
 
--- what gives gives out, and nothing comes by it; what comes comes
+-- turns in which the link takes packets transmit exactly these, and bring none in; turns in which packets arrive bring
+-- in exactly these
 out_gives : (packets : List (List ℕ)) → out (transmits_of packets) ≡ packets
 out_gives [] = refl
 out_gives (p ∷ packets) = ap (λ ps. p ∷ ps) (out_gives packets)
@@ -58,11 +59,11 @@ each_received Q place c (f ∷ flight) h = go (goes_to place c f) (each_received
     go false later = later
 
 module _ (i j a : ℕ) (G : List ℕ → Type 0) where
-  -- a packet with the address was given by the first
+  -- if a packet has this address as its source, the first host sent it
   abbrev P : List ℕ → Type 0
   P packet = ComesFrom a packet → G packet
 
-  -- what waits anywhere is so, if what waits elsewhere doesn't bear the address
+  -- all waiting packets satisfy P, if no other host's packet has the address as its source
   from_senders : (v : SegmentView) → Each G (waiting_in (slice_get v.stacks i))
       → ((k : ℕ) → i ≢ k → Each (λ p. ¬ ComesFrom a p) (waiting_in (slice_get v.stacks k))) → (k : ℕ)
       → Each P (waiting_in (slice_get v.stacks k))

@@ -31,8 +31,8 @@ chances_at chances place = unwrap_or (slice_get chances place) no_chances
 abbrev pub wait_of : Chances → ℕ → ℕ
 wait_of c number = c.delay + number * (c.jitter + 1) / 2 ^ 32
 
--- What happens to a packet, and the generator then. Each choice takes one number: whether the packet is lost; if not,
--- whether it's repeated; for each copy its delay.
+-- What happens to a packet, and the generator afterwards. Each choice takes one number: whether the packet is lost; if
+-- not, whether it's repeated; for each copy its delay.
 abbrev pub fate_of : Chances → Lcg → Fate × Lcg
 fate_of c g =
     let loss = drawn g in
@@ -52,7 +52,7 @@ copies_before Lost f later = later
 copies_before (Once wait) f later = waits wait f ∷ later
 copies_before (Twice first second) f later = waits first f ∷ waits second f ∷ later
 
--- those of these packets that are under way then, one after another, and the generator then
+-- the packets under way, in order, of those that were sent, and the generator afterwards
 abbrev pub entering : List Chances → List Flying → Lcg → List Flying × Lcg
 entering chances [] g = ([], g)
 entering chances (f ∷ fs) g =

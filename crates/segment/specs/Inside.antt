@@ -25,7 +25,7 @@ flying f = record { sender = f.sender; packet = take f.len f.room; wait = f.wait
 abbrev pub under_way : Flight → List Flying
 under_way f = map flying f.frames.items
 
--- what is under way once these packets are on the wire, up to the capacity; the generator and the counts then
+-- the packets under way after these were added, up to the capacity; the generator and the counts afterwards
 abbrev pub sent_after : Flight → Impairment → List Flying → List Flying
 sent_after f i fs = take (vec_capacity f.frames) (under_way f ++ (entering i.chances.items fs i.random).0)
 

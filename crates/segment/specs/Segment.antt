@@ -63,25 +63,25 @@ abbrev pub waiting_in : Option StackView → List (List ℕ)
 waiting_in None = []
 waiting_in (Some s) = waiting s
 
--- what the hosts at the first places give to the link
+-- the packets that the hosts at the first places give to the link
 abbrev pub given_below : List StackView → ℕ → List Flying
 given_below stacks zero = []
 given_below stacks (suc place) = given_below stacks place ++ sent_by place (waiting_in (slice_get stacks place))
 
--- what the hosts give, as it's under way then, and the generator then
+-- the packets that the hosts give to the link, as they are under way afterwards, and the generator afterwards
 abbrev pub collected : SegmentView → List Flying × Lcg
 collected v = entering v.chances (given_below v.stacks (length v.stacks)) v.random
 
--- what is due, in the order in which it arrives, and the generator then
+-- the packets that are due, in the order in which they arrive, and the generator afterwards
 abbrev pub leaving : SegmentView → List Flying × Lcg
 leaving v = shuffled v.chances (filter is_due v.flight) v.random
 
--- the part of it that arrives at the host at a place with this configuration
+-- those of them that arrive at the host at a place with this configuration
 abbrev pub received_in : ℕ → Option Config → List Flying → List (List ℕ)
 received_in place None flight = []
 received_in place (Some c) flight = received place c flight
 
--- Each host gave all that waits. It was added after what was under way, up to the capacity.
+-- Each host gave all packets that wait. They were added after those under way, up to the capacity.
 pub record IsCollected (old new : SegmentView) : Type 0 where
   pub configs : new.configs ≡ old.configs
   pub room : new.room ≡ old.room

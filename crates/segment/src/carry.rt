@@ -30,7 +30,7 @@ fn nothing_waits(stacks: &[Stack]) -> bool
     true
 }
 
-/// Each host gives all that waits for its link.
+/// Each host gives all packets that wait for its link.
 fn collect_all<W: Watch>(
     flight: &mut Flight,
     impairment: &mut Impairment,

@@ -25,7 +25,7 @@ copied n k m s to rest is_to is_k is_n =
     ∙ ap (λ (j : ℕ). take j s) (let e : n ≡ min m (length s) = omega (arith, is_n) in e)
     ∙ take_min m s
 
--- after them the room is as it was
+-- the bytes of the buffer after them are unchanged
 pub rest_kept : (n k m : ℕ) (s to room : List ℕ) → to ≡ take k (drop 0 s) → k ≡ n → n ≡ min (length s) m
     → drop n (to ++ drop n room) ≡ drop n room
 rest_kept n k m s to room is_to is_k is_n = drop-append-drop n room to n (omega arith)

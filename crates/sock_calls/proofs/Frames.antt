@@ -1,4 +1,4 @@
--- One receive queue of many takes a step; what a step of the parts leaves as it was.
+-- A step of one receive queue among many; what a step of the parts doesn't change.
 use Rattle.std.proofs.Common.{◌≡◌, ℕ, zero, suc, ◌+◌, ◌<◌, ◌≤◌, List, [], ◌∷◌, ◌++◌, length, map, refl, sym, ap, ◌∙◌, subst, arith, inl, inr}
 use Rattle.std.specs.Prelude.{slice_index_or, slice_set}
 use Rattle.std.proofs.lemmas.Bool.{cases_eq}
@@ -65,7 +65,7 @@ queued_same p q (x ∷ qs) s =
     (λ k. omega (arith, times-append k (chains_of p x) (queued_chains p qs)))) in
     λ j. here j ++ later j
 
--- ---- queue i became v, and the chains `ins` came to it, while `outs` left it
+-- ---- queue i became v, the chains `ins` were added, and the chains `outs` removed
 pub record Steps (p : PoolView) (ins : List ℕ) (qs : List SockBufView) (i : ℕ) (v : SockBufView) (q : PoolView)
     (outs : List ℕ) : Type 0 where
   pub others : (k : ℕ) → (k ≡ i → ⊥) → queues_of q (slice_set qs i v) k ≡ queues_of p qs k

@@ -71,7 +71,7 @@ on_block fd to bytes t f rest b reply looped new at by =
           (same_Some (socket_with f b) me (sym found ∙ e)) by;
     }
 
--- ---- what leaves everything as it was
+-- ---- sends that change nothing
 pub unchanged : {fd : ℕ} {to : Option Addr} {bytes : List ℕ} {errno : Errno} (v : SendView) → CanSend v
     → ((rest : State) → rest.config.mtu ≡ v.net.mtu → IsAccounted v.pool (state_in v rest) nothing
     → SendsOnce exact_ledger fd to bytes (state_in v rest) (Refused errno) [] (state_in v rest))

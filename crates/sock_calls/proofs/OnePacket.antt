@@ -68,7 +68,7 @@ need_link c ip n e = go (is_looped c ip) (ip == c.bcast) e
     go false true e = cc
     go false false e = refl
 
--- a send to another machine goes by the link
+-- a send to another machine uses the link
 pub by_link : (c : Config) (ip : ℕ) → (ip ≢ c.addr) × (ip ≢ c.bcast) × (ip ≢ 2130706433) → Way.Link ≡ way_of c ip
 by_link c ip (apart, one, outside) =
     go (ip == c.addr) (ip == 2130706433) (ip == c.bcast) (ne_eqb ip c.addr apart) (ne_eqb ip 2130706433 outside)

@@ -1,4 +1,4 @@
--- The queue of a descriptor, by its place.
+-- The queue of a descriptor, by its index.
 use Rattle.std.specs.Prelude.{slice_index_or, slice_set}
 use Rattle.std.proofs.Common.{◌≡◌, ℕ, zero, suc, ◌+◌, ◌<◌, List, [], ◌∷◌, ◌++◌, length, refl, sym, ap, ◌∙◌, subst, length-set, arith}
 use Rattle.arrayvec.specs.ArrayVec.{ArrayVec, with_items}
@@ -13,7 +13,7 @@ use Rattle.sock_calls.specs.Sockets.{AreEmpty, StepsAt, from_three, queue_at, qu
 pub at_three : (bs : List SockBufView) (i fd : ℕ) → i + 3 ≡ fd → queue_at (from_three bs) fd ≡ queue_at bs i
 at_three bs i fd e = let three : fd ≡ suc (suc (suc i)) = omega (arith, e) in ap (queue_at (from_three bs)) three
 
--- a step of a place is one of its descriptor
+-- a step of the queue at an index is one of its descriptor
 pub steps_three : {p q : PoolView} {ins outs : List ℕ} {bs cs : List SockBufView} {i : ℕ} (fd : ℕ) → i + 3 ≡ fd
     → StepsAt p ins bs i q outs cs → StepsAt p ins (from_three bs) fd q outs (from_three cs)
 steps_three {p} {q} {ins} {outs} {bs} {cs} {i} fd e s = record {
@@ -38,22 +38,22 @@ steps_three {p} {q} {ins} {outs} {bs} {cs} {i} fd e s = record {
 
 -- ---- queues in a vector `v` of the library, which is lent as the slice `bs` and shows as `now`
 
--- what was read at a place
+-- the queue that was read at an index
 pub read_is : {bs now : List SockBufView} {i : ℕ} (d : SockBufView) → bs ≡ now → i < length bs
     → slice_index_or bs i d ≡ queue_at now i
 read_is {bs} {now} {i} d is lt = at_default bs i d no_datagrams lt ∙ ap (λ (l : List SockBufView). queue_at l i) is
 
--- the same at the place of a descriptor
+-- the same for the index of a descriptor
 pub named_is : {bs now : List SockBufView} {i : ℕ} (d : SockBufView) (fd : ℕ) → bs ≡ now → i < length bs → i + 3 ≡ fd
     → slice_index_or bs i d ≡ queue_at (from_three now) fd
 named_is {bs} {now} {i} d fd is lt e = read_is d is lt ∙ sym (at_three now i fd e)
 
--- what the vector has once a place of the slice was written
+-- the vector after one element of the slice was written
 pub written : (v : ArrayVec SockBufView) (bs : List SockBufView) (i : ℕ) (y : SockBufView) → bs ≡ v.items
     → (with_items v (slice_set bs i y)).items ≡ slice_set bs i y
 written v bs i y is = items-with_items v (slice_set bs i y) (length-set bs i y ∙ ap length is)
 
--- the step of the queue at a place
+-- the step of the queue at an index
 pub steps_inside : {p q : PoolView} {bs now : List SockBufView} {i : ℕ} {y : SockBufView} (v : ArrayVec SockBufView)
     (d : SockBufView) (ins outs : List ℕ) → bs ≡ v.items → v.items ≡ now → i < length bs
     → ((k : ℕ) → IsSockBuf p (queue_at now k)) → IsOwned p (ins ++ queued_chains p now)

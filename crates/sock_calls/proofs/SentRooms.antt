@@ -20,7 +20,7 @@ use Rattle.ledger.specs.Reserve.{are_free}
 use Rattle.ledger.proofs.Laws.{enough_mbufs}
 use Rattle.sock_calls.specs.Inside.Putting.{IsRouted, way_of}
 
--- ---- rooms and the mbufs laid out so
+-- ---- layouts, and the mbufs with these layouts
 pub laid_count : (cs : List ℕ) (rooms : List Room) → length (laid_on cs rooms) ≡ length rooms
 unfolding laid_on
 laid_count [] [] = refl

@@ -41,7 +41,7 @@ pub queue_weighs : (p : PoolView) (b : SockBufView) → IsSockBuf p b
     → weight_owned p (chains_of p b) ≡ queue_weight (datagrams p b)
 queue_weighs p b is = owned_weighs p (chains_of p b) is.each
 
--- ---- all queues, by place
+-- ---- all queues, by index
 chains_mbufs : (p : PoolView) (bs : List SockBufView)
     → (weight_owned p (queued_chains p bs)).mbufs ≡ sum_by (λ b. (weight_owned p (chains_of p b)).mbufs) bs
 chains_mbufs p [] = refl

@@ -35,7 +35,7 @@ use Rattle.sock_calls.specs.Inside.Storing.{StoresAtEnd}
 use Rattle.sock_calls.specs.Whole.{ArrivesWhole, EndsWhole, HasOne, StoresWhole, TakesWhole, carried_item, one_room}
 use Rattle.sock_calls.proofs.Going.{free_each}
 
--- ---- the cluster that it takes
+-- ---- the cluster that the packet takes
 
 record IsBag (p : PoolView) (is_large : Bool) (o : Option ℕ) (n : ℕ) : Type 0 where
   number : length (bag_of o) ≡ count_by is_cluster (one_room is_large n ∷ [])
@@ -72,7 +72,7 @@ bag p false (Some c) n h = absurd h
 
 -- ---- what happens to a checked packet
 
--- It arrives as its data are delivered, whatever buffers it takes.
+-- The packet arrives if its data are delivered, whichever buffers it takes.
 pub arrives_as : (packet : List ℕ) (end : ℕ) (from to : Addr) (w : Weight) (old new : State) → IsChecked packet end from to
     → GoesTo exact_ledger nothing from (record { bytes = drop 28 (take end packet); weight = w }) to.ip
     (matching_sockets old to.ip (packet_key to.ip to.port from)) old new

@@ -41,7 +41,7 @@ queues_at v = queues_of v.pool v.socks.queues
 abbrev pub IsAccountedAt : NetView → State → Weight → Type 0
 IsAccountedAt v rest held = IsAccounted v.pool (state_at v rest) held
 
--- what is held once these chains are held too
+-- the held weight with these chains added
 abbrev pub held_with : PoolView → Weight → List ℕ → Weight
 held_with p held [] = held
 held_with p held (c ∷ cs) = held_with p (held ⊕ weight_at p c) cs

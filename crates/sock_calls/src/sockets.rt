@@ -249,9 +249,9 @@ impl Socks {
         self.parts.send_any(pool, net, fd, to, bytes)
     }
 
-    /// Removes the oldest datagram from a socket's queue, copies the bytes that fit into `buffer`, and returns its sender
-    /// and the number of bytes copied. The other bytes are lost, and all its buffers are freed (`soreceive`
-    /// of volume 2, chapter 16). The rest of `buffer` is unchanged. It never blocks.
+    /// Removes the oldest datagram from a socket's queue, copies the bytes that fit into `buffer`, and returns the
+    /// sender and the number of bytes copied. The other bytes are lost, and all its buffers are freed (`soreceive` of
+    /// volume 2, chapter 16). The rest of `buffer` is unchanged. It never blocks.
     ///
     /// # Errors
     ///

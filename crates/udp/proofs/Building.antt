@@ -17,7 +17,7 @@ long_string v n long = go v.entries long
     go [] long = omega arith
     go (e ∷ es) long = omega (arith, length-append e.bytes (flat_bytes es))
 
--- the first bytes of a chain whose first mbuf has them
+-- the first bytes of a chain, if its first mbuf has them all
 pub first_bytes : (n : ℕ) (v : ChainView) → n ≤ length (entry_of v 0).bytes
     → take n (entry_of v 0).bytes ≡ take n (string v)
 first_bytes n v long = go v.entries long

@@ -446,7 +446,7 @@ module _ (c : Config) (boots : IsConfig c) where
     mbufs = omega arith;
   }
 
--- ---- what the law says
+-- ---- the law
 
 each_all_of : {X : Type 0} (P : ℕ → Type 0) (w : X → Weight) (xs : List X) → Each (λ x. Each P (w x).bag) xs
     → Each P (all_of w xs).bag

@@ -1,4 +1,4 @@
--- A fragment goes by its whole key.
+-- A fragment is matched by its whole key.
 use Rattle.std.proofs.Common.{◌≡◌, true, ap, eq-eqb}
 use Rattle.std.specs.Prelude.{◌↔◌, ◌==◌}
 use Rattle.std.proofs.lemmas.Bool.{eqb-true, and_parts, and_from}

@@ -1,4 +1,4 @@
--- A send spends its identification, whether or not the output queue takes all of its packets.
+-- A send uses up its identification, whether or not the output queue takes all of its packets.
 use Rattle.std.specs.Prelude.{◌≡◌, refl, ℕ, ◌+◌, ◌%◌, List}
 use Rattle.flat_model.specs.Amounts.Weight.{Item}
 use Rattle.flat_model.specs.Machine.State.{State}

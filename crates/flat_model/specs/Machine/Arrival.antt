@@ -41,7 +41,7 @@ abbrev pub matching_sockets : State → ℕ → LookupKey → List Socket
 matching_sockets s destination q =
     if is_broadcast s.config destination then receivers q s.sockets else option_to_list (best q s.sockets)
 
--- the cause with which a datagram ends that no socket receives
+-- the cause that is counted for a datagram that no socket receives
 abbrev pub no_port : State → ℕ → Why
 no_port s destination = if is_broadcast s.config destination then UdpNoPortBroadcast else UdpNoPort
 

@@ -6,7 +6,7 @@ use Rattle.pcb_table.specs.declared.block.Block.{Block}
 use Rattle.pcb_table.specs.declared.block.Connection.{Connection}
 use Rattle.pcb_table.specs.declared.search.Place.{Place}
 
--- the block's ends are these
+-- the block has the descriptor, the addresses and the ports of this connection
 abbrev pub is_connected_as : Connection → Block → Bool
 is_connected_as c b = has_fd c.fd b && has_four c.local.ip c.local.port c.peer b
 
@@ -40,11 +40,11 @@ Locates fd bs (Some place) = IsLocated fd bs place.index place.block
 abbrev pub port_or_zero : Block → ℕ
 port_or_zero b = unwrap_or b.port 0
 
--- the port of each block is indexed at its place
+-- the port of each block is in the list of ports, at the index of the block
 abbrev pub HasPorts : List Block → List ℕ → Type 0
 HasPorts bs ports = (k : ℕ) (d : Block) → k < length bs → get_or ports k 0 ≡ port_or_zero (slice_index_or bs k d)
 
--- the first n of the ports from a place on are others
+-- none of the n ports from this index on is the port
 abbrev pub PassesLanes : List ℕ → ℕ → ℕ → ℕ → Type 0
 PassesLanes ports port at n = (k : ℕ) → at ≤ k → k < at + n → (get_or ports k 0 == port) ≡ false
 

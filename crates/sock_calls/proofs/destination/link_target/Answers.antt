@@ -13,7 +13,7 @@ use Rattle.pcb_table.specs.Table.{machine, socket_with}
 use Rattle.sock_calls.specs.Inside.Destination.{ChecksSend}
 use Rattle.sock_calls.proofs.destination.link_target.Goals as goal
 
--- what is asked of the length and of a broadcast refuses nothing
+-- neither the tests of the length nor those of a broadcast fail
 unrefused : (M : State) (S : Socket) (a : Addr) (len : ℕ) → len ≤ 9216 → a.ip ≢ M.config.bcast
     → first_fault (address_faults M S (Some a)) ≡ None → a ≡ read_addr M.config a
     → first_fault (send_faults M S (Some a) len) ≡ None

@@ -12,7 +12,7 @@ use Rattle.flat_model.specs.declared.address.Addr.{Addr}
 use Rattle.sock_calls.proofs.Copied.{copied, rest_kept}
 use Rattle.sock_calls.proofs.receive.take_oldest.Goals as goal
 
--- what a chain that was taken leaves once it's freed
+-- the state after the oldest chain is removed and freed
 record Left (p : PoolView) (b : SockBufView) (r : PoolView) (d : SockBufView) (first : Datagram) : Type 0 where
   datagrams : datagrams p b ≡ first ∷ datagrams r d
   ready : IsSockBuf r d

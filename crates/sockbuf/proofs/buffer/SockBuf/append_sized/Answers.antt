@@ -53,7 +53,7 @@ insert-requires-clause-apart c =
     c.link_counted.ensures.change in
     apart_beside c.self.inside.train made.moves c.requires.live beside ready.held
 
--- what is queued then
+-- the queue after the append
 queued : (c : goal.After-self-2-1)
     → Appended c.args.pool.now c.args.self.now c.args.chain c.args.sender c.insert.new.pool
     (record {
