@@ -126,7 +126,7 @@ lost {p} {q} {s} {r} {t} {a} {b} {d} {need} {answer} packet socks owned is is_ne
       parts = asked_keeps d socks owned is;
     }
 
--- the conditions on the chain before the packet arrives
+-- what the arrival of the packet in chain c requires
 pub record IsReadyToArrive (q : PoolView) (s : SocksView) (t : TableView) (q1 : PoolView) (c : ℕ) : Type 0 where
   pub beside : Aside q t s [] q1 (c ∷ [])
   pub header : (chain_of q1 c).front.header ≡ true

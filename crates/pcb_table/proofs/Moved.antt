@@ -2,7 +2,7 @@
 use Rattle.std.proofs.Common.{◌≡◌, ℕ, zero, suc, ◌+◌, ◌<◌, List, [], ◌∷◌, length, get_or, set, subst, ap, refl, arith}
 use Rattle.std.specs.Prelude.{remove}
 
--- removing an element: the one after it is copied to its index, and then that one is removed
+-- removing element i: the next one is copied to index i, and then index i + 1 is removed
 remove_next : {X : Type 0} (xs : List X) (i : ℕ) (d : X) → suc i < length xs
     → remove (set xs i (get_or xs (suc i) d)) (suc i) ≡ remove xs i
 remove_next [] i d lt = absurd (omega arith)
