@@ -34,7 +34,7 @@ pub record IsSound (socket : Socket) : Type 0 where
   pub port : (p : ℕ) → socket.port ≡ Some p → p < 65536
   pub peer : (a : Addr) → socket.peer ≡ Some a → IsTarget a
 
--- the state after an arrival
+-- what an arrival keeps
 pub record IsKept (c : Config) (out : List Item) (next count : ℕ) (s : State) : Type 0 where
   pub config : s.config ≡ c
   pub output : s.output ≡ out

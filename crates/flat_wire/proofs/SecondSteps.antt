@@ -336,7 +336,7 @@ module _ (S A B mtu : ℕ) (P : Sent.Sending → Part → Type 0) (Answered : Se
 
   -- ---- sends
 
-  -- a packet that the second machine sends doesn't have an address of the first as its source
+  -- a packet whose source isn't the first machine's address is good
   own_packet : (x : Sent.Sending) (p : Part) → x.source ≢ S → IsGoodPacket (packet_for x p)
   own_packet x p not from =
       absurd (not (sym (source_read (head_for x p) (take p.size (drop p.offset (datagram x)))) ∙ from.source))

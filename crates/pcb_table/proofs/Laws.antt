@@ -20,7 +20,7 @@ use Rattle.pcb_table.proofs.Steps as steps
 
 -- ---- which descriptors are open
 
--- the descriptors of the list are open
+-- a descriptor is open if and only if it's in the list
 pub open_times : (fd : ℕ) (t : Table) → is_some (block_at fd t) ≡ nat_lt 0 (times fd (descriptors t))
 open_times fd t = is_some-find (has_fd fd) t.blocks ∙ ap (nat_lt 0) (sym (named_times fd t.blocks))
 

@@ -52,7 +52,7 @@ copies_before Lost f later = later
 copies_before (Once wait) f later = waits wait f ∷ later
 copies_before (Twice first second) f later = waits first f ∷ waits second f ∷ later
 
--- the packets under way, in order, of those that were sent, and the generator afterwards
+-- the copies of these packets that are under way afterwards, in order, and the generator afterwards
 abbrev pub entering : List Chances → List Flying → Lcg → List Flying × Lcg
 entering chances [] g = ([], g)
 entering chances (f ∷ fs) g =

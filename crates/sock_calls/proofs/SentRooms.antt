@@ -168,7 +168,7 @@ pub has_mbufs : (p : PoolView) (c : Config) (ip n : ℕ)
 has_mbufs p c ip n h = enough_mbufs p (need_to c ip n).mbufs (need_to c ip n).clusters h
     (omega (arith, some_sent n, need_most c ip n))
 
--- ---- the packets need the buffers that the datagram doesn't
+-- ---- a send needs the buffers of its datagram and of its further packets
 pub need_is_way : (c : Config) (ip n : ℕ) (v : ChainView) (cs : List ℕ) → IsRouted c → (ip ≡ c.bcast → n + 28 ≤ c.mtu)
     → layout_entries v.entries ≡ laid_on cs (sent n) → length (string v) ≡ n + 28
     → (need_to c ip n).mbufs ≡ length (sent n) + way_need (way_of c ip) v (mtu_to c ip)
