@@ -1,6 +1,6 @@
--- The layout of waiting fragments and of returned datagrams: their mbufs, where the bytes begin, and to which clusters
--- they refer (`ip_reass` of TCP/IP Illustrated, volume 2, chapter 10, with `m_pullup`, `m_adj` and `m_cat` of chapter
--- 2).
+-- The layout of waiting fragments and of returned datagrams: their mbufs, the offsets of the bytes, and the clusters to
+-- which they refer (`ip_reass` of TCP/IP Illustrated, volume 2, chapter 10, with `m_pullup`, `m_adj` and `m_cat` of
+-- chapter 2).
 use Rattle.std.specs.Prelude.{◌≡◌, ◌⊎◌, ℕ, ◌-◌, Bool, true, is_some, ◌==◌, ◌&&◌, if◌then◌else◌, List, [], ◌∷◌, map, slice_index_or, slice_set, remove}
 use Rattle.params.specs.declared.TheConstants.{IP_HEADER}
 use Rattle.flat_model.specs.Amounts.Choice.{Choice}
