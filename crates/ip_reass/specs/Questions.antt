@@ -29,7 +29,7 @@ range_of bytes piece = record {
   more = piece.more;
 }
 
--- what is left of all pieces, in order of offset
+-- the rest of all pieces, in order of offset
 abbrev pub ranges : Map → List HeldRange
 ranges bytes = map (range_of bytes) (pieces bytes)
 

@@ -31,7 +31,7 @@ pub struct HeldRange {
     pub offset: u32,
     /// The number of its bytes, at least 1.
     pub len: u32,
-    /// Whether the fragment said that more come after it.
+    /// Whether the fragment has the flag "more fragments".
     pub more: bool,
 }
 

@@ -1,4 +1,4 @@
-//! Unfinished datagrams as the flat machine sees them.
+//! Unfinished datagrams, and their list in the flat machine.
 
 ghost use Rattle.std.specs.Prelude.{◌≡◌, List, length};
 ghost use Rattle.flat_model.specs.Machine.State.{Unfinished};
@@ -26,7 +26,7 @@ pub trait Waiting: Reclaim {
     // the datagrams shown are those counted
     ghost counts: { (p : PoolView) (s : Self) → Self.is_ready p s → length (unfinished p s) ≡ Self.datagrams s };
 
-    // its chains weigh what the flat machine says: the pieces of each datagram, and an mbuf for its key
+    // its chains have their weight in the flat machine: the pieces of each datagram, and an mbuf for its key
     ghost weighs: { (p : PoolView) (s : Self) → Self.is_ready p s →
         SameWeight (weight_owned p (Self.owned p s)) (all_of (λ u. mbuf ⊕ weight_of_pieces u.bytes) (unfinished p s)) };
 

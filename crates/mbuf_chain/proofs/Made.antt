@@ -208,7 +208,7 @@ count_few s lists ok c = omega (arith, ok.counted c, ok.total, fewer lists)
     fewer [] = omega arith
     fewer (l ∷ ls) = omega (arith, at_most l, fewer ls)
 
--- what is known after an mbuf was allocated that is to share cluster d
+-- the facts after an mbuf was allocated that is to share cluster d
 pub record CanHold (s t : StoreView) (d : ℕ) : Type 0 where
   pub some : 0 < cluster_count t d
   pub few : cluster_count t d < 65535

@@ -169,7 +169,7 @@ impl Pool {
         }
     }
 
-    /// Frees a chain's mbufs and their cluster references. A cluster is free again when its last reference is gone.
+    /// Frees a chain's mbufs and their cluster references. A cluster is free after its last reference is removed.
     ///
     /// For example, if the counts of the clusters along the chain are `1->2->3`, they are `0->1->2` after the call. The
     /// first is free; the others stay with the chains that share them.

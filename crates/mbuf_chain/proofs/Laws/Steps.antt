@@ -119,7 +119,7 @@ filled p q r c i header old new a zero is =
     (shown_with p q c (one_mbuf header old c) a.pool)
     ∙ ap (λ (j : ℕ). with_entry (one_mbuf header old c) j new) zero))
 
--- a chain that was made and freed leaves the pool as it was
+-- a chain that was made and freed leaves the pool unchanged
 pub adds_undone : {p q : PoolView} {c : ℕ} {v : ChainView} (r : PoolView) → Adds p q c v → r ≡ without q c → r ≡ p
 adds_undone {p} {q} {c} {v} r a is =
     is ∙ ap (λ (s : PoolView). without s c) a.pool
