@@ -17,7 +17,7 @@ use Rattle.chain_ops.proofs.Lists.{at_entry}
 use Rattle.chain_ops.proofs.Laws.Steps.{none_of}
 use Rattle.chain_ops.proofs.Laws.Makes.{makes_new, makes_in_place}
 
--- an entry with room after its bytes is plain
+-- an entry with trailing space is plain
 pub plain_with_room : (e : Entry) (n : ℕ) → n < trailing_space e → e.cluster ≡ None
 plain_with_room e n h = go e.cluster h
   where
@@ -41,12 +41,12 @@ cat_last (x ∷ []) fs (suc i) e = absurd (omega arith)
 cat_last (x ∷ y ∷ es) fs zero e = absurd (omega arith)
 cat_last (x ∷ y ∷ es) fs (suc i) e = ap (λ (zs : List Entry). x ∷ zs) (cat_last (y ∷ es) fs i (omega arith))
 
--- the entries are those in front of the last one, and the last one
+-- the entries are those before the last one, and the last one
 pub last_split : (es : List Entry) (i : ℕ) → i + 1 ≡ length es
     → take i es ++ (Rattle.std.specs.Prelude.slice_index_or es i no_entry ∷ []) ≡ es
 last_split es i e = sym (take_more es i no_entry (omega arith)) ∙ take_all (i + 1) es (omega arith)
 
--- one more was moved
+-- the bytes of one more entry were moved
 pub fill_step : (es : List Entry) (i : ℕ) (f : Entry) (fs : List Entry) (xs : List ℕ) → i < length es → xs ≡ f.bytes
     → length f.bytes < trailing_space (Rattle.std.specs.Prelude.slice_index_or es i no_entry)
     → take i (slice_set es i (with_back (Rattle.std.specs.Prelude.slice_index_or es i no_entry) xs))
@@ -60,7 +60,7 @@ fill_step es i f fs xs lt all room =
     ∙ ap (λ (ys : List ℕ). take i es ++ filled_up (with_back e ys) fs) all
     ∙ ap (λ (zs : List Entry). take i es ++ zs) (sym (fill-goes e f fs room))
 
--- what is left was linked
+-- the remaining entries were linked
 pub fill_end : (es : List Entry) (i : ℕ) (f : Entry) (fs : List Entry) → i + 1 ≡ length es
     → trailing_space (Rattle.std.specs.Prelude.slice_index_or es i no_entry) ≤ length f.bytes
     → es ++ (f ∷ fs) ≡ take i es ++ filled_up (Rattle.std.specs.Prelude.slice_index_or es i no_entry) (f ∷ fs)
@@ -116,7 +116,7 @@ cat_moved p q c d last from len is place there first size room =
     ∙ ap (λ (es : List Entry). take last.index v.entries ++ filled_up (entry_of v last.index) es)
     (sym (first_split w from there first))
 
--- bytes put in front of the first entry
+-- bytes written before the first entry's bytes
 pub prepended_in : (p q : PoolView) (c : ℕ) (at : Place) (xs : List ℕ) → IsPlace (chain_of p c) at → at.index ≡ 0
     → length xs ≤ leading_space (chain_of p c) at.index
     → q ≡ with_chain p c (with_entry (chain_of p c) at.index (with_front (entry_of (chain_of p c) at.index) xs))
@@ -136,7 +136,7 @@ prepended_in p q c at xs place first fits is =
           ∙ sym (cond-true {A = List Entry} _ _ _ test);
     }
 
--- a chain linked after a new one, where the numbers are told by equations
+-- a chain linked after a new one, with the chains' numbers given by equations
 linked_as : (p r t : PoolView) (c c' d d' : ℕ) (w : ChainView) → c' ≡ c → d' ≡ d → IsLive p c → Adds p r d w
     → t ≡ with_chain (without r c') d' (joined (chain_of r d') (chain_of r c'))
     → Adds (without p c) t d' (joined w (chain_of p c))
@@ -144,7 +144,7 @@ linked_as p r t c c' d d' w ec ed live a is =
     linked_front p r t c d' w live (subst (λ (k : ℕ). Adds p r k w) (sym ed) a)
     (is ∙ ap (λ (k : ℕ). with_chain (without r k) d' (joined (chain_of r d') (chain_of r k))) ec)
 
--- bytes put into an mbuf of their own in front
+-- bytes written into a new mbuf before the chain
 pub prepended_new : (p r t : PoolView) (c c' d d' start : ℕ) (h : Bool) (xs : List ℕ) → h ≡ (chain_of p c).front.header
     → leading_space (chain_of p c) 0 < length xs → start ≡ at_end h (length xs) → c' ≡ c → d' ≡ d → IsLive p c
     → Adds p r d (one_mbuf h (with_back (empty_entry start None) xs) d)
@@ -256,7 +256,7 @@ pull_moved p q c d last from len left is place there first size some h =
     ∙ ap (λ (es : List Entry). take last.index v.entries ++ moved left (entry_of v last.index) es)
     (sym (first_split w from there first))
 
--- the room that is left
+-- the trailing space after bytes were added
 pub room_left : (e : Entry) (f : Entry) (len left : ℕ) → HasTrailingSpace e left → len ≡ length f.bytes → len ≤ left
     → HasTrailingSpace (with_back e (take len (drop 0 f.bytes))) (left - len)
 room_left e f len left room size h =

@@ -1,4 +1,4 @@
--- The laws for crates above: who owns what after an operation, what it makes of bytes, and what it weighs.
+-- The laws for crates above: owners, bytes and weights of chains after each operation.
 pub mod Lists
 pub mod Makes
 pub mod Rooms

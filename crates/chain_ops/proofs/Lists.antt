@@ -1,4 +1,4 @@
--- Laws of the definitions, over lists of entries alone.
+-- Laws of the definitions, on lists of entries only.
 use Rattle.std.proofs.Common.{◌≡◌, ℕ, ◌+◌, ◌-◌, ◌<◌, ◌≤◌, min, Bool, List, [], ◌∷◌, ◌++◌, length, take, drop, refl, sym, ap, ◌∙◌, subst, arith, inl, inr, append_assoc}
 use Rattle.std.specs.Prelude.{◌⊎◌, slice_set}
 use Rattle.std.proofs.lemmas.Bool.{cond-true, cond-false, and_from, and_left, and_right, lt-ltb, le-ltb, le-leb, lt-leb, ne_eqb, cases_lt}
@@ -23,14 +23,14 @@ flat_at v at p =
     ap (λ (es : List Entry). length (flat_bytes es)) (at_entry v at p)
     ∙ length-append (entry_of v at.index).bytes (flat_bytes (drop (at.index + 1) v.entries))
 
--- after the last entry is none
+-- no entry follows the last one
 pub none_after : (es : List Entry) (i : ℕ) → i + 1 ≡ length es → drop (i + 1) es ≡ []
 none_after es i e = drop_all (i + 1) es (omega arith)
 
 pub flat_after : (es : List Entry) (i : ℕ) → i + 1 ≡ length es → length (flat_bytes (drop (i + 1) es)) ≡ 0
 flat_after es i e = ap (λ (xs : List Entry). length (flat_bytes xs)) (none_after es i e)
 
--- bytes beyond an entry lie in another one
+-- if bytes follow those of an entry, another entry follows it
 pub another_follows : (v : ChainView) (at : Place) → IsPlace v at
     → length (entry_of v at.index).bytes < length (flat_bytes (drop at.index v.entries))
     → at.index + 1 < length v.entries
@@ -41,7 +41,7 @@ another_follows v at p more = go (cases_lt (at.index + 1) (length v.entries))
     go (inr le) =
         absurd (omega (arith, more, flat_at v at p, flat_after v.entries at.index (omega (arith, le, p.within))))
 
--- ---- where a byte lies
+-- ---- the position of a byte
 pub position-stays : (e : Entry) (es : List Entry) (off : ℕ) → (off ≡ 0) ⊎ (off < length e.bytes)
     → position_of (e ∷ es) off ≡ record { entries = e ∷ es; skip = off }
 position-stays e es off (inl h) = cond-false {A = Position} _ _ _ (and_left _ _ (le-ltb 0 off (omega arith)))
@@ -52,7 +52,7 @@ pub position-passes : (e : Entry) (es : List Entry) (off : ℕ) → 0 < off → 
 position-passes e es off p h =
     cond-true {A = Position} _ _ _ (and_from _ _ (lt-ltb 0 off p) (le-leb (length e.bytes) off h))
 
--- the position of a byte further on
+-- the position of a later byte
 pub position_on : (es : List Entry) (off by : ℕ)
     → position_of es (off + by) ≡ position_of (position_of es off).entries ((position_of es off).skip + by)
 position_on [] off by = refl
@@ -124,7 +124,7 @@ position_left (e ∷ es) off =
         (sym (position-passes e es off p h))
         (omega (arith, ih, length-append e.bytes (flat_bytes es)))
 
--- the byte is one of its entry's, or the chain's first
+-- the byte is in the entry at its position, or is the chain's first
 position_inside : (es : List Entry) (off : ℕ) (x : Entry) (xs : List Entry) → (position_of es off).entries ≡ x ∷ xs
     → ((position_of es off).skip ≡ 0) ⊎ ((position_of es off).skip < length x.bytes)
 position_inside [] off x xs is = inl (cc)
@@ -170,7 +170,7 @@ cursor_inside v k is =
     (ap (λ (s : Position). s.skip) is.position)
     (position_inside v.entries k.off _ _ (ap (λ (s : Position). s.entries) is.position ∙ at_entry v k.place is.place))
 
--- no more of its mbuf is in front than of the chain
+-- a cursor's offset in its mbuf is at most its offset in the chain
 pub cursor_most : (v : ChainView) (k : Cursor) → IsCursor v k → k.skip ≤ k.off
 cursor_most v k is =
     let es : List Entry = v.entries in
@@ -215,7 +215,7 @@ pub copied_some : (room : ℕ) (v : ChainView) (at : Place) (skip len : ℕ) →
 copied_some room v at skip len p some =
     omega (arith, ap (λ (es : List Entry). length es) (copied_one room v at skip len p some))
 
--- the first entry of a copy was made
+-- after the first entry was copied
 pub copied_start : (v : ChainView) (at : Place) (header : Bool) (off len skip first xlen : ℕ) (done : List Entry)
     → IsPlace v at
     → position_of v.entries off ≡ record { entries = drop at.index v.entries; skip = skip } → 0 < len
@@ -232,7 +232,7 @@ copied_start v at header off len skip first xlen done place found some is cut ma
     ∙ sym (copied_one (room_low header) v at skip len place some)
     ∙ ap (λ (s : Position). copied_from (room_low header) s.entries s.skip len) (sym found)
 
--- another one was made
+-- after another entry was copied
 pub copied_step : (v : ChainView) (at : Place) (i left n xlen : ℕ) (done now : List Entry) → IsPlace v at
     → at.index ≡ i + 1 → 0 < left → xlen ≡ length (entry_of v at.index).bytes
     → n ≡ min xlen left → now ≡ done ++ (copied_entry 20 (entry_of v at.index) 0 n ∷ [])
@@ -249,7 +249,7 @@ copied_step v at i left n xlen done now place next some is cut made =
     ∙ ap (λ (es : List Entry). done ++ es) (sym (copied_one 20 v at 0 left place some))
     ∙ ap (λ (k : ℕ). done ++ copied_from 20 (drop k v.entries) 0 left) next
 
--- the same of whole chains
+-- the same for whole chains
 pub all_start : (v : ChainView) (at : Place) (header : Bool) (xlen : ℕ) (done : List Entry) → IsPlace v at
     → at.index ≡ 0 → xlen ≡ length (entry_of v at.index).bytes
     → done ≡ copied_entry (room_low header) (entry_of v at.index) 0 xlen ∷ []

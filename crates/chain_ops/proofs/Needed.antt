@@ -11,7 +11,7 @@ pub none_left : (small : ℕ) → filled 0 2048 small 0 ≡ []
 unfolding filled
 none_left small = refl
 
--- of an empty packet one mbuf
+-- an empty packet takes one mbuf
 pub need_is : (n : ℕ) → need_of (wire n)
     ≡ record { mbufs = max (length (filled n 2048 100 n)) 1; clusters = count_by is_cluster (filled n 2048 100 n) }
 need_is n = go (filled n 2048 100 n)
@@ -90,7 +90,7 @@ small_need (suc n) few =
     omega (arith, next.clusters, ap (count_by is_cluster) none) in
     need_is (suc n) ∙ (λ i. record { mbufs = mbufs i; clusters = clusters i })
 
--- a longer one takes one mbuf at least
+-- a packet that isn't empty takes at least one mbuf
 pub some_mbuf : (n : ℕ) → 0 < n → 0 < length (filled n 2048 100 n)
 some_mbuf n some =
     let next : IsNext 100 n (size_of (next_room 2048 100 n)) (cond (is_cluster (next_room 2048 100 n)) 1 0) =

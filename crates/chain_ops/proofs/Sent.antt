@@ -1,4 +1,4 @@
--- Bytes to send, with room for the headers made in front.
+-- Bytes to send, after room for the headers was made before them.
 use Rattle.std.proofs.Common.{◌≡◌, ℕ, ◌+◌, ◌-◌, ◌<◌, ◌≤◌, min, cond, Bool, true, false, List, [], ◌∷◌, ◌++◌, length, take, count_by, None, sym, ap, ◌∙◌, subst, arith, inl, inr}
 use Rattle.std.specs.Prelude.{◌⊎◌, nat_le}
 use Rattle.std.proofs.lemmas.Bool.{cases_lt, le-leb, lt-leb, cond-true, cond-false}
@@ -12,11 +12,11 @@ use Rattle.chain_ops.specs.Weights.{layout_entries}
 use Rattle.chain_ops.proofs.Laws.Rooms.{rest_rooms, rest_none}
 use Rattle.chain_ops.proofs.Stored.{rooms_begin, user_laid}
 
--- what a chain of bytes to send has in front: much for at most 72 bytes, else too little
+-- a chain with these entries; the headers fit into its leading space if it has at most 72 bytes to send
 abbrev view : List Entry → ChainView
 view es = record { front = alone true; entries = es; cells = [] }
 
--- more than 72 bytes: an mbuf of their own
+-- if the leading space is too small, the headers get an mbuf of their own
 apart : (hs : List ℕ) (es : List Entry) → length hs ≡ 28 → leading_space (view es) 0 < 28
     → layout_entries (prepended (view es) hs) ≡ record { size = 28; cluster = None } ∷ layout_entries es
 apart hs es len small =
@@ -35,7 +35,7 @@ within hs e es len large =
     ap layout_entries (cond-true {A = List Entry} _ _ _ test)
     ∙ ap (λ (n : ℕ). let x : flat.LayoutEntry = record { size = n; cluster = e.cluster } in x ∷ layout_entries es) size
 
--- the room in front of the first bytes
+-- the leading space of a plain mbuf with more than 72 bytes is too small
 room_small : (cs : List ℕ) (n : ℕ) (rooms : List Room) (xs : List ℕ) → 72 < n → n ≤ 100
     → leading_space (view (stored_first 56 true cs (Plain n ∷ rooms) xs)) 0 < 28
 room_small cs n rooms xs low high = omega arith
@@ -71,7 +71,7 @@ user_front cs xs n h =
     go true rooms = room_cluster cs (min n (2048 - 56)) rooms xs
     go false rooms = room_small cs (min n 100) rooms xs (omega arith) (omega arith)
 
--- the headers in front of bytes to send lie as the flat machine says
+-- the headers and the bytes to send have the layout of the flat machine
 pub sent_laid : (cs xs hs : List ℕ) → length cs ≡ count_by is_cluster (user (length xs)) → length hs ≡ 28
     → layout_entries (prepended (view (stored_first 56 true cs (user (length xs)) xs)) hs) ≡ laid_on cs (sent (length xs))
 unfolding laid_on

@@ -14,7 +14,7 @@ use Rattle.mbuf_chain.proofs.Laws.Steps.{new_entry, filled}
 use Rattle.chain_ops.proofs.Lists.{at_entry}
 use Rattle.chain_ops.specs.Splits.{rest_of, split_front, split_back, split_need}
 
--- a plain mbuf that got the last bytes of another at its end
+-- a new plain mbuf with the last bytes of an entry at its end
 pub end_made : (p q r : PoolView) (c i start : ℕ) (e e' : Entry) (off n : ℕ) → off + n ≡ length e.bytes
     → start ≡ at_end true n → e' ≡ e
     → Adds p q c (one_mbuf true (empty_entry start None) c) → i ≡ 0
@@ -32,7 +32,7 @@ end_made p q r c i start e e' off n whole low same a first is =
     filled p q r c i true (empty_entry start None) (end_entry true (drop off e.bytes)) a first
     (is ∙ ap (λ (f : Entry). with_chain q c (with_entry (chain_of q c) i f)) shown)
 
--- ---- what a new chain begins with
+-- ---- the first entries of the new chain
 module _ (e : Entry) (off n : ℕ) (is : n ≡ length e.bytes - off) where
   rest : (header : Bool) → List Entry
   rest header =

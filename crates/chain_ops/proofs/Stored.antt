@@ -132,7 +132,7 @@ all-append : (P : ℕ → Type 0) (xs ys : List ℕ) → AllByRecursion P xs →
 all-append P [] ys h k = k
 all-append P (x ∷ xs) ys h k = (h.0, all-append P xs ys h.1 k)
 
--- one cluster more
+-- one more cluster
 pub free_more : (p : PoolView) (cs : List ℕ) (b : Bool) (o : Option ℕ) → AreFree p cs
     → ((c : ℕ) → o ≡ Some c → (c < p.clusters) × (references p c ≡ 0) × (times_among c cs ≡ 0))
     → AreFree p (cs ++ option_to_list o)
@@ -207,7 +207,7 @@ few_stored large ends start xs h few is =
     ap (λ (e : Entry). e ∷ []) here
     ∙ ap (λ (rooms : List Room). stored_first large ends [] rooms xs) (sym (few_rooms large (length xs) h few))
 
--- the first mbuf was made
+-- after the first mbuf was made
 pub begin_all : (p : PoolView) (large : ℕ) (ends : Bool) (o : Option ℕ) (m : ℕ) (xs : List ℕ) (b : Bool) (len start : ℕ)
     (piece rest : List ℕ) (done : List Entry) → large ≤ 56 → nat_le 208 m ≡ b → IsClusterTaken p b o
     → len ≡ size_of (next_room (2048 - large) 100 m) → start ≡ first_start ends (min len 100) → piece ≡ take len xs
@@ -230,7 +230,7 @@ begin_all p large ends o m xs b len start piece rest done most test taken size a
     ∙ ap (λ (rooms : List Room). stored_first large ends (option_to_list o ++ ds) rooms xs)
     (sym (rooms_begin large m most))
 
--- another one was made
+-- after another mbuf was made
 pub more_all : (p : PoolView) (W : List ℕ → List Entry) (o : Option ℕ) (cs : List ℕ) (m : ℕ) (rest later : List ℕ)
     (b : Bool) (next : ℕ) (piece : List ℕ) (done now : List Entry) → 0 < m → nat_le 208 m ≡ b → IsClusterTaken p b o
     → next ≡ size_of (next_room 2048 108 m) → piece ≡ take next rest → later ≡ drop next rest → length later ≡ m - next
@@ -288,7 +288,7 @@ more_splits p m next later b o some test taken size left =
           ∙ ap (λ (k : ℕ). length (option_to_list o) + count_by is_cluster (rest_rooms k)) (sym left');
     }
 
--- a room is needed, and a cluster where it's large
+-- at least one room is needed, and at least one cluster for 208 bytes or more
 pub lacks_first : (large m : ℕ) → large ≤ 56
     → (0 < length (rooms_for large m)) × (nat_le 208 m ≡ true → 0 < count_by is_cluster (rooms_for large m))
 lacks_first large m most =
@@ -319,7 +319,7 @@ lacks_more m some =
     )
 
 -- ---- the bytes, and the layout
--- the rooms hold so many bytes
+-- the number of bytes in the rooms
 abbrev pub room_sum : List Room → ℕ
 room_sum [] = 0
 room_sum (r ∷ rs) = size_of r + room_sum rs

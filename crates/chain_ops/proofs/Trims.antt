@@ -10,7 +10,7 @@ use Rattle.mbuf_chain.proofs.Laws.Owners.{shown_with}
 use Rattle.chain_ops.specs.Trims.{without_first, only_first}
 use Rattle.chain_ops.proofs.Lists.{at_entry, walk_set, none_after}
 
--- from p to q the entries of chain c changed, and nothing else
+-- the pool with other entries for chain c
 abbrev pub changed : PoolView → ℕ → List Entry → PoolView
 changed p c es = with_chain p c (record (chain_of p c) { entries = es })
 
@@ -20,7 +20,7 @@ changed_none p c live =
     λ i. record { mbufs = p.mbufs; clusters = p.clusters; chains = insert_same p.chains c (chain_of p c) live i } in
     sym same
 
--- one entry more was changed
+-- one more entry was changed
 pub changed_entry : (p q r : PoolView) (c i : ℕ) (e : Entry) → q ≡ changed p c (chain_of q c).entries
     → r ≡ with_chain q c (with_entry (chain_of q c) i e)
     → r ≡ changed p c (slice_set (chain_of q c).entries i e)
@@ -39,14 +39,14 @@ pub entries_now : (q r : PoolView) (c i : ℕ) (e : Entry) → r ≡ with_chain 
     → (chain_of r c).entries ≡ slice_set (chain_of q c).entries i e
 entries_now q r c i e is = ap (λ (w : ChainView). w.entries) (shown_with q r c (with_entry (chain_of q c) i e) is)
 
--- a walk that has come to its last entry
+-- a walk that has reached its last entry
 pub walk_end : (es : List Entry) (F : List Entry → List Entry) (i : ℕ) → i + 1 ≡ length es → F [] ≡ []
     → take (i + 1) es ++ F (drop (i + 1) es) ≡ es
 walk_end es F i e none =
     (λ j. take_all (i + 1) es (omega arith) j ++ F (none_after es i e j)) ∙ ap (λ (xs : List Entry). es ++ xs) none
     ∙ append-nil es
 
--- ---- bytes taken off the front
+-- ---- bytes removed from the front
 pub trim_step : (v : ChainView) (at : Place) (left skip len : ℕ) → IsPlace v at
     → len ≡ length (entry_of v at.index).bytes → skip ≡ min left len
     → take (at.index + 1) (slice_set v.entries at.index (narrowed (entry_of v at.index) skip (len - skip)))
@@ -136,7 +136,7 @@ pub changed_step : (p q r : PoolView) (c i : ℕ) (e : Entry) → q ≡ changed 
     → r ≡ with_chain q c (with_entry (chain_of q c) i e) → r ≡ changed p c (chain_of r c).entries
 changed_step p q r c i e was is = changed_entry p q r c i e was is ∙ ap (changed p c) (sym (entries_now q r c i e is))
 
--- the first mbuf has all that goes
+-- all bytes to remove are in the first mbuf
 pub trim_first : (p q : PoolView) (c : ℕ) (at : Place) (n len : ℕ) → IsLive p c → IsPlace (chain_of p c) at
     → at.index ≡ 0 → len ≡ length (entry_of (chain_of p c) at.index).bytes → n ≤ len
     → q ≡ with_chain p c (with_entry (chain_of p c) at.index (narrowed (entry_of (chain_of p c) at.index) n (len - n)))

@@ -17,7 +17,7 @@ use Rattle.chain_ops.proofs.Laws.Strings.{take_none, drop_none}
 use Rattle.chain_ops.proofs.Lists.{at_entry, flat-append, walk_set}
 use Rattle.chain_ops.proofs.Trims.{entries_now}
 
--- ---- where it may be written
+-- ---- which bytes may be written over
 pub writable-none : (counts : ℕ → ℕ) (es : List Entry) (off : ℕ) → is_writable counts es off 0 ≡ true
 writable-none counts [] off = refl
 writable-none counts (e ∷ es) off =
@@ -75,7 +75,7 @@ overlaid-none (e ∷ es) off =
     zero_more : (n : ℕ) → n + 0 ≡ n
     zero_more n = omega arith
 
--- nothing of the entry is written over
+-- a write after the entry's bytes doesn't change the entry
 pub overwritten-past : (e : Entry) (off : ℕ) (xs : List ℕ) → length e.bytes ≤ off
     → overwritten e off (take (length e.bytes - off) xs) ≡ e
 overwritten-past e off xs h =
@@ -124,7 +124,7 @@ overlay_all q r c at skip next len xs later place is rest step nx =
     (λ j. take (nx j) (now j) ++ overlaid (drop (nx j) (now j)) (skip - len) later)
     ∙ overlay_step (chain_of q c) at skip xs later len place is rest
 
--- the counts stay
+-- the counts are unchanged
 one_count : (k : ℕ) (es : List Entry) (i : ℕ) (f : Entry) → i < length es
     → f.cluster ≡ (slice_index_or es i no_entry).cluster
     → count_by (refers k) (slice_set es i f) ≡ count_by (refers k) es
@@ -221,7 +221,7 @@ pub plain_counts : {p q : PoolView} {d : ℕ} {f : Rattle.mbuf_chain.specs.Chain
 plain_counts {p} {q} {d} xs k m =
     omega (arith, references-adds k m.adds, ap (count_by (refers k)) m.entries, pieces_counts k (length xs) xs)
 
--- what is left after the first mbuf
+-- the tail (z zeros, and then xs) without its first 108 bytes
 pub tail_left : (z : ℕ) (xs : List ℕ) → replicate (z - 108) 0 ++ drop (108 - z) xs ≡ drop 108 (replicate z 0 ++ xs)
 tail_left z xs =
     sym (drop-append 108 (replicate z 0) xs
@@ -236,7 +236,7 @@ zeros_first z = elim (cases_lt z 108) [
       take-replicate {X = ℕ} 108 z 0 l ∙ ap (λ (n : ℕ). replicate n 0) same
 ]
 
--- what an mbuf is filled with
+-- the first 108 bytes of the tail
 pub tail_first : (z b n : ℕ) (xs : List ℕ) → b ≡ min z 108 → n ≡ min (length xs) (108 - b)
     → replicate b 0 ++ take n xs ≡ take 108 (replicate z 0 ++ xs)
 tail_first z b n xs blank count =
@@ -260,7 +260,7 @@ both b r xs off =
 abbrev over_both : List ℕ → List ℕ → List ℕ → ℕ → List ℕ
 over_both b r xs off = take off (b ++ r) ++ (take (length (b ++ r) - off) xs ++ drop (off + length xs) (b ++ r))
 
--- all within the first piece
+-- the range is within the first piece
 within_first : (b r xs : List ℕ) (off : ℕ) → off < length b → length xs ≤ length b - off
     → both b r xs off ≡ over_both b r xs off
 within_first b r xs off l h =
@@ -277,7 +277,7 @@ within_first b r xs off l h =
     ∙ sym (λ j. take-append-le off b r (omega arith) j
     ++ (all j ++ drop-append-le (off + length xs) b r (omega arith) j))
 
--- from the first piece into the second
+-- the range begins in the first piece and ends in the second
 across : (b r xs : List ℕ) (off : ℕ) → off < length b → length b - off ≤ length xs
     → both b r xs off ≡ over_both b r xs off
 across b r xs off l h =
@@ -307,7 +307,7 @@ across b r xs off l h =
     zero-more : (k : ℕ) → 0 + k ≡ k
     zero-more k = omega arith
 
--- all in the second piece
+-- the range begins in the second piece
 in_second : (b r xs : List ℕ) (off : ℕ) → length b ≤ off → both b r xs off ≡ over_both b r xs off
 in_second b r xs off h =
     let size = length-append b r in
@@ -348,7 +348,7 @@ overlaid_bytes (e ∷ es) off xs =
       | inr l ↦ in_second e.bytes (flat_bytes es) xs off l
     ]
 
--- bytes over a list, and after it
+-- bytes written over a list and beyond its end
 extended : (s xs : List ℕ) (off : ℕ)
     → (take off s ++ (take (length s - off) xs ++ drop (off + length xs) s))
     ++ (replicate (off - length s) 0 ++ drop (length s - off) xs) ≡ written_bytes s off xs

@@ -26,7 +26,7 @@ stored [] (Cluster n ∷ rooms) xs = []
 stored (c ∷ cs) (Cluster n ∷ rooms) xs =
     record { bytes = take n xs; start = 0; cluster = Some c } ∷ stored cs rooms (drop n xs)
 
--- where the bytes of a first plain mbuf begin: at the end, or at the front
+-- the offset of the bytes of a first plain mbuf: at the end, or at the front
 abbrev pub first_start : Bool → ℕ → ℕ
 first_start ends n = if ends then at_end true n else room_low true
 

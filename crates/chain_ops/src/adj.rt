@@ -1,4 +1,4 @@
-//! Bytes removed from an end of a chain.
+//! Removing bytes from an end of a chain.
 ghost use Rattle.std.specs.Prelude.{◌≡◌};
 ghost use Rattle.mbuf_chain.specs.Chain.{IsLive, chain_of, string, with_chain};
 ghost use Rattle.chain_ops.specs.Trims.{without_first, only_first, adjusted, adjusted_bytes};

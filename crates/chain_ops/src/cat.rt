@@ -1,4 +1,4 @@
-//! Chains joined.
+//! Joining chains.
 ghost use Rattle.std.specs.Prelude.{◌≡◌, ◌≢◌, ◌+◌, ◌-◌, ◌++◌, length, MatchOption, drop, false};
 ghost use Rattle.mbuf_chain.specs.Chain.{IsLive, IsPlace, chain_of, without, alone, string};
 ghost use Rattle.chain_ops.specs.Makes.{Makes};
@@ -22,7 +22,7 @@ pub(crate) fn drop_first(pool: &mut Pool, chain: Chain) -> Option<Chain>
     Some(pool.free_first(chain))
 }
 
-/// The place of a chain's last mbuf, searched from another place on.
+/// Returns the place of a chain's last mbuf, searched from another place on.
 fn last_from(pool: &Pool, chain: &Chain, from: Place) -> Place
     requires live { IsLive pool.now chain.now }
     requires place { IsPlace (chain_of pool.now chain.now) from }
@@ -66,7 +66,7 @@ fn join(pool: &mut Pool, chain: &Chain, last: Place, second: Chain) -> Place
     }
 }
 
-/// Joins a chain to another, whose last mbuf is given, as `m_cat` does. They must be two chains. Returns the place of
+/// Joins a chain to another, whose last mbuf is given, like `m_cat`. They must be two chains. Returns the place of
 /// the last mbuf afterwards, so that many chains can be joined in one walk over their mbufs (this project's own).
 pub fn cat_after(pool: &mut Pool, chain: &Chain, last: Place, second: Chain) -> Place
     requires front { IsLive pool.old chain.now }

@@ -1,4 +1,4 @@
-//! Bytes written over those of a chain.
+//! Writing bytes over those of a chain.
 ghost use Rattle.std.specs.Prelude.{◌≡◌, ℕ, ◌+◌, ◌-◌, ◌<◌, ◌≤◌, ◌++◌, Some, None, true, false, length, take, drop, replicate, IfOk, OnOk, OnErr};
 ghost use Rattle.mbuf_chain.specs.Chain.{IsLive, IsPlace, chain_of, entry_in, string, references, without, with_chain, held_mbufs, alone, Adds};
 ghost use Rattle.mbuf_chain.specs.Steps.{one_mbuf, with_entry_in, overwritten};
@@ -9,7 +9,7 @@ use mbuf_chain::{Chain, Place, Pool};
 use mbuf_pool::NoBufs;
 use params::{IP_MAX_PACKET, MBUF_HEADER, MLEN};
 
-/// Whether more than one mbuf refers to a cluster, if there is one.
+/// Returns whether more than one mbuf refers to a cluster, if there is one.
 fn is_shared(pool: &Pool, cluster: Option<u32>) -> bool
     requires { (c : ℕ) → cluster ≡ Some c → c < pool.now.clusters }
     ensures { result ≡ is_shared (references pool.now) cluster }
@@ -20,7 +20,7 @@ fn is_shared(pool: &Pool, cluster: Option<u32>) -> bool
     }
 }
 
-/// Whether `len` bytes of a chain from `off` on may be written to: the part of the range that is within the chain has
+/// Returns whether `len` bytes of a chain from `off` on may be written to: the part of the range within the chain has
 /// no byte in a cluster to which more than one mbuf refers. Takes one step for each mbuf up to the end of the range
 /// (this project's own).
 pub fn is_writable(pool: &Pool, chain: &Chain, off: u32, len: u32) -> bool
@@ -46,7 +46,7 @@ pub fn is_writable(pool: &Pool, chain: &Chain, off: u32, len: u32) -> bool
     true
 }
 
-/// The bytes after the first `count`, or none if there are fewer.
+/// Returns the bytes after the first `count`, or none if there are fewer.
 fn after(bytes: &[u8], count: u32) -> &[u8]
     ensures { result.now ≡ drop count bytes.now }
 {
@@ -95,7 +95,7 @@ fn overlay(pool: &mut Pool, chain: &Chain, off: u32, bytes: &[u8])
     }
 }
 
-/// `count` zeros, at most 108.
+/// Returns `count` zeros, at most 108.
 fn zeros(count: usize) -> &'static [u8]
     requires { count ≤ MLEN }
     ensures { result.now ≡ replicate count 0 }
@@ -104,7 +104,7 @@ fn zeros(count: usize) -> &'static [u8]
     &ZEROS[..count]
 }
 
-/// A chain of one plain mbuf without packet header, filled with zeros and then with as much of the bytes as fits.
+/// Makes a chain of one plain mbuf without packet header, filled with zeros and then with the bytes that fit.
 fn new_piece(pool: &mut Pool, gap: u32, bytes: &[u8]) -> Result<Chain, NoBufs>
     ensures ok { IfOk result (λ d. Adds pool.old pool.new d (one_mbuf false (record {
       bytes = take MLEN (replicate gap 0 ++ bytes.now);
@@ -123,8 +123,8 @@ fn new_piece(pool: &mut Pool, gap: u32, bytes: &[u8]) -> Result<Chain, NoBufs>
     Ok(chain)
 }
 
-/// A chain without packet header of zeros and then bytes, at least 1 byte in all, in plain mbufs that are filled from
-/// the front.
+/// Makes a chain without packet header of zeros and then bytes, at least 1 byte in all, in plain mbufs that are filled
+/// from the front.
 fn new_tail(pool: &mut Pool, gap: u32, bytes: &[u8]) -> Result<Chain, NoBufs>
     requires some { 0 < gap + length bytes.now }
     requires most { gap + length bytes.now ≤ IP_MAX_PACKET }
@@ -155,7 +155,7 @@ fn new_tail(pool: &mut Pool, gap: u32, bytes: &[u8]) -> Result<Chain, NoBufs>
 }
 
 /// Writes bytes over those of a chain from `off` on, and lengthens the chain if it ends before them. Bytes between its
-/// old end and `off` become 0, and what is past the old end goes into new plain mbufs; the trailing space of the old
+/// old end and `off` become 0. The bytes after the old end go into new plain mbufs; the trailing space of the old
 /// last mbuf isn't used. `off` plus the number of bytes is at most 65,535, and the range must be writable
 /// (`is_writable`). Fails with `NoBufs` exactly if fewer mbufs are free than the new bytes need, and then changes
 /// nothing (TCP/IP Illustrated, volume 2, chapter 2).

@@ -1,4 +1,4 @@
-//! Bytes copied out of a chain.
+//! Copying bytes out of a chain.
 ghost use Rattle.std.specs.Prelude.{◌≡◌, ◌+◌, ◌≤◌, length, take, drop};
 ghost use Rattle.mbuf_chain.specs.Chain.{IsLive, chain_of, string};
 

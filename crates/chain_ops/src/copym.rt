@@ -65,7 +65,7 @@ fn copy_all(pool: &mut Pool, chain: &Chain) -> Result<Chain, NoBufs>
     Ok(copy)
 }
 
-/// Which bytes of a chain are copied (`M_COPYALL`; TCP/IP Illustrated, volume 2, chapter 2).
+/// The part of a chain that is copied (`M_COPYALL`; TCP/IP Illustrated, volume 2, chapter 2).
 #[derive(Clone, Copy, Debug, PartialEq, Eq)]
 pub enum Extent {
     /// All of them, and all mbufs.
@@ -74,11 +74,11 @@ pub enum Extent {
     Part(u32, u32),
 }
 
-/// A copy of a chain: one mbuf for each mbuf that has bytes of the range, and for each one without bytes that is passed
-/// between them. Clusters are shared; bytes of plain mbufs are copied to the front of new ones. The copy has a packet
-/// header if the chain has one and the copy begins at 0. A part must have at least 1 byte and be within the chain.
-/// Fails with `NoBufs` exactly if fewer mbufs are free than the copy has, and then changes nothing. Takes one step for
-/// each mbuf up to the last one that it copies (TCP/IP Illustrated, volume 2, chapter 2).
+/// Copies a chain or a part of it. The copy has one mbuf for each mbuf with bytes of the range, and one for each empty
+/// mbuf between them. Clusters are shared; bytes of plain mbufs are copied to the front of new ones. The copy has a
+/// packet header if the chain has one and the copy begins at 0. A part must have at least 1 byte and be within the
+/// chain. Fails with `NoBufs` exactly if fewer mbufs are free than the copy has, and then changes nothing. Takes one
+/// step for each mbuf up to the last one that it copies (TCP/IP Illustrated, volume 2, chapter 2).
 pub fn m_copym(pool: &mut Pool, chain: &Chain, extent: Extent) -> Result<Chain, NoBufs>
     requires live { IsLive pool.old chain.now }
     requires extent { IsExtent extent (length (string (chain_of pool.old chain.now))) }

@@ -21,8 +21,8 @@ pub struct Cursor {
     pub skip: u32,
 }
 
-/// The position of the byte at `off` of a chain; `off` must be below the chain's length. Mbufs that end at or before
-/// the byte are passed; at 0 none is. Takes one step for each mbuf that is passed (this project's own).
+/// Returns the position of the byte at `off` of a chain; `off` must be below the chain's length. Mbufs that end at or
+/// before the byte are passed; at 0 none is. Takes one step for each mbuf that is passed (this project's own).
 pub fn cursor_at(pool: &Pool, chain: &Chain, off: u32) -> Cursor
     requires live { IsLive pool.now chain.now }
     requires within { off < length (string (chain_of pool.now chain.now)) }
@@ -42,8 +42,8 @@ pub fn cursor_at(pool: &Pool, chain: &Chain, off: u32) -> Cursor
     Cursor { off, place, skip }
 }
 
-/// The position of the byte `by` bytes, at least 1, after that of a cursor. It must be within the chain, at 65,535 at
-/// most. Takes one step for each mbuf that is passed on the way (this project's own).
+/// Returns the position of the byte `by` bytes, at least 1, after that of a cursor. It must be within the chain, at
+/// 65,535 at most. Takes one step for each mbuf that is passed on the way (this project's own).
 #[inline(always)]
 pub fn advance(pool: &Pool, chain: &Chain, from: Cursor, by: u32) -> Cursor
     requires live { IsLive pool.now chain.now }
@@ -68,7 +68,7 @@ pub fn advance(pool: &Pool, chain: &Chain, from: Cursor, by: u32) -> Cursor
     Cursor { off, place, skip }
 }
 
-/// Whether a copy from `off` on has a packet header.
+/// Returns whether a copy from `off` on has a packet header.
 #[inline(always)]
 fn copy_header(pool: &Pool, chain: &Chain, off: u32) -> bool
     requires { IsLive pool.now chain.now }
@@ -77,7 +77,7 @@ fn copy_header(pool: &Pool, chain: &Chain, off: u32) -> bool
     pool.has_header(chain) && off == 0
 }
 
-/// Copies `len` bytes of a chain, at least 1, from a cursor on, as `m_copym` does. They must be within the chain. Takes
+/// Copies `len` bytes of a chain, at least 1, from a cursor on, like `m_copym`. They must be within the chain. Takes
 /// one step for each mbuf that it copies, so several ranges in order are copied in one walk. Fails with `NoBufs`
 /// exactly if fewer mbufs are free than the copy has, and then changes nothing (this project's own).
 // Inlined, like `advance`: a datagram that is fragmented calls both for each of its packets.

@@ -1,4 +1,4 @@
-//! Bytes put before a chain's first byte.
+//! Putting bytes before a chain's first byte.
 ghost use Rattle.std.specs.Prelude.{◌≡◌, ◌<◌, ◌≤◌, ◌++◌, length, OnOk, OnErr};
 ghost use Rattle.mbuf_chain.specs.Chain.{IsLive, chain_of, without, string};
 ghost use Rattle.chain_ops.specs.Makes.{Makes, HasMbufs, LacksMbufs};
@@ -11,7 +11,7 @@ use mbuf_pool::NoBufs;
 use params::{MHLEN, MSIZE};
 use std::mem;
 
-/// Where `n` bytes begin that are put at the end of a plain mbuf.
+/// Returns the offset of `n` bytes that are put at the end of a plain mbuf.
 #[inline(always)]
 pub(crate) fn at_end(header: bool, n: u32) -> u32
     requires { n ≤ MHLEN }

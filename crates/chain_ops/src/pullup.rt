@@ -1,4 +1,4 @@
-//! The first bytes of a chain moved into one mbuf.
+//! Moving the first bytes of a chain into one mbuf.
 ghost use Rattle.std.specs.Prelude.{◌≡◌, ◌≢◌, ◌+◌, ◌-◌, ◌≤◌, ◌++◌, true, None, min, length, take, drop, OnOk, OnErr, IfErr, IsTrue};
 ghost use Rattle.mbuf_chain.specs.Chain.{IsLive, IsPlace, HasTrailingSpace, chain_of, entry_in, entry_of, without, string, alone};
 ghost use Rattle.mbuf_chain.specs.Steps.{empty_entry};
@@ -28,7 +28,7 @@ pub enum Refusal {
     NoBufs,
 }
 
-/// Moves the first `n` bytes of a chain to the end of the last mbuf of another, and links what is left. An mbuf that
+/// Moves the first `n` bytes of a chain to the end of the last mbuf of another, and links the rest. An mbuf that
 /// becomes empty is freed, and so is one without bytes that is passed. If the number of the chain's bytes is given
 /// (`counted`), no mbuf after these is read; without a packet header in the first mbuf it isn't needed.
 fn pull(pool: &mut Pool, into: &Chain, last: Place, second: Chain, n: u32, counted: bool, len: u32)
@@ -68,7 +68,7 @@ fn pull(pool: &mut Pool, into: &Chain, last: Place, second: Chain, n: u32, count
     link_rest(pool, into, last, back, counted, bytes);
 }
 
-/// Whether `n` bytes fit into the first mbuf.
+/// Returns whether `n` bytes fit into the first mbuf.
 fn has_room(pool: &Pool, chain: &Chain, n: u32) -> bool
     requires live { IsLive pool.now chain.now }
     requires most { n ≤ MHLEN }
@@ -79,7 +79,7 @@ fn has_room(pool: &Pool, chain: &Chain, n: u32) -> bool
     segment.cluster.is_none() && segment.start <= MSIZE - n
 }
 
-/// Moves the first `n` bytes of a chain into its first mbuf, where they fit.
+/// Moves the first `n` bytes of a chain into its first mbuf, into which they fit.
 fn pull_in_place(pool: &mut Pool, chain: &Chain, n: u32)
     requires live { IsLive pool.old chain.now }
     requires room { IsTrue (has_room (entry_of (chain_of pool.old chain.now) 0) n) }
@@ -129,8 +129,8 @@ fn pull_new(pool: &mut Pool, chain: &mut Chain, n: u32) -> Result<(), NoBufs>
     Ok(())
 }
 
-/// How many bytes a chain has, or `most` if it has more. Takes one step if the chain has a packet header, otherwise one
-/// for each mbuf up to `most` bytes.
+/// Returns how many bytes a chain has, or `most` if it has more. Takes one step if the chain has a packet header,
+/// otherwise one for each mbuf up to `most` bytes.
 fn len_up_to(pool: &Pool, chain: &Chain, most: u32) -> u32
     requires live { IsLive pool.now chain.now }
     requires small { most ≤ MHLEN }

@@ -1,4 +1,4 @@
-//! Chains cut in two.
+//! Cutting chains in two.
 ghost use Rattle.std.specs.Prelude.{◌≡◌, ◌+◌, ◌-◌, ◌<◌, ◌≤◌, ◌++◌, ◌∷◌, [], Bool, true, false, None, length, take, drop, IfOk, OnOk, OnErr};
 ghost use Rattle.mbuf_chain.specs.Chain.{IsLive, IsPlace, chain_of, entry_in, string, flat_bytes, alone, held_mbufs, Adds};
 ghost use Rattle.mbuf_chain.specs.Steps.{one_mbuf, empty_entry};
@@ -13,8 +13,8 @@ use mbuf_chain::{Chain, Place, Pool};
 use mbuf_pool::NoBufs;
 use params::{MBUF_HEADER, MHLEN};
 
-/// The mbuf in which a cut at `off` bytes is, and how far in: the first one that is at least as long as the remaining
-/// offset.
+/// Returns the mbuf in which a cut at `off` bytes is, and the offset in it: the first mbuf that is at least as long as
+/// the remaining offset.
 fn find_cut(pool: &Pool, chain: &Chain, off: u32) -> (Place, u32)
     requires live { IsLive pool.now chain.now }
     requires within { off < length (string (chain_of pool.now chain.now)) }
@@ -43,8 +43,8 @@ fn find_cut(pool: &Pool, chain: &Chain, off: u32) -> (Place, u32)
     }
 }
 
-/// A chain of one plain mbuf with packet header that has the bytes of another plain mbuf from `off` on, 1 to 100, at
-/// its end.
+/// Makes a chain of one plain mbuf with packet header that has the bytes of another plain mbuf from `off` on, 1 to 100,
+/// at its end.
 fn new_end(pool: &mut Pool, chain: &Chain, at: Place, off: u32, n: u32) -> Result<Chain, NoBufs>
     requires live { IsLive pool.old chain.now }
     requires place { IsPlace (chain_of pool.old chain.now) at }
@@ -61,7 +61,7 @@ fn new_end(pool: &mut Pool, chain: &Chain, at: Place, off: u32, n: u32) -> Resul
     Ok(head)
 }
 
-/// A chain of an empty mbuf with packet header, followed by one with the bytes of a plain mbuf.
+/// Makes a chain of an empty mbuf with packet header, followed by one with the bytes of a plain mbuf.
 fn new_two(pool: &mut Pool, chain: &Chain, at: Place, off: u32, n: u32) -> Result<Chain, NoBufs>
     requires live { IsLive pool.old chain.now }
     requires place { IsPlace (chain_of pool.old chain.now) at }
@@ -80,7 +80,7 @@ fn new_two(pool: &mut Pool, chain: &Chain, at: Place, off: u32, n: u32) -> Resul
     Ok(head)
 }
 
-/// The first mbufs of a new chain that has the bytes of an mbuf from `off` on.
+/// Makes the first mbufs of a new chain that has the bytes of an mbuf from `off` on.
 fn new_head(
     pool: &mut Pool,
     header: bool,

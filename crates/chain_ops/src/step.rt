@@ -9,7 +9,7 @@ use mbuf_chain::{Chain, Place, Pool};
 use mbuf_pool::NoBufs;
 use params::{MBUF_HEADER, PACKET_START};
 
-/// The first usable place of a plain mbuf.
+/// Returns the first usable place of a plain mbuf.
 #[inline(always)]
 pub(crate) fn room_low(header: bool) -> u32
     ensures { result ≡ room_low header }
@@ -17,7 +17,7 @@ pub(crate) fn room_low(header: bool) -> u32
     if header { PACKET_START } else { MBUF_HEADER }
 }
 
-/// A chain of one mbuf that has a copy of `n` bytes of another mbuf without cluster, after the first `skip`.
+/// Makes a chain of one mbuf that has a copy of `n` bytes of another mbuf without cluster, after the first `skip`.
 // Not inlined: mostly a cluster is copied, and that is shared.
 #[inline(never)]
 fn copy_plain(
@@ -46,7 +46,7 @@ fn copy_plain(
     Ok(copy)
 }
 
-/// A chain of one mbuf that has a copy of `n` bytes of another mbuf, after the first `skip`: a cluster is
+/// Makes a chain of one mbuf that has a copy of `n` bytes of another mbuf, after the first `skip`. A cluster is
 /// shared.
 #[inline(always)]
 pub(crate) fn new_copy(
@@ -106,7 +106,7 @@ pub(crate) fn append_copy(
     Ok(place)
 }
 
-/// How many bytes a chain has if it has a packet header, otherwise 0: so no mbuf is read.
+/// Returns how many bytes a chain has if it has a packet header, otherwise 0, so no mbuf is read.
 pub(crate) fn counted_len(pool: &Pool, chain: &Chain) -> (bool, u32)
     requires { IsLive pool.now chain.now }
     ensures { result.0 ≡ true → result.1 ≡ length (string (chain_of pool.now chain.now)) }

@@ -1,4 +1,4 @@
-//! Bytes put into new chains.
+//! Storing bytes in new chains.
 ghost use Rattle.std.specs.Prelude.{◌≡◌, ℕ, ◌+◌, ◌-◌, ◌<◌, ◌≤◌, ◌⊎◌, List, true, false, Option, Some, min, nat_le, length, count_by, IfOk, OnOk, OnErr, if◌then◌else◌};
 ghost use Rattle.mbuf_chain.specs.Chain.{alone, held_mbufs, references, free_clusters, string, chain_of, Adds};
 ghost use Rattle.mbuf_chain.specs.Steps.{one_mbuf};
@@ -16,18 +16,18 @@ use params::{
     CLUSTER_LEADING_SPACE, IP_MAX_PACKET, MBUF_HEADER, MCLBYTES, MHLEN, MINCLSIZE, MLEN, MSIZE,
 };
 
-/// Where the bytes of a packet or of a send are stored. Only `space_for` decides it.
+/// The buffers for the bytes of a packet or of a send. Only `space_for` chooses them.
 #[derive(Clone, Copy, Debug, PartialEq, Eq, Drop)]
 pub enum Space {
-    /// Into one mbuf with a packet header: at most 100 bytes.
+    /// One mbuf with a packet header: at most 100 bytes.
     InMbuf,
-    /// Into one cluster: at least 208 bytes.
+    /// One cluster: at least 208 bytes.
     InCluster,
-    /// Into several mbufs.
+    /// Several mbufs.
     InMore,
 }
 
-/// Where `n` bytes are stored, if bytes in a first cluster begin at `large`: 0 for a packet from the wire,
+/// Returns where `n` bytes are stored, if bytes in a first cluster begin at `large`: 0 for a packet from the wire,
 /// `CLUSTER_LEADING_SPACE` for a send.
 #[inline(always)]
 pub fn space_for(large: u32, n: u32) -> Space
@@ -43,7 +43,7 @@ pub fn space_for(large: u32, n: u32) -> Space
     Space::InCluster
 }
 
-/// A chain of one mbuf with bytes in a cluster of its own, from `start` on.
+/// Makes a chain of one mbuf with bytes in a cluster of its own, from `start` on.
 #[inline(always)]
 fn new_cluster(pool: &mut Pool, header: bool, start: u32, bytes: &[u8]) -> Result<Chain, NoBufs>
     requires { start + length bytes.now ≤ MCLBYTES }
@@ -57,9 +57,9 @@ fn new_cluster(pool: &mut Pool, header: bool, start: u32, bytes: &[u8]) -> Resul
     pool.new_cluster_with(header, start, bytes)
 }
 
-/// How many of the remaining bytes go into the next mbuf, and whether it refers to a cluster, which is so from 208
-/// bytes on: at most `large` into a cluster, at most `small` into a plain one (TCP/IP Illustrated, volume 2, chapter
-/// 2).
+/// Returns how many of the remaining bytes go into the next mbuf, and whether it refers to a cluster, which is so from
+/// 208 bytes on: at most `large` into a cluster, at most `small` into a plain one (TCP/IP Illustrated, volume 2,
+/// chapter 2).
 #[inline(always)]
 pub fn next_room(large: u32, small: u32, left: u32) -> (u32, bool)
     ensures len { result.0 ≡ size_of (next_room large small left) }
@@ -72,7 +72,7 @@ pub fn next_room(large: u32, small: u32, left: u32) -> (u32, bool)
     }
 }
 
-/// Where `n` bytes begin in a first plain mbuf: at its end or at its front.
+/// Returns the offset of `n` bytes in a first plain mbuf: at its end or at its front.
 #[inline(always)]
 fn first_start(ends: bool, n: usize) -> u32
     requires { n ≤ MCLBYTES }
@@ -87,7 +87,7 @@ fn first_start(ends: bool, n: usize) -> u32
     }
 }
 
-/// A chain of one mbuf with bytes: in a cluster from `large` on, or in the mbuf itself from `plain` on.
+/// Makes a chain of one mbuf with bytes: in a cluster from `large` on, or in the mbuf itself from `plain` on.
 // Inlined with what it calls, because a first mbuf has a packet header and no later one does.
 #[inline(always)]
 fn new_stored(
@@ -118,7 +118,7 @@ fn new_stored(
     }
 }
 
-/// A chain with packet header of these bytes, mbuf by mbuf: see `store`.
+/// Makes a chain with packet header of these bytes, mbuf by mbuf: see `store`.
 fn store_rooms(pool: &mut Pool, bytes: &[u8], large: u32, ends: bool) -> Result<Chain, NoBufs>
     requires large { large ≤ CLUSTER_LEADING_SPACE }
     requires most { length bytes.now ≤ IP_MAX_PACKET }
@@ -149,7 +149,7 @@ fn store_rooms(pool: &mut Pool, bytes: &[u8], large: u32, ends: bool) -> Result<
     Ok(chain)
 }
 
-/// A chain with packet header of these bytes. In a first cluster they begin at `large`, and in a first plain
+/// Makes a chain with packet header of these bytes. In a first cluster they begin at `large`, and in a first plain
 /// mbuf at its end or at its front.
 // Inlined, because the caller knows where they begin. Mostly they fit into one plain mbuf or one cluster, and then no
 // walk is needed.
@@ -175,10 +175,10 @@ fn store(pool: &mut Pool, bytes: &[u8], large: u32, ends: bool) -> Result<Chain,
     }
 }
 
-/// A chain with packet header of bytes to send, at most 65,535: clusters while at least 208 bytes remain, then plain
-/// mbufs. 56 bytes of leading space are left in a first cluster, and a first plain mbuf is filled at its end. Fails
-/// with `NoBufs` exactly if fewer mbufs or clusters are free than that takes, and then changes nothing. Which free
-/// clusters are taken is left open (sosend; TCP/IP Illustrated, volume 2, chapter 16).
+/// Makes a chain with packet header of bytes to send, at most 65,535: clusters while at least 208 bytes remain, then
+/// plain mbufs. 56 bytes of leading space are left in a first cluster, and a first plain mbuf is filled at its end.
+/// Fails with `NoBufs` exactly if fewer mbufs or clusters are free than that takes, and then changes nothing. Which
+/// free clusters are taken is left open (sosend; TCP/IP Illustrated, volume 2, chapter 16).
 #[inline(always)]
 pub fn from_user(pool: &mut Pool, bytes: &[u8]) -> Result<Chain, NoBufs>
     requires { length bytes.now ≤ IP_MAX_PACKET }
@@ -194,10 +194,10 @@ pub fn from_user(pool: &mut Pool, bytes: &[u8]) -> Result<Chain, NoBufs>
     store(pool, bytes, CLUSTER_LEADING_SPACE, true)
 }
 
-/// A chain with packet header of the bytes of a packet that arrived, at most 65,535: clusters while at least 208 bytes
-/// remain, then plain mbufs, all filled from the front. Fails with `NoBufs` exactly if fewer mbufs or clusters are free
-/// than that takes, and then changes nothing. Which free clusters are taken is left open (m_devget; TCP/IP Illustrated,
-/// volume 2, chapter 2).
+/// Makes a chain with packet header of the bytes of a packet that arrived, at most 65,535: clusters while at least 208
+/// bytes remain, then plain mbufs, all filled from the front. Fails with `NoBufs` exactly if fewer mbufs or clusters
+/// are free than that takes, and then changes nothing. Which free clusters are taken is left open (m_devget; TCP/IP
+/// Illustrated, volume 2, chapter 2).
 #[inline(always)]
 pub fn from_wire(pool: &mut Pool, bytes: &[u8]) -> Result<Chain, NoBufs>
     requires { length bytes.now ≤ IP_MAX_PACKET }
@@ -213,7 +213,8 @@ pub fn from_wire(pool: &mut Pool, bytes: &[u8]) -> Result<Chain, NoBufs>
     store(pool, bytes, 0, false)
 }
 
-/// How many free mbufs and clusters `from_wire` takes for `n` bytes, at most 65,535. Takes one step for each mbuf.
+/// Returns how many free mbufs and clusters `from_wire` takes for `n` bytes, at most 65,535. Takes one step for each
+/// mbuf.
 pub fn wire_need(n: u32) -> Need
     requires { n ≤ IP_MAX_PACKET }
     ensures { result ≡ need_of (wire n) }
@@ -231,7 +232,7 @@ pub fn wire_need(n: u32) -> Need
     }
 }
 
-/// `wire_need` of more than 100 bytes, counted mbuf by mbuf.
+/// `wire_need` for more than 100 bytes, counted mbuf by mbuf.
 fn count_rooms(n: u32) -> Need
     requires many { MHLEN < n }
     requires most { n ≤ IP_MAX_PACKET }

@@ -49,8 +49,8 @@ pub fn stored_layout()
         layout_entries (stored_first 0 false cs (wire (length xs)) xs) ≡ laid_on cs (wire (length xs)) }
 {}
 
-/// Who owns what after an operation: a new chain, a changed chain, perhaps under another number, and two joined chains.
-/// Every other chain is as it was.
+/// The owners' chains after an operation: a new chain, a changed chain, perhaps under another number, and two joined
+/// chains. Every other chain is unchanged.
 pub fn frame()
     ensures made { (p q : PoolView) (d : ℕ) (f : Front) (es : List Entry) → Makes p q d f es →
         Moves p [] q (d ∷ []) }

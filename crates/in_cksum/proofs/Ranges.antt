@@ -1,4 +1,4 @@
--- Ranges of bytes that lie in pieces.
+-- Ranges of bytes across pieces.
 use Rattle.std.proofs.Common.{◌≡◌, ℕ, zero, suc, ◌+◌, ◌-◌, ◌≤◌, min, List, [], ◌∷◌, ◌++◌, length, slice_index_or, take, drop, refl, sym, ap, ◌∙◌, arith, inl, inr, take_all}
 use Rattle.std.proofs.lemmas.List.{length-drop, drop-append-le, take-append-le}
 use Rattle.std.proofs.lemmas.Bool.{cases_lt}
@@ -12,7 +12,7 @@ take_over (suc m) (x ∷ xs) ys =
     let same : m - length xs ≡ suc m - suc (length xs) = omega arith in
     ap (λ (zs : List ℕ). x ∷ zs) (take_over m xs ys) ∙ ap (λ (k : ℕ). (x ∷ take m xs) ++ take k ys) same
 
--- a piece that ends in front of the range
+-- a piece that ends before the range
 pub drop_over : (m : ℕ) (xs ys : List ℕ) → length xs ≤ m → drop m (xs ++ ys) ≡ drop (m - length xs) ys
 drop_over m [] ys h = let same : m ≡ m - 0 = omega arith in ap (λ (k : ℕ). drop k ys) same
 drop_over zero (x ∷ xs) ys h = absurd (omega arith)
@@ -26,7 +26,7 @@ take_least m xs = elim (cases_lt m (length xs)) [
   | inr h ↦ take_all m xs h ∙ sym (take_all (min m (length xs)) xs (omega arith))
 ]
 
--- a piece in which the range begins or goes on
+-- a piece in which the range begins or continues
 pub piece_taken : (piece rest : List ℕ) (skip k want : ℕ) → skip ≤ length piece → k ≡ min want (length piece - skip)
     → take want (drop skip (piece ++ rest)) ≡ take k (drop skip piece) ++ take (want - k) rest
 piece_taken piece rest skip k want inside is =
@@ -38,7 +38,7 @@ piece_taken piece rest skip k want inside is =
     ∙ (λ j. take_least want p j ++ take (less j) rest)
     ∙ ap (λ (n : ℕ). take n p ++ take (want - k) rest) k'
 
--- a range that lies in the first mbuf
+-- a range within the first mbuf
 pub first_range : (off len : ℕ) (v : ChainView) → off + len ≤ length (entry_of v 0).bytes
     → take (off + len - off) (drop off (entry_of v 0).bytes) ≡ take len (drop off (string v))
 first_range off len v inside =

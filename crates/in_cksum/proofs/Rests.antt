@@ -52,7 +52,7 @@ four_added sum r (a ∷ []) long is = absurd (omega arith)
 four_added sum r (a ∷ b ∷ []) long is = absurd (omega arith)
 four_added sum r (a ∷ b ∷ c ∷ []) long is = absurd (omega arith)
 
--- ---- what is left
+-- ---- the last bytes
 
 left_below : (n k : ℕ) (s t : List ℕ) → n ≤ k → length s < k + n → IsLeft n s t → length t < k
 left_below n k s t least most (inl few) = omega arith
@@ -91,7 +91,7 @@ last_three (a ∷ b ∷ []) v r least few is = absurd (omega arith)
 last_three (a ∷ b ∷ c ∷ []) v r least few is = omega arith
 last_three (a ∷ b ∷ c ∷ d ∷ s) v r least few is = absurd (omega arith)
 
--- ---- all of it
+-- ---- all bytes
 
 pub rest_counts : (s1 s2 s3 s4 v : ℕ) (b0 b1 b2 b3 b4 : List ℕ) → IsAdded 0 b0 s1 b1 → IsAdded s1 b1 s2 b2
     → IsAdded s2 b2 s3 b3 → IsAdded s3 b3 s4 b4 → v ≡ s4 + swapped_sum b4 → CountsAs v (swapped_sum b0)

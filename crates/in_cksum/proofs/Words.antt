@@ -1,4 +1,4 @@
--- The sums of words of bytes that are cut, and the two orders of the bytes in a word.
+-- Sums of the words of bytes that come in pieces, and the two orders of the bytes in a word.
 use Rattle.std.proofs.Common.{◌≡◌, ℕ, zero, suc, ◌+◌, ◌*◌, ◌/◌, ◌%◌, ◌<◌, ◌≤◌, List, [], ◌∷◌, ◌++◌, length, get_or, length-append, Bool, not, nat_eq, cond, ◌⊎◌, inl, inr, ap₂, Fits, w8, refl, sym, ap, ◌∙◌, arith}
 use Rattle.std.specs.Int.{w16, swap_bytes}
 use mathlib.Core.Bool.{beq}
@@ -30,7 +30,7 @@ swapped_sum_parts [] = refl
 swapped_sum_parts (a ∷ []) = omega arith
 swapped_sum_parts (a ∷ b ∷ s) = omega (arith, swapped_sum_parts s)
 
--- a shift by 8 bits turns each word round
+-- a shift by 8 bits swaps the bytes of each word
 shift-swapped_sum : (s : List ℕ) → fold16 (256 * swapped_sum s) ≡ fold16 (word_sum s)
 shift-swapped_sum s =
     let parts : 256 * swapped_sum s ≡ 65536 * seconds s + 256 * firsts s = omega (arith, swapped_sum_parts s) in
@@ -50,13 +50,13 @@ swap-fold16 n =
 pub swap-swapped_sum : (s : List ℕ) → swap_bytes w16 (fold16 (swapped_sum s)) ≡ folded_sum s
 swap-swapped_sum s = swap-fold16 (swapped_sum s) ∙ shift-swapped_sum s
 
--- one byte more in front
+-- one more byte at the front
 word_sum-cons : (a : ℕ) (s : List ℕ) → word_sum (a ∷ s) ≡ 256 * a + swapped_sum s
 word_sum-cons a [] = omega arith
 word_sum-cons a (b ∷ []) = omega arith
 word_sum-cons a (b ∷ c ∷ s) = omega (arith, word_sum-cons c s)
 
--- after an even number of bytes the words go on as they are
+-- after an even number of bytes the words of the rest are unchanged
 word_sum-append_even : (s t : List ℕ) → length s % 2 ≡ 0 → word_sum (s ++ t) ≡ word_sum s + word_sum t
 word_sum-append_even [] t even = omega arith
 word_sum-append_even (a ∷ []) t even = omega arith
@@ -67,7 +67,7 @@ swapped_sum-append_even [] t even = omega arith
 swapped_sum-append_even (a ∷ []) t even = omega arith
 swapped_sum-append_even (a ∷ b ∷ s) t even = omega (arith, swapped_sum-append_even s t (omega arith))
 
--- after an odd number each byte stands in the other half of its word
+-- after an odd number of bytes, each byte of the rest is in the other half of its word
 word_sum-append_odd : (s t : List ℕ) → length s % 2 ≡ 1 → word_sum (s ++ t) ≡ word_sum s + swapped_sum t
 word_sum-append_odd [] t odd = omega arith
 word_sum-append_odd (a ∷ []) t odd = word_sum-cons a t
@@ -84,7 +84,7 @@ pub swapped_sum_cut : (s t whole : List ℕ) → whole ≡ s ++ t → length s %
     → swapped_sum s + swapped_sum t ≡ swapped_sum whole
 swapped_sum_cut s t whole cut even = sym (ap swapped_sum cut ∙ swapped_sum-append_even s t even)
 
--- one part more, of which the folded sum alone is kept
+-- one more part, of which only the folded sum is kept
 pub swapped_part_added : (total : ℕ) (part after rest : List ℕ)
     → swapped_sum part + swapped_sum after ≡ swapped_sum rest
     → fold16 (fold16 (total + swapped_sum part) + swapped_sum after) ≡ fold16 (total + swapped_sum rest)
@@ -114,7 +114,7 @@ odd-add m n =
       ]
     ]
 
--- sums of which each may be folded first
+-- folding each of two numbers first doesn't change the folded sum
 same_sums : (a b c d : ℕ) → fold16 a ≡ fold16 c → fold16 b ≡ fold16 d → fold16 (a + b) ≡ fold16 (c + d)
 same_sums a b c d e f =
     sym (fold16-add_second a b) ∙ sym (fold16-add_first a (fold16 b)) ∙ (λ j. fold16 (e j + f j))
@@ -138,7 +138,7 @@ folded_sum-append s t sum raw sum_is raw_is =
 abbrev pair : ℕ → Bool → Partial
 pair n b = record { total = n; is_odd = b }
 
--- one piece more
+-- one more piece
 pub sum_of-append : (s t : List ℕ) (sum raw new : ℕ) (odd : Bool)
     → record { total = fold16 sum; is_odd = odd } ≡ sum_of s → fold16 raw ≡ fold16 (swapped_sum t)
     → fold16 new ≡ fold16 (sum + cond odd raw (256 * raw))

@@ -25,7 +25,7 @@ pub record CountsAs (value total : ℕ) : Type 0 where
   pub value_is : value ≡ once + 65536 * often
   pub total_is : total ≡ once + often
 
--- the bytes that are gone were added to the sum
+-- the bytes that were removed from the list are added to the sum
 pub record IsAdded (sum : ℕ) (bytes : List ℕ) (new : ℕ) (after : List ℕ) : Type 0 where
   pub once : ℕ
   pub often : ℕ

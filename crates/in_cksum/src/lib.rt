@@ -140,7 +140,7 @@ fn add_around(a: u64, b: u64) -> u64
 
 /// The checksum of bytes that are added piece by piece.
 ///
-/// A piece may have any length, and the result doesn't depend on where the bytes are cut: if a piece ends after the
+/// A piece may have any length, and the result doesn't depend on how the bytes are cut: if a piece ends after the
 /// high half of a word, the low half is at the beginning of the next piece.
 #[derive(Clone, Debug, Drop)]
 pub struct Sum {

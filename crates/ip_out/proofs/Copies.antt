@@ -1,4 +1,4 @@
--- A datagram that goes both ways: a copy of its chain, and the packets of each.
+-- A datagram that is sent both ways: a copy of its chain, and the packets of both chains.
 use Rattle.std.proofs.Common.{◌≡◌, ◌≢◌, ℕ, suc, ◌+◌, ◌-◌, Bool, true, List, [], ◌∷◌, ◌++◌, length, take, drop, map, Option, Some, unwrap_or, refl, sym, ap, ◌∙◌, subst, arith, take_all}
 use Rattle.std.specs.Prelude.{nat_lt, slice_index_or, sum_by}
 use Rattle.std.specs.FinMap as finmap
@@ -91,7 +91,7 @@ copied {p} {q} c d room header h mtu m headed live dg =
       moves = moves_beside (c ∷ []) (d ∷ c ∷ []) (c ∷ []) (moves_adds m.adds) (λ k. omega arith) (λ k. omega arith);
     }
 
--- ---- the other chain while one becomes packets
+-- ---- one chain while the packets of the other are made
 pub kept_other : {p q : PoolView} {xs ys : List ℕ} (k : ℕ) → Moves p xs q ys → IsLive p k → times_among k xs ≡ 0
     → (chain_of q k ≡ chain_of p k) × IsLive q k
 kept_other {p} {q} k m live none =
@@ -102,7 +102,7 @@ kept_other {p} {q} k m live none =
 pub not_among : (c d : ℕ) → c ≢ d → times_among d (c ∷ []) ≡ 0
 not_among c d ne = times_other d c [] (λ e. ne (sym e))
 
--- the chain c became a train, and d stands beside it
+-- chain c became a train, and chain d is unchanged
 pub record IsFirst (q r : PoolView) (c d : ℕ) (t : TrainView) : Type 0 where
   pub same : chain_of r d ≡ chain_of q d
   pub live : IsLive r d
@@ -128,7 +128,7 @@ first_sent {q} {r} c d t m live ne held =
           (λ k. omega (arith, times-append k (numbers r t) (d ∷ [])));
     }
 
--- and then d became a train too
+-- chain d became a train too
 pub record IsSecond (p s : PoolView) (r : PoolView) (c : ℕ) (t u : TrainView) : Type 0 where
   pub held : IsHeld s t
   pub same_queued : queued_packets s t ≡ queued_packets r t
@@ -159,7 +159,7 @@ then_freed {r} {s} {z} d t is live held apart freed =
     moves_trans (moves_reordered (numbers r t ++ d ∷ []) (numbers s t) gone.1
     (λ k. omega (arith, times-append k (numbers r t) (d ∷ []))) (λ k. refl)) freed
 
--- where nothing is left of a chain, it is gone, and nothing else
+-- if chain c becomes no chains, it was removed, and the others are unchanged
 pub gone_whole : {p s : PoolView} (c : ℕ) → Moves p (c ∷ []) s [] → IsLive p c → s ≡ without p c
 gone_whole {p} {s} c m live =
     let whole : p ≡ with_chain p c (chain_of p c) =
@@ -170,7 +170,7 @@ gone_whole {p} {s} c m live =
     } in
     moves_nothing (moves_trans (moves_adds (adds_in_place p p c (chain_of p c) whole)) m)
 
--- ---- how many packets
+-- ---- the number of packets
 pub is_cut : (p : PoolView) (t : TrainView) (v : ChainView) (h : IpHead) (mtu : ℕ) → IsHeld p t
     → train_packets p t ≡ packets_of v h mtu → nat_lt 1 t.len ≡ nat_lt 1 (length (chain_parts v mtu))
 is_cut p t v h mtu held is =

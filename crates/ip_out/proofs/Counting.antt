@@ -1,4 +1,4 @@
--- How many mbufs the later fragments of a send take: each mbuf of the datagram by itself.
+-- How many mbufs the later fragments of a send take, counted for each mbuf of the datagram.
 use mir.Val.{bool_byte}
 use Rattle.std.proofs.Common.{◌≡◌, ℕ, zero, suc, ◌+◌, ◌-◌, ◌*◌, ◌/◌, ◌<◌, ◌≤◌, min, max, Bool, true, false, cond, List, [], ◌∷◌, length, map, drop, refl, sym, ap, ◌∙◌, arith, inl, inr}
 use Rattle.std.specs.Prelude.{◌⊎◌, nat_lt, nat_le, sum_by, count_by}
@@ -12,7 +12,7 @@ use Rattle.ip_out.specs.Inside.{here, later_parts, Counts}
 use Rattle.chain_ops.proofs.Laws.Rooms.{rest_rooms, rooms_step}
 use Rattle.flat_model.specs.Amounts.Layout.{Room, Plain, Cluster, size_of, is_cluster, filled, next_room, or_empty, meets_from, need_of_part, sent, need}
 
--- how often rooms, the first of which begins at `at`, meet parts
+-- the number of pairs of a room and a part that share a byte, if the first room begins at `at`
 abbrev pub over : List Room → ℕ → List Part → ℕ
 over rooms at parts =
     sum_by (λ (p : Part). length (meets_from size_of at rooms (20 + p.offset) (20 + p.offset + p.size))) parts
@@ -56,7 +56,7 @@ unfolding meets_from
 over_none at [] = refl
 over_none at (p ∷ parts) = over_none at parts
 
--- what a sum of one more is
+-- each part needs one mbuf more than the number of rooms with which it shares a byte
 pub more_is : (rooms : List Room) (parts : List Part)
     → sum_by (need_of_part rooms) parts ≡ length parts + over rooms 0 parts
 more_is rooms [] = refl
@@ -90,7 +90,7 @@ div_times x c some = elim (div_cases x c (x / c) some) [
 pub mul_more : (k c : ℕ) → (k + 1) * c ≡ k * c + c
 mul_more k c = omega arith
 
--- how many of the later parts the bytes from `at` up to `after` meet
+-- the number of later parts that share a byte with those from `at` up to `after`
 pub closed : (n c at after m : ℕ) → 0 < c → at < after → after ≤ 20 + n → ((i : ℕ) → i ≤ m → (0 < i) → i * c < n)
     → sum_by (here at after) (map (part n c) (range_with_len 1 m)) ≡ min m ((after - 21) / c) - ((at - 20) / c - 1)
 closed n c at after zero some l h all = omega arith
@@ -198,7 +198,7 @@ abbrev pub Kind : ℕ → ℕ → ℕ → ℕ → ℕ → Type 0
 Kind left large small size one =
     ((208 ≤ left) × (size ≡ min left large) × (one ≡ 1)) ⊎ ((left < 208) × (size ≡ min left small) × (one ≡ 0))
 
--- by what `next_room` answers
+-- from the result of `next_room`
 pub kind_is : (left large small size one : ℕ) (b : Bool) → size ≡ size_of (next_room large small left)
     → b ≡ nat_le 208 left → one ≡ bool_byte b → Kind left large small size one
 kind_is left large small size one b is_size is_large is_one = elim (cases_lt left 208) [
@@ -285,7 +285,7 @@ pub filled_none : (large small : ℕ) → filled 0 large small 0 ≡ []
 unfolding filled
 filled_none large small = refl
 
--- the first mbuf
+-- the mbufs of a short datagram
 pub short_is : (n mtu c m met : ℕ) → n ≤ 72 → Counts n mtu c m → met ≡ (28 + n - 21) / c - ((0 - 20) / c - 1)
     → 1 + m + met ≡ (need n mtu).mbufs
 short_is n mtu c m met h counts is =
@@ -329,7 +329,7 @@ need_whole n h =
     need_is n 65535 0 (sent n) refl (sym (ap (λ (xs : List Part). length xs) (cut_short n 65535 (omega arith))))
     ∙ omega (arith, ap (over (sent n) 0) (cut_short n 65535 (omega arith)))
 
--- a short datagram that isn't cut is one mbuf
+-- a short datagram that isn't cut takes one mbuf
 pub need_one : (n mtu : ℕ) → n ≤ 72 → n + 28 ≤ mtu → need n mtu ≡ record { mbufs = 1; clusters = 0 }
 need_one n mtu short fits =
     let later : later_parts n mtu ≡ [] = cut_short n mtu fits in

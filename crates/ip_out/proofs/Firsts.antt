@@ -84,7 +84,7 @@ pub only_some : (es : List Entry) (k : ℕ) → 20 ≤ length (slice_index_or es
 only_some [] k room h = absurd (omega arith)
 only_some (f ∷ es) k room h = (omega (arith, length-take (min k (length f.bytes)) f.bytes, room, h), refl)
 
--- the first mbuf of the chain once it's trimmed
+-- the first mbuf of the chain after it was trimmed
 pub entry_trimmed : {p q r : PoolView} {ys : List ℕ} (c k : ℕ) (at : Place) → Moves p [] q ys → IsLive p c
     → r ≡ with_chain q c (trimmed (chain_of q c) k) → at.index ≡ 0
     → entry_in r c at ≡ entry_of (trimmed (chain_of p c) k) 0
@@ -135,7 +135,7 @@ written {p} {q} {r} {s} {t} c k at hdr m held live is_r index is_s =
     }
 
 -- ---- a chain that isn't cut
--- its header is written, and a train stands beside it
+-- the chain's header is written, and a train is held too
 pub record IsHeaded (p s : PoolView) (t : TrainView) (c k : ℕ) (hdr : List ℕ) : Type 0 where
   pub live : IsLive s c
   pub shown : chain_of s c ≡ with_entry (trimmed (chain_of p c) k) 0
@@ -174,7 +174,7 @@ head_whole h h0 n short is =
     is ∙ (λ j. record h { total = total j; more = more j; offset = offset j })
 
 -- ---- all packets
--- the first, before those of the later parts
+-- the first packet, and then those of the later parts
 pub packets_from : (p s : PoolView) (c n size k count mtu : ℕ) (h h0 : IpHead) (hdr : List ℕ)
     → IsDatagramChain (chain_of p c) → n + 20 ≡ length (string (chain_of p c)) → IsCutInto n mtu size count
     → k ≡ 20 + min size n → h0 ≡ part_head h (part n size 0) → hdr ≡ head_bytes h0 → length hdr ≡ 20
@@ -215,7 +215,7 @@ packets_are {p} {q} {s} {t} z u c n size k count mtu h h0 hdr d len is_cut l ek 
     ap (map f) in_queued_packets ∙ ap (λ (xs : List QueuedPacket). f x ∷ map f xs) w.beside.queued_packets in
     all ∙ (λ i. f x ∷ l.items i) ∙ packets_from p s c n size k count mtu h h0 hdr d len is_cut ek eh eb el w.shown
 
--- it begins in a plain mbuf, as do the others
+-- the first packet begins in a plain mbuf
 cluster_written : (es : List Entry) (k : ℕ) (hdr : List ℕ) → (slice_index_or es 0 no_entry).cluster ≡ None
     → (slice_index_or (slice_set (only_first k es) 0 (overwritten (slice_index_or (only_first k es) 0 no_entry) 0 hdr))
     0 no_entry).cluster ≡ None
@@ -238,7 +238,7 @@ pub string_long : (es : List Entry) → 20 ≤ length (slice_index_or es 0 no_en
 string_long [] h = absurd (omega arith)
 string_long (e ∷ es) h = omega (arith, length-append e.bytes (flat_bytes es), h)
 
--- a chain that isn't cut, after the packets of a train
+-- a chain that isn't cut is added after the packets of a train
 last_in : {p s : PoolView} {t : TrainView} (z : PoolView) (u : TrainView) {c k : ℕ} {hdr : List ℕ}
     → IsHeaded p s t c k hdr
     → queued_packets z u ≡ insert (queued_packets s t) t.len
@@ -282,7 +282,7 @@ plain_added {p} {s} {t} z u c k hdr d w in_queued_packets before =
     (plain_more (queued_packets p t) x before
     (ap (λ (v : ChainView). (entry_of v 0).cluster) w.shown ∙ cluster_written (chain_of p c).entries k hdr d.plain))
 
--- how many mbufs they take beyond the chain's own
+-- the number of mbufs that the packets take besides those of the chain
 pub held_packets : {p z : PoolView} (t : TrainView) (c n size k mtu : ℕ) (h : IpHead) → Moves p (c ∷ []) z (numbers z t)
     → IsLive p c → IsCutInto n mtu size k → n + 20 ≡ length (string (chain_of p c))
     → train_packets z t ≡ packets_of (chain_of p c) h mtu → held_mbufs z ≡ held_mbufs p + later_need (chain_of p c) mtu
@@ -312,7 +312,7 @@ held_packets {p} {z} t c n size k mtu h m live is_cut len is =
       ap (λ (ps : List Part). sum_by (part_need v) (drop 1 ps)) parts,
     )
 
--- the first bytes of a chain whose first mbuf has them
+-- the first bytes of a chain whose first mbuf contains them
 pub first_bytes : (n : ℕ) (v : ChainView) → n ≤ length (entry_of v 0).bytes
     → take n (entry_of v 0).bytes ≡ take n (string v)
 first_bytes n v long = go v.entries long

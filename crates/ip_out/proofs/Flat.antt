@@ -1,4 +1,4 @@
--- The packets in the words of the flat machine.
+-- The packets in the terms of the flat machine.
 use Rattle.std.proofs.Common.{◌≡◌, ℕ, ◌+◌, ◌-◌, ◌*◌, ◌≤◌, min, Bool, true, false, cond, List, [], ◌∷◌, ◌++◌, length, take, drop, map, refl, sym, ap, ◌∙◌, arith}
 use Rattle.std.specs.Prelude.{nat_le}
 use Rattle.std.specs.List.{AllByRecursion, range_with_len}
@@ -50,7 +50,7 @@ sending_head x =
       dst = x.to.ip;
     }
 
--- a part that lies in the datagram
+-- a part that is within the datagram
 abbrev IsWithin : List ℕ → Part → Type 0
 IsWithin d p = length (take p.size (drop p.offset d)) ≡ p.size
 

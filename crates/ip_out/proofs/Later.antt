@@ -19,7 +19,7 @@ pub length_head : (h : IpHead) → length (head_bytes h) ≡ 20
 unfolding head_bytes
 length_head h = refl
 
--- a new mbuf in which a header was put
+-- a new mbuf after a header was written into it
 pub headed : (p q r : PoolView) (d : ℕ) (at : Place) (h : IpHead) (xs : List ℕ)
     → Adds p q d (one_mbuf true (empty_entry 28 None) d) → at.index ≡ 0
     → r ≡ with_entry_in q d at (with_back (entry_in q d at) xs) → xs ≡ head_bytes h
@@ -35,7 +35,7 @@ no_header : (header : Bool) (off : ℕ) → 0 < off → copy_header header off �
 no_header true off some = ne_eqb off 0 (λ z. absurd (omega arith))
 no_header false off some = refl
 
--- the copies of a chain c of p, beside a new chain of r
+-- a range of chain c has the same copy after a new chain was added to the pool
 pub copies_same : (p r : PoolView) (c d off len : ℕ) (h : IpHead) → Adds p r d (one_mbuf true (head_entry h) d)
     → IsLive p c → 0 < off
     → copied (copy_header (chain_of r c).front.header off) (chain_of r c).entries off len
@@ -57,7 +57,7 @@ copy_was p r s c d b off len h a live some m =
 length_range : (off len : ℕ) (xs : List ℕ) → off + len ≤ length xs → length (take len (drop off xs)) ≡ len
 length_range off len xs h = omega (arith, length-take len (drop off xs), length-drop off xs)
 
--- a header and a copy that are to be linked
+-- a header's mbuf and a copy, before they are linked
 pub record IsReady (p r s : PoolView) (c d b off size : ℕ) (h : IpHead) : Type 0 where
   pub copy : Makes r s b (alone false) (copied false (chain_of p c).entries off size)
   pub shown : chain_of s d ≡ one_mbuf true (head_entry h) d
@@ -86,7 +86,7 @@ ready {p} {r} {s} c {d} {b} off len h a live some within made =
           ∙ length_range off len (string (chain_of p c)) within);
     }
 
--- and when they are linked
+-- the two after they are linked
 pub linked : (p r s t : PoolView) (c d b off len : ℕ) (h : IpHead) → Adds p r d (one_mbuf true (head_entry h) d)
     → IsReady p r s c d b off len h
     → t ≡ with_chain (without s b) d (joined (chain_of s d) (chain_of s b))

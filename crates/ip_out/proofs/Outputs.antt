@@ -107,11 +107,11 @@ bag-laid : (es : List Entry) → filter_map (λ (x : flat.LayoutEntry). x.cluste
 bag-laid [] = refl
 bag-laid (e ∷ es) = ap (cons_option e.cluster) (bag-laid es)
 
--- what entries weigh, in either word
+-- the weight of entries is the same by both definitions
 pub weight-laid : (es : List Entry) → weight_of (layout_entries es) ≡ ledger.entries_weight es
 weight-laid es = λ i. record { mbufs = length-laid es i; bag = bag-laid es i }
 
--- the copy of a range weighs what the entries weigh that share a byte with it: the law of chain_ops
+-- the weight of the copy of a range is that of the entries that share a byte with it (a law of chain_ops)
 abbrev pub CopyWeighs : Type 0
 CopyWeighs =
     (header : Bool) (es : List Entry) (off len : ℕ) → HaveBytes es → 0 < len
@@ -140,7 +140,7 @@ need_copied law v p some pos =
       length-laid (copied false v.entries (20 + p.offset) p.size),
     )
 
--- ---- what is beside the new packets
+-- ---- chains other than the new packets
 pub kept_moves : {p q : PoolView} {ys : List ℕ} (c : ℕ) → Moves p [] q ys → IsLive p c
     → (chain_of q c ≡ chain_of p c) × IsLive q c
 kept_moves {p} {q} c m live =
@@ -184,7 +184,7 @@ held_later {p} {q} {t} {v} {h} {ps} l =
       weigh_parts v h ps,
     )
 
--- ---- the train grows
+-- ---- a packet is added to the train
 pub plain_more : (cs : List QueuedPacket) (c : QueuedPacket) → AreBegunPlain cs
     → (slice_index_or c.entries 0 no_entry).cluster ≡ None → AreBegunPlain (cs ++ c ∷ [])
 plain_more [] c all one = (one, tt)
@@ -221,7 +221,7 @@ pub parts_more : (n c i : ℕ) → 0 < i → parts_to n c (i + 1) ≡ parts_to n
 parts_more n c i some = let e : i + 1 - 1 ≡ i - 1 + 1 = omega arith in
     ap (λ (k : ℕ). map (part n c) (range_with_len 1 k)) e ∙ map-range_with_len_more (part n c) 1 (i - 1) i (omega arith)
 
--- a part's need is among those of all
+-- part i and the later parts before it need at most what all later parts need
 pub need_among : (v : ChainView) (n c i k : ℕ) → 0 < i → i < k
     → sum_by (part_need v) (parts_to n c i) + part_need v (part n c i) ≤ sum_by (part_need v) (parts_to n c k)
 need_among v n c i k some lt =
@@ -232,14 +232,14 @@ need_among v n c i k some lt =
 pub part_some : (n c i : ℕ) → 0 < c → i * c < n → 0 < (part n c i).size
 part_some n c i some h = omega arith
 
--- where parts begin
+-- the offsets of parts
 pub offset_unit : (i c : ℕ) → c % 8 ≡ 0 → i * c % 8 ≡ 0
 offset_unit zero c h = omega arith
 offset_unit (suc i) c h =
     let more : suc i * c ≡ i * c + c = omega arith in
     omega (arith, offset_unit i c h, more)
 
--- ---- how many packets
+-- ---- the number of packets
 pub items_length : (es : List flat.LayoutEntry) (f : Part → List ℕ) (ps : List Part)
     → length {A = Item} (items es f ps) ≡ length ps
 items_length es f [] = refl

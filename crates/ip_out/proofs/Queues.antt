@@ -1,4 +1,4 @@
--- Packets go from a train to the end of the output queue.
+-- Moving packets from a train to the end of the output queue.
 use Rattle.std.proofs.Common.{◌≡◌, ℕ, zero, suc, ◌+◌, ◌<◌, ◌≤◌, List, [], ◌∷◌, ◌++◌, length, take, map, None, refl, sym, ap, ◌∙◌, subst, arith, inl, inr}
 use Rattle.std.specs.Prelude.{nat_lt, slice_index_or, ◌⊎◌}
 use Rattle.std.specs.List.{insert, remove}
@@ -22,7 +22,7 @@ packets_len p t h =
     length-map (queued_packets p t) (λ (queued_packet : QueuedPacket). item_of queued_packet.entries)
     ∙ length-queued_packets p t h
 
--- a packet was taken from the train
+-- a packet was removed from the train
 pub record IsTaken (p : PoolView) (t u : TrainView) (r : PoolView) (t' u'' : TrainView) (c : ℕ) : Type 0 where
   pub live : IsLive r c
   pub beside : IsHeld r t'
@@ -52,7 +52,7 @@ first_out p r u u' c tag held some left is = go (queued_packets p u) refl
         ap (map (λ (queued_packet : QueuedPacket). item_of queued_packet.entries)) e
         ∙ (λ i. one i ∷ map (λ (queued_packet : QueuedPacket). item_of queued_packet.entries) (more i))
 
--- if all begin in a plain mbuf, so do the first and the others
+-- if all packets begin in a plain mbuf, so do the first and the others
 pub plain_out : (p r : PoolView) (u u' : TrainView) (c tag : ℕ) → IsHeld p u → 0 < u.len
     → queued_packets r u' ≡ remove (queued_packets p u) 0
     → queued_packet_at p u 0 ≡ record { number = c; entries = (chain_of r c).entries; tag = tag }

@@ -1,4 +1,4 @@
--- The packets of a datagram beside the output queue.
+-- The packets of a datagram and the output queue.
 use Rattle.std.proofs.Common.{◌≡◌, ℕ, ◌+◌, ◌-◌, ◌<◌, ◌≤◌, Bool, true, false, List, [], ◌∷◌, ◌++◌, length, take, drop, map, sym, ap, ◌∙◌, subst, arith, append-nil, inr}
 use Rattle.std.specs.Prelude.{nat_lt}
 use Rattle.std.proofs.lemmas.Bool.{lt-ltb, le-ltb, ltb-false}
@@ -20,7 +20,7 @@ use Rattle.ip_out.proofs.Firsts.{string_long}
 use Rattle.ip_out.proofs.Outputs.{cut_none, items_length}
 use Rattle.ip_out.proofs.Queues.{packets_len, taken_50}
 
--- a chain c became other chains, and a train stands beside them
+-- chain c became other chains, and a train is unchanged
 pub record IsAside (p q : PoolView) (c : ℕ) (ys : List ℕ) (t : TrainView) : Type 0 where
   pub held : IsHeld q t
   pub same_numbers : numbers q t ≡ numbers p t
@@ -51,7 +51,7 @@ aside {p} {q} {ys} c t m live held apart =
           (λ k. same k ∙ times-append k (numbers p t) ys);
     }
 
--- the chain is gone, and the train is what is left
+-- the chain was removed, and only the train is left
 pub aside_gone : {p q : PoolView} (c : ℕ) (t : TrainView) → q ≡ without p c → IsLive p c → IsHeld p t
     → times_among c (numbers p t) ≡ 0
     → IsHeld q t × Moves p (c ∷ numbers p t) q (numbers q t)
@@ -59,7 +59,7 @@ aside_gone {p} {q} c t is live held apart =
     let a = aside c t (moves_without p q c live is) live held apart in
     (a.held, subst (Moves p (c ∷ numbers p t) q) (append-nil (numbers q t)) a.moves)
 
--- all found room
+-- all packets fit into the queue
 pub all_fit : (items : List Item) → nat_lt OUTPUT_QUEUE_PACKETS (length items) ≡ false
     → take OUTPUT_QUEUE_PACKETS items ≡ items
 all_fit items h = take_all OUTPUT_QUEUE_PACKETS items (ltb-false OUTPUT_QUEUE_PACKETS (length items) h)
@@ -105,14 +105,14 @@ room p q t u ys is few one more =
       is_lost = sym (le-ltb OUTPUT_QUEUE_PACKETS (length (train_packets p t ++ ys)) fits);
     }
 
--- ---- the packets of a datagram, the queue, and what comes back
+-- ---- the packets of a datagram, the queue, and the packets that come back
 pub record IsSentOut (p q r : PoolView) (c : ℕ) (o looped : TrainView) (o' : TrainView) : Type 0 where
   pub held : IsHeld r looped
   pub same_packets : train_packets r looped ≡ train_packets q looped
   pub same_queued : queued_packets r looped ≡ queued_packets q looped
   pub moves : Moves p (c ∷ numbers p o) r (numbers r looped ++ numbers r o')
 
--- those for the link stand beside the queue
+-- the queue and the packets for the link share no chain
 pub link_owned : {p q : PoolView} {c : ℕ} (o link looped : TrainView)
     → IsAside p q c (numbers q link ++ numbers q looped) o → IsOwned q (numbers q o ++ numbers q link)
 link_owned {p} {q} o link looped a = λ k. omega (

@@ -1,11 +1,11 @@
--- The checksum of a header, of its numbers.
+-- The checksum of a header, from its fields as numbers.
 use Rattle.std.proofs.Common.{◌≡◌, ℕ, ◌+◌, ◌*◌, ◌/◌, ◌%◌, ap, ◌∙◌, arith}
 use Rattle.flat_model.specs.Packets.Checksum.{fold16, folded_sum, word_sum}
 use Rattle.flat_model.proofs.Laws.{fold16-high}
 use Rattle.ip_out.specs.declared.head.IpHead.{IpHead}
 use Rattle.ip_out.specs.Headings.{blank_bytes, flags_of}
 
--- the high halves of the addresses count as if they stood at the low end
+-- the folded sum is the same if the high halves of the addresses are added as low halves
 pub head_folded : (h : IpHead) (f w : ℕ) → f ≡ flags_of h
     → w ≡ 256 * 69 + h.tos + (h.total + h.id + f) + (256 * h.ttl + h.proto) + (h.src + h.dst)
     → fold16 w ≡ folded_sum (blank_bytes h)

@@ -13,7 +13,7 @@ use Rattle.ip_out.specs.declared.head.IpHead.{IpHead}
 use Rattle.ip_out.specs.Headings.{head_bytes}
 use Rattle.ip_out.specs.Packets.{train_packets, part_bytes, BeginPlain}
 
--- ---- how many mbufs of a send its later fragments meet
+-- ---- how many mbufs of a send share a byte with its later fragments
 
 -- 1 if the bytes from `at` up to `end` share one with a part
 abbrev pub here : ℕ → ℕ → Part → ℕ

@@ -44,7 +44,7 @@ abbrev pub later_need : ChainView → ℕ → ℕ
 later_need v mtu = sum_by (part_need v) (drop 1 (chain_parts v mtu))
 
 -- A chain that can be output: its first mbuf is plain, has a packet header and begins with the 20 bytes of the
--- IP header, whatever they are; none of its mbufs is empty, and no more bytes are there than a packet has.
+-- IP header, whatever they are; none of its mbufs is empty, and it isn't longer than a packet can be.
 pub record IsDatagramChain (v : ChainView) : Type 0 where
   pub headed : v.front.header ≡ true
   pub plain : (entry_of v 0).cluster ≡ None

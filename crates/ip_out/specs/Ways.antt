@@ -1,4 +1,4 @@
--- Where the packets of a datagram go (`ip_output`, `looutput` and `ether_output` of volume 2, chapters 8, 5 and 4).
+-- The ways of a datagram's packets (`ip_output`, `looutput` and `ether_output` of volume 2, chapters 8, 5 and 4).
 use Rattle.std.specs.Prelude.{ℕ, ◌+◌, List, [], length}
 use Rattle.flat_model.specs.Amounts.Weight.{Item}
 use Rattle.mbuf_chain.specs.Chain.{ChainView}

@@ -18,16 +18,16 @@ use mbuf_chain::{Chain, Pool, Train};
 use mbuf_pool::NoBufs;
 use params::{FRAGMENT_UNIT, IP_HEADER, IP_MAX_DATA, IP_MAX_PACKET, MIN_MTU, PACKET_START};
 
-/// How bytes are cut that are too many for one packet.
+/// The cut of bytes that don't fit into one packet.
 #[derive(Clone, Copy)]
 pub(crate) struct Cut {
-    /// How many of them each packet but the last carries.
+    /// The number of bytes that each packet except the last carries.
     pub(crate) chunk: u32,
-    /// How many packets there are.
+    /// The number of packets.
     pub(crate) count: u32,
 }
 
-/// How `n` bytes are cut, which are too many for one packet.
+/// Returns the cut of `n` bytes, which don't fit into one packet.
 #[inline(always)]
 pub(crate) fn cut_of(n: u32, mtu: u32) -> Cut
     requires long { mtu < IP_HEADER + n }
@@ -45,7 +45,7 @@ pub(crate) fn cut_of(n: u32, mtu: u32) -> Cut
     }
 }
 
-/// The header of the packet that carries part `i` of `n` bytes in chunks.
+/// Returns the header of the packet that carries part `i` of `n` bytes in chunks.
 #[inline(always)]
 fn head_of(head: IpHead, n: u32, chunk: u32, i: u32) -> IpHead
     requires short { n ≤ IP_MAX_DATA }
@@ -62,7 +62,7 @@ fn head_of(head: IpHead, n: u32, chunk: u32, i: u32) -> IpHead
     }
 }
 
-/// A new mbuf with packet header, with the IP header at its front.
+/// Makes a new mbuf with packet header, with the IP header at its front.
 #[inline(always)]
 fn header_mbuf(pool: &mut Pool, head: IpHead) -> Result<Chain, NoBufs>
     requires offset { head.offset ≤ MAX_OFFSET }
@@ -76,7 +76,7 @@ fn header_mbuf(pool: &mut Pool, head: IpHead) -> Result<Chain, NoBufs>
     pool.new_plain_with(true, PACKET_START, &bytes)
 }
 
-/// A fragment: an mbuf with a header, and after it a copy of `size` bytes of a chain from a cursor on.
+/// Makes a fragment: an mbuf with a header, and after it a copy of `size` bytes of a chain from a cursor on.
 #[inline(always)]
 fn fragment(
     pool: &mut Pool,
@@ -111,7 +111,7 @@ fn fragment(
     Ok(front)
 }
 
-/// The packets of the parts after the first of `n` bytes. The chain is walked once.
+/// Makes the packets of the parts after the first of `n` bytes. The chain is walked once.
 fn later(pool: &mut Pool, chain: &Chain, head: IpHead, n: u32, cut: Cut) -> Result<Train, NoBufs>
     requires live { IsLive pool.old chain.now }
     requires datagram { IsDatagramChain (chain_of pool.old chain.now) }
@@ -177,7 +177,7 @@ pub(crate) fn add_whole(pool: &mut Pool, train: &mut Train, chain: Chain, head: 
     train.insert(pool, end, chain, 0);
 }
 
-/// The packet of a datagram of `len` bytes that isn't cut: see `add_whole`.
+/// Makes the packet of a datagram of `len` bytes that isn't cut: see `add_whole`.
 fn one_packet(pool: &mut Pool, chain: Chain, head: IpHead, len: u32) -> Train
     requires live { IsLive pool.old chain }
     requires datagram { IsDatagramChain (chain_of pool.old chain) }
@@ -197,7 +197,7 @@ fn one_packet(pool: &mut Pool, chain: Chain, head: IpHead, len: u32) -> Train
     train
 }
 
-/// The packets of a datagram of `len` bytes, its header included, which are too many for one packet: see `fragments`.
+/// Makes the packets of a datagram of `len` bytes with its header, which don't fit into one packet: see `fragments`.
 fn cut_packets(
     pool: &mut Pool,
     chain: Chain,

@@ -56,7 +56,7 @@ pub struct IpHead {
     pub dst: u32,
 }
 
-/// The field of flags and offset.
+/// Returns the field of flags and offset.
 #[inline(always)]
 fn flags_of(head: &IpHead) -> u16
     requires { head.now.offset ≤ MAX_OFFSET }
@@ -98,7 +98,7 @@ fn put_u32(bytes: &mut [u8], at: usize, n: u32)
     BigEndian::write_u32(&mut bytes[at..at + 4], n);
 }
 
-/// The checksum of a header, computed from its fields.
+/// Returns the checksum of a header, computed from its fields.
 #[inline(always)]
 fn checksum_of(head: &IpHead) -> u16
     requires { head.now.offset ≤ MAX_OFFSET }
@@ -182,7 +182,7 @@ fn head_in(bytes: &[u8]) -> IpHead
     }
 }
 
-/// The first test that a packet of `len` bytes fails, from its first 20 bytes.
+/// Returns the first test that a packet of `len` bytes fails, from its first 20 bytes.
 #[inline(always)]
 fn fault_in(bytes: &[u8; IP_HEADER as usize], len: u32) -> Option<Why>
     requires few { IP_HEADER ≤ len }
@@ -226,7 +226,7 @@ fn head_or_fault(bytes: &[u8; IP_HEADER as usize], len: u32) -> Result<IpHead, W
     }
 }
 
-/// `read_head` of a packet of `len` bytes whose header is split across mbufs.
+/// `read_head` for a packet of `len` bytes whose header is split across mbufs.
 fn read_cut(pool: &Pool, chain: &Chain, len: u32) -> Result<IpHead, Why>
     requires live { IsLive pool.now chain.now }
     requires len { len ≡ length (string (chain_of pool.now chain.now)) }
@@ -297,7 +297,7 @@ pub fn read_packet(packet: &[u8]) -> Result<Headed<'_>, Why>
 }
 
 impl<'a> Headed<'a> {
-    /// All fields of its header.
+    /// Returns all fields of its header.
     // Inlined, so that the compiler reads only the fields that the caller uses.
     #[inline(always)]
     pub fn head(&self) -> IpHead
@@ -307,7 +307,7 @@ impl<'a> Headed<'a> {
         head_in(bytes)
     }
 
-    /// The bytes after its header, up to its total length.
+    /// Returns the bytes after its header, up to its total length.
     #[inline(always)]
     pub fn carried(&self) -> &'a [u8]
         ensures { result.now ≡ carried_of self.now.packet.now }

@@ -14,10 +14,10 @@ use params::{
 /// The longest datagram that shares its mbuf with its headers.
 const MAX_SHARED: u32 = MHLEN - IP_UDP_HEADERS;
 
-/// More bytes than any packet has: what a packet carries that isn't cut.
+/// A limit above the length of any packet. It is the chunk of a datagram that isn't cut.
 const UNCUT: u32 = 131_072;
 
-/// How many fragments after the first, which begin at 20 + `chunk`, 20 + 2 `chunk` and so on, share a byte with
+/// Returns how many fragments after the first, which begin at 20 + `chunk`, 20 + 2 `chunk` and so on, share a byte with
 /// the bytes of the packet from `at` up to `end`.
 fn later_met(chunk: u32, at: u32, end: u32) -> u32
     requires chunk { MIN_MTU - IP_HEADER ≤ chunk }
@@ -30,8 +30,8 @@ fn later_met(chunk: u32, at: u32, end: u32) -> u32
     last.saturating_sub(before)
 }
 
-/// How many bytes each fragment but the last carries of a send of `n` bytes, and how many fragments there are after
-/// the first.
+/// Returns how many bytes of a send of `n` bytes each fragment except the last carries, and how many fragments there
+/// are after the first.
 fn later_of(n: u32, mtu: u32) -> (u32, u32)
     requires short { n ≤ UDP_MAX_DATA }
     requires least { MIN_MTU ≤ mtu }
@@ -79,9 +79,9 @@ fn count(n: u32, mtu: u32) -> Need
     Need { mbufs, clusters }
 }
 
-/// The number of free mbufs and clusters that a send of `n` bytes takes, with packets of at most `mtu` bytes: those of
-/// the datagram, and for each fragment after the first an mbuf for its header and one for each mbuf that contains some
-/// of its bytes. Clusters are shared. `n` is at most 65,507, `mtu` at least 68.
+/// Returns the number of free mbufs and clusters that a send of `n` bytes takes, with packets of at most `mtu` bytes:
+/// those of the datagram, and for each fragment after the first an mbuf for its header and one for each mbuf that
+/// contains some of its bytes. Clusters are shared. `n` is at most 65,507, `mtu` at least 68.
 ///
 /// It takes one step for each mbuf of the datagram; the number of fragments doesn't count (`sosend`, `ip_output` of
 /// TCP/IP Illustrated volume 2, chapters 16 and 8).
@@ -100,9 +100,9 @@ pub fn need(n: u32, mtu: u16) -> Need
     count(n, mtu as u32)
 }
 
-/// The number of free mbufs and clusters that a send of `n` bytes to the broadcast address takes, in one packet: those
-/// of the datagram, and the same number of mbufs for the copy that comes back. Clusters are shared. `n` is at most
-/// 65,507.
+/// Returns the number of free mbufs and clusters that a send of `n` bytes to the broadcast address takes, in one
+/// packet: those of the datagram, and the same number of mbufs for the copy that comes back. Clusters are shared. `n`
+/// is at most 65,507.
 ///
 /// It takes one step for each mbuf of the datagram (`ether_output` and `looutput` of TCP/IP Illustrated volume 2,
 /// chapters 4 and 5).

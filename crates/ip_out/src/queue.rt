@@ -79,7 +79,7 @@ impl Model for Queue {
 }
 
 impl Queue {
-    /// A queue without packets.
+    /// Creates a queue without packets.
     pub const fn new() -> Queue
         ensures empty { result ≡ record { first = None; last = None; len = 0 } }
         ensures queue { (p : PoolView) → IsOutputQueue p result }
@@ -90,22 +90,22 @@ impl Queue {
         }
     }
 
-    /// The number of queued packets.
+    /// Returns the number of queued packets.
     pub const fn len(&self) -> u32
         ensures { result ≡ self.now.len }
     {
         self.train.len()
     }
 
-    /// Whether the queue is empty.
+    /// Returns whether the queue is empty.
     pub const fn is_empty(&self) -> bool
         ensures { result ≡ (self.now.len == 0) }
     {
         self.train.is_empty()
     }
 
-    /// The length in bytes of the oldest packet; `None` if the queue is empty. It changes nothing. The number of steps
-    /// doesn't depend on the queue.
+    /// Returns the length in bytes of the oldest packet, or `None` if the queue is empty. It changes nothing and takes
+    /// O(1) steps.
     pub fn next_len(&self, pool: &Pool) -> Option<u32>
         requires { IsOutputQueue pool.now self.now }
         ensures { result ≡ oldest_length (train_packets pool.now self.now) }
@@ -129,8 +129,8 @@ impl Queue {
         copy_packet(pool, &self.train, i, room)
     }
 
-    /// The mbufs of the packet at index `i`, in order, for drawing them: each one's head fields and its bytes. `None`
-    /// exactly if no more than `i` packets are queued. It takes one step for each packet before it.
+    /// Returns the mbufs of the packet at index `i`, in order, for drawing them: the head fields and the bytes of each.
+    /// Returns `None` exactly if no more than `i` packets are queued. It takes one step for each packet before it.
     pub fn heads<'a>(&self, pool: &'a Pool, i: u32) -> Option<MbufHeads<'a>>
         requires { IsOutputQueue pool.now self.now }
         ensures { result ≡ nth_heads pool.now (numbers pool.now self.now) i }
@@ -138,8 +138,8 @@ impl Queue {
         self.train.heads(pool, i)
     }
 
-    /// Appends a packet. Fewer than 50 must be queued, and its first mbuf must have a packet header. The number of
-    /// steps doesn't depend on the queue.
+    /// Appends a packet. Fewer than 50 must be queued, and its first mbuf must have a packet header. It takes O(1)
+    /// steps.
     pub fn push(&mut self, pool: &mut Pool, packet: Chain)
         requires queue { IsOutputQueue pool.old self.old }
         requires room { self.old.len < OUTPUT_QUEUE_PACKETS }
@@ -189,7 +189,7 @@ impl Queue {
     }
 
     /// Appends a datagram of `len` bytes as one packet. Fewer than 50 must be queued, and the conditions of
-    /// `send_packets` hold for the chain. The number of steps doesn't depend on the queue.
+    /// `send_packets` hold for the chain. It takes O(1) steps.
     #[inline(always)]
     pub fn push_one(&mut self, pool: &mut Pool, chain: Chain, head: IpHead, len: u32)
         requires queue { IsOutputQueue pool.old self.old }
@@ -210,7 +210,7 @@ impl Queue {
         add_whole(pool, &mut self.train, chain, head, len);
     }
 
-    /// Removes the oldest packet; `None` if the queue is empty. The number of steps doesn't depend on the queue.
+    /// Removes and returns the oldest packet, or returns `None` if the queue is empty. It takes O(1) steps.
     pub fn pop(&mut self, pool: &mut Pool) -> Option<Chain>
         requires { IsOutputQueue pool.old self.old }
         ensures packets { MatchOption result

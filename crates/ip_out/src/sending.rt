@@ -82,8 +82,8 @@ impl Queue {
     ///
     /// # Errors
     ///
-    /// `NoBufs` exactly if fewer mbufs are free than copy and later packets take: nothing is queued, and the chain is
-    /// freed.
+    /// `NoBufs` exactly if fewer mbufs are free than the copy and the later packets take: nothing is queued, and the
+    /// chain is freed.
     #[inline(always)]
     pub fn send_packets(
         &mut self,

@@ -7,7 +7,7 @@ ghost use Rattle.ip_out.specs.Questions.{nth_packet};
 
 use mbuf_chain::{Pieces, Pool, QueuedPlace, Train};
 
-/// The place of the packet at index `i`.
+/// Returns the place of the packet at index `i`.
 fn place_at(pool: &Pool, train: &Train, i: u32) -> QueuedPlace
     requires within { i < train.now.len }
     requires held { IsHeld pool.now train.now }

@@ -27,15 +27,15 @@ pub enum Way {
 
 /// The packets of a datagram. Both trains must be consumed.
 pub struct Packets {
-    /// Those for the link.
+    /// The packets for the link.
     pub link: Train,
-    /// Those that come back.
+    /// The packets that come back.
     pub looped: Train,
     /// Whether the datagram was cut into more than one packet.
     pub is_cut: bool,
 }
 
-/// The packets of a datagram that goes both ways: see `make_packets`.
+/// Makes the packets of a datagram that goes both ways: see `make_packets`.
 fn both_ways(pool: &mut Pool, chain: Chain, head: IpHead, mtu: u16) -> Result<Packets, NoBufs>
     requires live { IsLive pool.old chain }
     requires datagram { IsDatagramChain (chain_of pool.old chain) }
@@ -80,7 +80,7 @@ fn both_ways(pool: &mut Pool, chain: Chain, head: IpHead, mtu: u16) -> Result<Pa
 ///
 /// # Errors
 ///
-/// `NoBufs` exactly if fewer mbufs are free than copy and later packets take. The chain is freed then.
+/// `NoBufs` exactly if fewer mbufs are free than the copy and the later packets take. The chain is freed then.
 pub fn make_packets(
     pool: &mut Pool,
     chain: Chain,

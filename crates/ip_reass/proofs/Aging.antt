@@ -72,7 +72,7 @@ aged-append (d ∷ xs) ys = elim (cases_lt 1 d.ticks) [
       ∙ (aged-append xs ys ∙ ap (λ (zs : List Datagram). zs ++ aged ys) (sym (cond-false _ _ _ (le-ltb 1 d.ticks l))))
 ]
 
--- the loop: those before kept go on, those from i on are as they were
+-- the loop: the first `kept` rows are those of the first i that remain, and those from i on are unchanged
 pub record Aging (old now : List Datagram) (kept i : ℕ) : Type 0 where
   pub within : kept ≤ i
   pub len : length now ≡ length old
@@ -155,7 +155,7 @@ aging_kept old now next kept i d y a l t y_is is perm =
           (subst (λ (x : Datagram). IsUnfinished p x) (sym y_is) mine))));
     }
 
--- the two arms of the loop
+-- the two branches of the loop
 pub arm_past : (old now next : List Datagram) (kept i k : ℕ) (d : Datagram) → Aging old now kept i → i < length now
     → (get_or now i d).ticks ≤ 1 → next ≡ now → k ≡ kept → Aging old next k (i + 1)
 arm_past old now next kept i k d a l t is k_is =
@@ -201,11 +201,11 @@ table_reordered p r xs ys zs same m =
     moves_beside (held_all p xs) zs [] m (λ k. omega (arith, times_all p k xs, times_all p k ys, same k))
     (λ k. omega arith)
 
--- what a slice lent of the whole vector leaves
+-- the vector after a slice of all of it was lent
 pub lent : (n : ℕ) (xs ys : List Datagram) → length ys ≡ n → take n (ys ++ drop (length ys) xs) ≡ ys
 lent n xs ys e = take_at ys (drop (length ys) xs) n e
 
--- ---- what the flat machine says of a tick
+-- ---- a tick in the flat machine
 abbrev pub older : List Unfinished → List Unfinished
 older us = map (λ (u : Unfinished). record u { ticks = u.ticks - 1 }) us
 
@@ -257,7 +257,7 @@ tick_step rest c p q old new n e same left =
     omega (arith, gone_is p old) in
     λ j. record rest { unfinished = sym shows j; counters = counts_more IpFragtimeout (count j) c }
 
--- no key is held twice then
+-- no key occurs twice after a tick
 keys_aged : (p : PoolView) (k : Key) (ds : List Datagram)
     → count_by (is_key k) (unfinished p (aged ds)) ≤ count_by (is_key k) (unfinished p ds)
 keys_aged p k [] = omega arith

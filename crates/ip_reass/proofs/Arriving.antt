@@ -1,4 +1,4 @@
--- A fragment that arrives, as a step of the flat machine.
+-- An arriving fragment, as a step of the flat machine.
 use Rattle.std.proofs.Common.{◌≡◌, ℕ, zero, suc, ◌+◌, ◌-◌, ◌<◌, ◌≤◌, Bool, true, false, cond, List, [], ◌∷◌, ◌++◌, length, find, count_by, drop, Option, None, Some, is_some, refl, sym, ap, ◌∙◌, subst, arith, length-drop}
 use Rattle.std.specs.Prelude.{slice_get}
 use Rattle.std.proofs.lemmas.Bool.{false≢true, ltb-false, or_parts, cond-true, cond-false}
@@ -38,7 +38,7 @@ use Rattle.ip_reass.specs.Arrivals.{machine_with, flat_head, key_in, IsPulled, p
 use Rattle.ip_reass.specs.declared.datagram.Datagram.{Datagram}
 use Rattle.ip_reass.proofs.Places.{found_passes}
 
--- ---- the accounts after a step: those of what is in hand and of the table
+-- ---- the accounts after a step: for the chains that the arrival holds, and for the table
 pub accounts : (p q : PoolView) (xs ys : List ℕ) (rest : State) (held a b : Weight) (ds es : List Datagram)
     (c d : Counters) → IsAccounted p (machine_with p ds c rest) (held ⊕ a)
     → Moves p (xs ++ held_all p ds) q (ys ++ held_all q es)
@@ -96,7 +96,7 @@ one_weighs p c = record { mbufs = omega arith; bag = λ k. omega (arith, times-b
 pub same_weight : (a : Weight) → SameWeight a a
 same_weight a = record { mbufs = refl; bag = λ k. refl }
 
--- ---- the header taken off
+-- ---- the header is removed
 pub record Trimmed (q : PoolView) (es : List Datagram) (n : ℕ) (r : PoolView) : Type 0 where
   pub table : IsTable r es
   pub shows : unfinished r es ≡ unfinished q es
@@ -137,14 +137,14 @@ carried_bytes v =
     pulled_bytes true = pulled_up_bytes v 20
     pulled_bytes false = refl
 
--- ---- the three ends
+-- ---- the three cases of `ChainArrives`
 module _ (held : Weight) (old new : State) (h : IpHead) (v : ChainView) where
-  -- none can be so
+  -- a malformed fragment
   pub arrives_bad : is_bad_fragment (flat_head h) (h.total - 20) ≡ true → new ≡ ends BadFragment old
       → ChainArrives held h v old new
   arrives_bad bad is = record { yes = λ e. is; no = λ e. absurd (false≢true (sym e ∙ bad)) }
 
-  -- a first mbuf that is a cluster
+  -- the first mbuf is a cluster
   pub arrives_cluster : is_bad_fragment (flat_head h) (h.total - 20) ≡ false → is_some (entry_of v 0).cluster ≡ true
       → Tests exact_ledger (counts_fragment old) (held ⊕ entries_weight v.entries) 1 new
       (λ mid. Joins exact_ledger held (key_in h) (fragment_of (fragment_carried v h)) mid new)
@@ -154,7 +154,7 @@ module _ (held : Weight) (old new : State) (h : IpHead) (v : ChainView) where
     no = λ e. record { yes = λ is. tests; no = λ is. absurd (false≢true (sym is ∙ cluster)) };
   }
 
-  -- a plain first mbuf
+  -- the first mbuf is plain
   pub arrives_plain : is_bad_fragment (flat_head h) (h.total - 20) ≡ false → is_some (entry_of v 0).cluster ≡ false
       → Joins exact_ledger held (key_in h) (fragment_of (fragment_carried v h)) (counts_fragment old) new
       → ChainArrives held h v old new
@@ -163,7 +163,7 @@ module _ (held : Weight) (old new : State) (h : IpHead) (v : ChainView) where
     no = λ e. record { yes = λ is. absurd (false≢true (sym plain ∙ is)); no = λ is. joins };
   }
 
--- a test for the header's mbuf, and where it passed, that the fragment joins
+-- the test for the header's mbuf and, if it passed, the fragment that joins the others
 pub tests_of : (rest : State) (held : Weight) (new : State) (k : Key) (f : Fragment) (w : Weight) (p q : PoolView)
     (ds es : List Datagram) (c d : Counters) (answer : Bool) → IsPulled p ds c w answer q es d rest held
     → (answer ≡ true → Joins exact_ledger held k f (machine_with q es d rest) new)
@@ -293,7 +293,7 @@ pulled_done rest held w p q r ds es c mid answer agrees af shows = record {
   counts = refl;
 }
 
--- the table beside a chain that was pulled up
+-- the table, and the chain that was pulled up
 pub record Pulled (p : PoolView) (ds : List Datagram) (c : ℕ) (q r : PoolView) (es : List Datagram) (d : ℕ) : Type 0
   where
     pub table : IsTable r es
@@ -318,7 +318,7 @@ pulled p q r ds es c d f entries st is made =
           (λ k. omega arith) (λ k. omega (arith, ap (owners.times_among k) all)));
     }
 
--- ---- a fragment that can be
+-- ---- a fragment that isn't malformed
 pub good_some : (h : IpHead) (n : ℕ) → is_bad_fragment (flat_head h) n ≡ false → 0 < n
 good_some h zero e = absurd (false≢true (sym e))
 good_some h (suc n) e = omega arith
@@ -326,7 +326,7 @@ good_some h (suc n) e = omega arith
 pub good_small : (h : IpHead) (n : ℕ) → is_bad_fragment (flat_head h) n ≡ false → h.offset + n ≤ 65515
 good_small h n e = ltb-false _ _ (or_parts _ _ e).1
 
--- **a fragment whose header stands in a plain mbuf now**
+-- **a fragment whose header is in a plain mbuf now**
 module _ (rest : State) (held : Weight) (new : State) (h : IpHead) (p q r : PoolView) (ds es : List Datagram)
     (c c1 d : Counters) (n n' : ℕ) (good : is_bad_fragment (flat_head h) (h.total - 20) ≡ false)
     (counts : c1 ≡ counts_more IpFragments 1 c)
@@ -338,7 +338,7 @@ module _ (rest : State) (held : Weight) (new : State) (h : IpHead) (p q r : Pool
       ap (λ (xs : List Entry). fragment_of (record { offset = h.offset; more = h.more; entries = xs }))
       (ap (λ (v : ChainView). v.entries) t.chain ∙ ap (without_first 20) entries)
 
-  -- what joins, from the state that the test of its header leaves
+  -- the fragment joins the others in the state after the test for its header's mbuf
   joins_then : (s : State) → machine_with r es d rest ≡ s
       → Joins exact_ledger held (key_in h) (fragment_of (fragment_carried (chain_of p n) h)) s new
   joins_then s now =
@@ -369,7 +369,7 @@ module _ (rest : State) (held : Weight) (new : State) (h : IpHead) (p q r : Pool
       (tests_of rest held new (key_in h) (fragment_of (fragment_carried (chain_of p n) h)) (weight_at p n) p q ds es c1
       d true tested (λ e. joins_then (machine_with q es d rest) now) (λ e. absurd (false≢true (sym e)))))
 
--- **no mbuf was had for its header**
+-- **no mbuf was free for its header**
 pub none_cluster : (rest : State) (held : Weight) (new : State) (h : IpHead) (p q : PoolView) (ds es : List Datagram)
     (c c1 d : Counters) (n : ℕ) (answer : Bool) → is_bad_fragment (flat_head h) (h.total - 20) ≡ false
     → c1 ≡ counts_more IpFragments 1 c
@@ -385,7 +385,7 @@ none_cluster rest held new h p q ds es c c1 d n answer good counts cluster teste
     (tests_of rest held new (key_in h) (fragment_of (fragment_carried (chain_of p n) h)) (weight_at p n) p q ds es c1 d
     answer tested (λ e. absurd (false≢true (sym refused ∙ e))) (λ e. is)))
 
--- the length of what is carried
+-- the number of bytes that are carried
 pub carried_size : (p : PoolView) (n len : ℕ) → length (string (chain_of p n)) ≡ 20 + len
     → length (flat_bytes (carried_entries (chain_of p n))) ≡ len
 carried_size p n len long =
@@ -395,7 +395,7 @@ pub carried_len : (p r : PoolView) (n n' len : ℕ) → length (string (chain_of
     → (chain_of r n').entries ≡ carried_entries (chain_of p n) → length (string (chain_of r n')) ≡ len
 carried_len p r n n' len long e = omega (arith, carried_size p n len long, ap length (ap flat_bytes e))
 
--- the same weight beside other counters
+-- the same weight with other counters
 pub accounted_counters : (p : PoolView) (ds : List Datagram) (c d : Counters) (rest : State) (held : Weight)
     → IsAccounted p (machine_with p ds c rest) held → IsAccounted p (machine_with p ds d rest) held
 accounted_counters p ds c d rest held a =

@@ -1,5 +1,5 @@
--- A fragment that is laid at once: the mbufs that it takes are those of its packet once that is pulled up and trimmed,
--- and the step is that of the packet's chain.
+-- A fragment that is queued directly: its mbufs are those of its packet after `pull_up` and `trim_front`, and the step
+-- is that of the packet's chain.
 use Rattle.std.proofs.Common.{◌≡◌, ℕ, ◌+◌, ◌-◌, ◌<◌, ◌≤◌, min, Bool, true, false, not, List, [], ◌∷◌, ◌++◌, length, take, drop, None, Some, refl, sym, ap, ◌∙◌, subst, arith, inl, length-append, length-drop}
 use Rattle.std.specs.Prelude.{◌&&◌, nat_le}
 use Rattle.std.proofs.lemmas.Bool.{false≢true, true≢false, le-leb, leb-true, ltb-true, eqb-true, cond-false}
@@ -131,7 +131,7 @@ module _ (packet : List ℕ) (many : 100 < length packet) where
   pub left_are : first_left ∷ second_left ∷ [] ≡ carried_entries (in_mbufs packet)
   left_are = sym both_trimmed
 
--- how many bytes they hold
+-- the bytes of a stored packet are those of the packet
 pub stored_bytes : (packet : List ℕ) (k : ℕ) → flat_bytes (as_stored packet k).entries ≡ packet
 stored_bytes packet k = go (nat_le 208 (length packet))
   where
@@ -148,7 +148,7 @@ laid_len packet k many made =
     ∙ ap (λ (xs : List ℕ). length (drop 20 xs)) (stored_bytes packet k)
     ∙ omega (arith, length-drop 20 packet)
 
--- a front of one mbuf put before a new chain of one
+-- a chain of one mbuf, linked before a new chain of one mbuf
 pub put_before : (p q r s : PoolView) (c d : ℕ) (e f : Entry) → Adds p q d (one_mbuf false f d)
     → Adds q r c (one_mbuf true e c) → s ≡ with_chain (without r d) c (joined (chain_of r c) (chain_of r d))
     → Makes p s c (alone true) (e ∷ f ∷ [])
@@ -161,7 +161,7 @@ put_before p q r s c d e f first second is =
     makes_as p (alone true) (e ∷ f ∷ []) (makes_new b) refl refl
     (ap (λ (v : ChainView). e ∷ v.entries) (shown_adds first))
 
--- ---- what stays as the chain comes
+-- ---- what is unchanged while the chain is made
 
 pub record Stored (p : PoolView) (r : TableView) (m : PoolView) (c : ℕ) : Type 0 where
   pub ready : IsReady m r

@@ -1,5 +1,5 @@
--- What is known of a packet by its origin: what it weighs once its header is pulled up, and that its arrival is the
--- flat machine's.
+-- A packet whose origin is known: its weight after its header is pulled up, and that its arrival is that of the flat
+-- machine.
 use Rattle.std.proofs.Common.{◌≡◌, ◌⊎◌, ℕ, suc, ◌+◌, ◌-◌, ◌<◌, ◌≤◌, ◌++◌, min, cond, Bool, true, false, not, List, [], ◌∷◌, length, drop, take, Option, None, Some, is_some, get_or, refl, sym, ap, ◌∙◌, subst, arith, inl, inr, length-drop, length-append}
 use Rattle.std.proofs.lemmas.List.{append-nil, length-take, take-append-drop}
 use Rattle.std.specs.Prelude.{filter_map, nat_le}
@@ -25,16 +25,16 @@ use Rattle.ip_reass.specs.Layouts.{fragment_carried, PullsUpHeader, ChainArrives
 use Rattle.ip_reass.proofs.Arriving.{carried_bytes}
 use Rattle.ip_reass.proofs.Edits.{weight_trimmed}
 
--- ---- what a packet weighs once its header is pulled up
+-- ---- the weight of a packet after its header is pulled up
 abbrev bag_of : List Entry → List ℕ
 bag_of es = filter_map (λ (e : Entry). e.cluster) es
 
--- no byte more is moved
+-- no more bytes are moved
 moved_none : (x : Entry) (es : List Entry) (n : ℕ) → n ≡ 0 → moved n x es ≡ x ∷ es
 moved_none x [] n z = refl
 moved_none x (e ∷ es) n z = cond-true _ _ _ (eq-eqb n 0 z)
 
--- the first mbuf is a cluster that is emptied
+-- all bytes of the next entry are moved, and it is dropped
 moved_whole : (x e : Entry) (es : List Entry) (n : ℕ) → 0 < n → length e.bytes ≡ n
     → moved n x (e ∷ es) ≡ with_back x e.bytes ∷ es
 moved_whole x e es n some same =
@@ -42,7 +42,7 @@ moved_whole x e es n some same =
     ∙ (cond-true _ _ _ (le-leb (length e.bytes) n (omega arith))
     ∙ moved_none (with_back x e.bytes) es (n - length e.bytes) (omega arith))
 
--- or keeps some bytes
+-- some bytes of the next entry are moved
 pub moved_part : (x e : Entry) (es : List Entry) (n : ℕ) → 0 < n → n < length e.bytes
     → moved n x (e ∷ es) ≡ with_back x (take n e.bytes) ∷ narrowed e n (length e.bytes - n) ∷ es
 moved_part x e es n some less =
@@ -69,7 +69,7 @@ pulled_weighs e x es k n total is none long n_is some holds = elim (cases_lt 40 
       ∙ ((λ i. record { mbufs = suc (length es); bag = bag i }) ∙ sym (cond-false _ _ _ (le-ltb 40 total fewer)))
 ]
 
--- **a packet whose first mbuf is a cluster weighs what the flat machine says once its header is pulled up**
+-- **the weight of a packet whose first mbuf is a cluster, after its header is pulled up, is the flat machine's**
 pub pulled_is : (v : ChainView) → is_some (entry_of v 0).cluster ≡ true → 20 ≤ length (string v)
     → (length (string v) ≤ length (entry_of v 0).bytes) ⊎ (40 < length (entry_of v 0).bytes)
     → entries_weight (ops.entries_pulled v 20) ≡ flat.pulled_up (length (string v)) (entries_weight v.entries)
@@ -104,7 +104,7 @@ carried_is v h es w e is =
     let weight : entries_weight es ≡ w = ap entries_weight e ∙ (weight_trimmed 20 (pulled_entries v) ∙ is) in
     λ i. record { offset = h.offset; bytes = bytes i; more = h.more; weight = weight i }
 
--- what came by the wire in a cluster holds enough of the packet
+-- a first cluster from the wire holds more than 40 bytes of the packet, or all of it
 pub holds_of : (origin : Origin) (v : ChainView) → CameBy origin v → is_some (entry_of v 0).cluster ≡ true
     → (length (string v) ≤ length (entry_of v 0).bytes) ⊎ (40 < length (entry_of v 0).bytes)
 holds_of Looped v came cluster = absurd (false≢true (sym (ap is_some came) ∙ cluster))
@@ -116,7 +116,7 @@ holds_of (By_wire received) v came cluster = came.holds
 abbrev with_weight : IpHead → ChainView → Weight → Fragment
 with_weight h v w = record { offset = h.offset; bytes = drop 20 (string v); more = h.more; weight = w }
 
--- **a packet whose chain shows its origin arrives as the flat machine says of that origin**
+-- **if a packet's chain shows its origin, its arrival is the flat machine's for that origin**
 pub view_arrives : (held : Weight) (origin : Origin) (h : IpHead) (v : ChainView) (old new : State) → CameBy origin v
     → length (string v) ≡ h.total → 20 ≤ h.total
     → ChainArrives held h v old new
@@ -171,7 +171,7 @@ view_arrives held origin h v old new came total least step = record {
       no = λ small. plain (o_came.cluster ∙ small) (s.no (o_came.cluster ∙ small));
     }
 
--- the same of a chain of a pool
+-- the same for a chain of a pool
 pub fragment_arrives : (held : Weight) (origin : Origin) (h : IpHead) (p : PoolView) (n : ℕ) (old new : State)
     → CameBy origin (chain_of p n) → length (string (chain_of p n)) ≡ h.total → 20 ≤ h.total
     → ChainArrives held h (chain_of p n) old new
@@ -179,7 +179,7 @@ pub fragment_arrives : (held : Weight) (origin : Origin) (h : IpHead) (p : PoolV
 fragment_arrives held origin h p n old new came total least step =
     view_arrives held origin h (chain_of p n) old new came total least step
 
--- **and one that is laid at once, as the flat machine says of a packet in that cluster, or in two mbufs**
+-- **so is the arrival of a packet that is queued directly: that of a packet in this cluster, or in two mbufs**
 abbrev pub stored_weight : Bool → ℕ → Weight
 stored_weight is_large k = cond is_large (record { mbufs = 1; bag = k ∷ [] }) (record { mbufs = 2; bag = [] })
 

@@ -1,4 +1,4 @@
--- How many bytes the fragments of a train have, as each step changes it.
+-- The number of bytes of a train's fragments after each step.
 use Rattle.std.proofs.Common.{◌≡◌, ℕ, zero, suc, ◌+◌, ◌-◌, ◌<◌, ◌≤◌, List, [], ◌∷◌, ◌++◌, length, map, set, take, drop, remove, ap, ◌∙◌, sym, arith, length-drop}
 use Rattle.std.proofs.lemmas.List.{drop_all, take-append-drop}
 use Rattle.mbuf_chain.specs.Chain.{PoolView, flat_bytes}
@@ -14,7 +14,7 @@ queue_held qs = bytes_held (map fragment_of qs)
 pub held_is : (p : PoolView) (t : TrainView) → bytes_held (fragments p t) ≡ queue_held (queued p t)
 held_is p t = ap bytes_held (fragments_are p t)
 
--- the same queue has the same fragments, and holds the same
+-- the same queue has the same fragments and the same number of bytes
 pub fragments_as : (p q : PoolView) (t u : TrainView) → queued q u ≡ queued p t → fragments q u ≡ fragments p t
 fragments_as p q t u e = fragments_are q u ∙ (ap (map fragment_of) e ∙ sym (fragments_are p t))
 
@@ -22,7 +22,7 @@ pub held_as : (p q : PoolView) (t u : TrainView) → queued q u ≡ queued p t
     → bytes_held (fragments q u) ≡ bytes_held (fragments p t)
 held_as p q t u e = held_is q u ∙ (ap queue_held e ∙ sym (held_is p t))
 
--- one is taken out
+-- one fragment is removed
 queue_removed : (qs : List QueuedFragment) (i : ℕ) → i < length qs
     → queue_held (remove qs i) + length (flat_bytes (queued_at qs i).entries) ≡ queue_held qs
 queue_removed [] i l = absurd (omega arith)
@@ -34,7 +34,7 @@ pub held_removed : (p q : PoolView) (t u : TrainView) (i : ℕ) → i < length (
     → bytes_held (fragments q u) + length (flat_bytes (queued_at (queued p t) i).entries) ≡ bytes_held (fragments p t)
 held_removed p q t u i l e = omega (arith, held_is p t, held_is q u, ap queue_held e, queue_removed (queued p t) i l)
 
--- one loses its first n bytes
+-- one fragment loses its first n bytes
 queue_cut : (n : ℕ) (qs : List QueuedFragment) (i : ℕ) → i < length qs
     → n ≤ length (flat_bytes (queued_at qs i).entries)
     → queue_held (set qs i (cut n (queued_at qs i))) + n ≡ queue_held qs
@@ -53,7 +53,7 @@ pub held_cut : (p q : PoolView) (t u : TrainView) (n i : ℕ) → i < length (qu
     → bytes_held (fragments q u) + n ≡ bytes_held (fragments p t)
 held_cut p q t u n i l m e = omega (arith, held_is p t, held_is q u, ap queue_held e, queue_cut n (queued p t) i l m)
 
--- one is put in
+-- one fragment is inserted
 queue_between : (xs ys : List QueuedFragment) (q : QueuedFragment)
     → queue_held (xs ++ q ∷ ys) ≡ queue_held (xs ++ ys) + length (flat_bytes q.entries)
 queue_between [] ys q = omega arith
@@ -74,7 +74,7 @@ held_between p q t u n xs ys f e g =
       length-drop n (flat_bytes f.entries),
     )
 
--- one is put after the others
+-- one fragment is inserted after the others
 pub held_after : (p q : PoolView) (t u : TrainView) (i : ℕ) (f : QueuedFragment) → IsHeld p t
     → queued q u ≡ take i (queued p t) ++ cut 0 f ∷ cut_to (queued_end f) (drop i (queued p t)) → i ≡ t.len
     → bytes_held (fragments q u) ≡ bytes_held (fragments p t) + length (flat_bytes f.entries)

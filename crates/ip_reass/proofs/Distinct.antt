@@ -1,5 +1,5 @@
--- No key is held twice: an arrival leaves the keys that waited, without that of a datagram that it made whole, or with
--- one more that wasn't held.
+-- No key occurs twice: an arrival keeps the keys that waited, removes that of a datagram that became whole, or adds one
+-- that didn't occur.
 use Rattle.std.proofs.Common.{◌≡◌, ◌⊎◌, ℕ, ◌+◌, ◌≤◌, Bool, true, cond, List, [], ◌∷◌, refl, ap, arith, inl, inr}
 use Rattle.std.specs.Prelude.{count_by}
 use Rattle.std.proofs.lemmas.Bool.{cases_Bool, cond-true, cond-false}
@@ -13,7 +13,7 @@ use Rattle.ip_reass.specs.declared.datagram.Datagram.{Datagram}
 use Rattle.ip_reass.specs.declared.arrival.Arrival.{Arrival}
 use Rattle.ip_reass.specs.declared.arrival.Arrival.TheVariants.{Kept, Whole, Dropped}
 
--- where nothing waits
+-- a table without datagrams
 pub none_distinct : (p : PoolView) → AreDistinct p []
 none_distinct p = λ k. omega arith
 
@@ -39,7 +39,7 @@ module _ (k : Key) (f : QueuedFragment) where
   abbrev begins : KeyedQueue
   begins = with_inserted f (record { key = k; fragments = [] })
 
-  -- it is laid in a queue that is there, or in a new one, where none has the key
+  -- the fragment is put into the queue with its key, or into a new one if no queue has the key
   laid_count : (j : Key) (qs : List KeyedQueue)
       → (count_by (has_queue_key j) (inserted_under k f qs) ≡ count_by (has_queue_key j) qs)
       ⊎ ((count_by (has_queue_key k) qs ≡ 0)
@@ -123,7 +123,7 @@ module _ (k : Key) (f : QueuedFragment) where
       omega (arith, ap (count_by (has_queue_key j)) left.1, without_fewer j qs, once j)
   left_once qs now q (Dropped why) left once j = omega (arith, ap (count_by (has_queue_key j)) left, once j)
 
--- **no key is held twice after an arrival**
+-- **no key occurs twice after an arrival**
 pub distinct_after : (p q : PoolView) (ds es : List Datagram) (k : Key) (f : QueuedFragment) (result : Arrival)
     → HasLayout p ds k f result q es → AreDistinct p ds → AreDistinct q es
 distinct_after p q ds es k f result l distinct =

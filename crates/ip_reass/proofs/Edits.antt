@@ -30,7 +30,7 @@ module _ {X : Type 0} where
   moved (z ∷ xs) zero x d e l = refl
   moved (z ∷ xs) (suc i) x d e l = ap (λ (zs : List X). z ∷ zs) (moved xs i x d e (omega arith))
 
-  -- an element that was put in changes places with the next
+  -- an inserted element is swapped with the next one
   pub swap-insert : (xs : List X) (i : ℕ) (x : X) → i < length xs
       → swap (insert xs i x) i (suc i) ≡ insert xs (suc i) x
   swap-insert [] i x l = absurd (omega arith)
@@ -79,6 +79,6 @@ trimmed_bag : (n : ℕ) (es : List Entry)
 trimmed_bag n [] = refl
 trimmed_bag n (e ∷ es) = ap (cons_option e.cluster) (trimmed_bag (n - length e.bytes) es)
 
--- no mbuf goes
+-- trimming frees no mbuf, so the weight is unchanged
 pub weight_trimmed : (n : ℕ) (es : List Entry) → entries_weight (without_first n es) ≡ entries_weight es
 weight_trimmed n es = λ i. record { mbufs = trimmed_mbufs n es i; bag = trimmed_bag n es i }

@@ -1,4 +1,4 @@
--- A fragment laid among those of one datagram of a table, and a datagram taken out of it.
+-- A fragment put among those of one datagram of a table, and a datagram removed from the table.
 use Rattle.std.proofs.Common.{◌≡◌, ℕ, zero, suc, ◌+◌, ◌<◌, Bool, true, List, [], ◌∷◌, length, map, get_or, set, remove, refl, sym, ap, ◌∙◌, subst, arith}
 use Rattle.std.proofs.lemmas.Bool.{OnTrue_at, OnTrue_from, OnFalse_at, OnFalse_from}
 use Rattle.std.proofs.lemmas.List.{get_or_default, get_or-map, get_or-set_same, length-map}
@@ -103,7 +103,7 @@ in_place p q ds i c f answer t n is l owns b =
       moves = moves;
     }
 
--- **the same, as the code reads the datagram**
+-- **the same for the datagram that the code reads**
 pub laid_in_table : (p q : PoolView) (ds : List Datagram) (i c : ℕ) (x : Datagram) (f : QueuedFragment) (answer : Bool)
     (e : Datagram) → IsTable p ds → i < length ds → IsOwned p (c ∷ held_all p ds)
     → IsInserted p (get_or ds i x) c f answer q e → InsertsIn p ds i c f answer q (set ds i e)
@@ -119,7 +119,7 @@ laid_in_table p q ds i c x f answer e is l owns b =
 pub datagram_put : (ds : List Datagram) (i : ℕ) (e : Datagram) → i < length ds → datagram_at (set ds i e) i ≡ e
 datagram_put ds i e l = get_or-set_same ds i e no_datagram l
 
--- ---- a datagram taken out
+-- ---- a datagram is removed
 pub taken_out : (p r q : PoolView) (ds : List Datagram) (i c : ℕ) (d : Datagram) → IsTable p ds → i < length ds
     → d ≡ get_or ds i d → r ≡ without p d.holder
     → (chain_of q c).entries ≡ joined_fragments (queued r d.fragments) → (chain_of q c).front ≡ alone true
@@ -154,7 +154,7 @@ taken_out p r q ds i c d is l e gone entries front joins =
       moves = moves;
     }
 
--- the chain that came is none of a datagram's
+-- the chain that arrived belongs to no datagram
 pub apart_at : (p : PoolView) (ds : List Datagram) (i c : ℕ) (x : Datagram) → i < length ds
     → IsOwned p (c ∷ held_all p ds) → times_among c (numbers p (get_or ds i x).fragments) ≡ 0
 apart_at p ds i c x l owns = omega (arith, owns c, live_at_most p c, times_same c (held_all p ds), held_at p c ds i x l)

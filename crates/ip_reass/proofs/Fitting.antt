@@ -1,4 +1,4 @@
--- The fragments of a train fit into their mbufs: a pool's chains do.
+-- The fragments of a train fit into their mbufs, because all chains of a pool do.
 use Rattle.std.proofs.Common.{ℕ, ◌<◌, ◌≤◌, Bool, true, false, cond, eqb, List, [], ◌∷◌, map, Option, None, Some, is_some, subst, arith}
 use Rattle.std.proofs.lemmas.List.{get_or_default}
 use Rattle.std.proofs.lemmas.List.Elements.{recursion_from_All}

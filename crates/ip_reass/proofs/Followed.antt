@@ -1,4 +1,4 @@
--- The index after an arrival and after a tick tells the rows of the table.
+-- The index after an arrival and after a tick has the rows of the table.
 use Rattle.std.proofs.Common.{◌≡◌, ℕ, zero, suc, ◌+◌, ◌-◌, ◌<◌, ◌≤◌, Bool, true, false, cond, List, [], ◌∷◌, ◌++◌, map, take, get_or, length, set, refl, sym, ap, ◌∙◌, arith}
 use Rattle.std.specs.Prelude.{remove, nat_lt, count_by}
 use Rattle.std.proofs.lemmas.List.{length-map}
@@ -16,7 +16,7 @@ use Rattle.ip_reass.specs.declared.datagram.Datagram.{Datagram}
 pub length_buckets : (n : ℕ) (ds : List Datagram) → length (buckets_of n ds) ≡ length ds
 length_buckets n ds = length-map ds (λ (d : Datagram). bucket_of n d.key)
 
--- how often a key is held
+-- how often a key occurs
 pub once_held : (p : PoolView) (k : Key) (ds : List Datagram)
     → count_by (has_key k) ds ≡ count_by (is_key k) (unfinished p ds)
 once_held p k [] = refl
@@ -44,7 +44,7 @@ pub length_more : (ds : List Datagram) (d : Datagram) → length (ds ++ d ∷ []
 length_more [] d = omega arith
 length_more (x ∷ ds) d = omega (arith, length_more ds d)
 
--- a row more of a table
+-- one more row of a table
 pub renewed : (n b : ℕ) (bs : List ℕ) (ds : List Datagram) (k : ℕ) (x : Datagram) → bs ≡ buckets_of n (take k ds)
     → k < length ds → b ≡ bucket_of n (get_or ds k x).key → bs ++ b ∷ [] ≡ buckets_of n (take (k + 1) ds)
 renewed n b bs ds k x same lt is =
@@ -57,9 +57,9 @@ renewed n b bs ds k x same lt is =
     more (e ∷ es) zero lt = refl
     more (e ∷ es) (suc j) lt = ap (λ cs. bucket_of n e.key ∷ cs) (more es j (omega arith))
 
--- ---- a fragment is laid at a place
+-- ---- a fragment is inserted at a place
 
--- the buckets by the queues, which have the same keys
+-- the buckets of the queues' keys, which are those of the datagrams
 abbrev by_queues : ℕ → List KeyedQueue → List ℕ
 by_queues n qs = map (λ (q : KeyedQueue). bucket_of n q.key) qs
 
@@ -92,7 +92,7 @@ same_set n (suc i) f (q ∷ qs) lt = ap (λ bs. bucket_of n q.key ∷ bs) (same_
 queues_long : (p : PoolView) (ds : List Datagram) → length (queues p ds) ≡ length ds
 queues_long p ds = length-map ds (queue_of p)
 
--- the row at the place is taken off exactly if the table has one less
+-- the row at the place is removed exactly if the table has one datagram less
 pub followed : (n i : ℕ) (f : QueuedFragment) (p q : PoolView) (ds es : List Datagram) (bs now : List ℕ)
     (result : Arrival) → bs ≡ buckets_of n ds → i < length ds → LeavesAt i f (queues p ds) q result (queues q es)
     → (length es < length bs → now ≡ remove bs i) → (length bs ≤ length es → now ≡ bs) → now ≡ buckets_of n es
@@ -129,7 +129,7 @@ followed n i f p q ds es bs now result same lt left fewer equal = go result left
         ∙ ap (by_queues n) (sym l.1) ∙ sym (by_queues-are n q es)
     go (Dropped why) l = stays (ap (λ (xs : List KeyedQueue). length xs) l.0) (ap (by_queues n) l.0)
 
--- it stays as it was where the fragment is kept
+-- the buckets are unchanged if the fragment is kept
 pub kept_followed : (n i : ℕ) (f : QueuedFragment) (p q : PoolView) (ds es : List Datagram) (bs : List ℕ)
     → bs ≡ buckets_of n ds → i < length ds → LeavesAt i f (queues p ds) q Kept (queues q es) → bs ≡ buckets_of n es
 kept_followed n i f p q ds es bs same lt l =

@@ -5,7 +5,7 @@ use Rattle.flat_model.specs.Amounts.Weight.{Weight, mbuf}
 use Rattle.mbuf_chain.specs.Chain.{ChainView, PoolView, IsLive, no_chain}
 use Rattle.ledger.specs.Accounts.{entries_weight, weight_at}
 
--- a chain that weighs something is one of the pool's
+-- a chain with the weight of one mbuf is live
 pub live_holder : (p : PoolView) (c : ℕ) → weight_at p c ≡ mbuf → IsLive p c
 live_holder p c weighs = go (finmap.get p.chains c) refl
   where

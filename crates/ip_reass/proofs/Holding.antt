@@ -25,7 +25,7 @@ datagrams_some p [] a h = tt
 datagrams_some p (d ∷ ds) a h =
     (omega (arith, h.0, length-queued p d.fragments a.0.queue.held), datagrams_some p ds a.1 h.1)
 
--- a fragment is laid
+-- a fragment is put into a queue
 either_some : (b : Bool) (x y : QueuedFragment) (xs ys : List QueuedFragment) → 0 < length (cond b (x ∷ xs) (y ∷ ys))
 either_some true x y xs ys = omega arith
 either_some false x y xs ys = omega arith

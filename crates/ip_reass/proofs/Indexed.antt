@@ -89,7 +89,7 @@ bucket_at n (x ∷ ds) (suc k) d lt = bucket_at n ds k d (omega arith)
 
 -- ---- the walk along a bucket
 
--- the rows from there on have other keys, and the one before is in the bucket
+-- the rows from `rows` on have other keys, and the row before them is in the bucket
 pub record Walked (n : ℕ) (key : Key) (ds : List Datagram) (rows : ℕ) : Type 0 where
   pub within : rows ≤ length ds
   pub none : (k : ℕ) (d : Datagram) → rows ≤ k → k < length ds → has_key key (get_or ds k d) ≡ false

@@ -1,4 +1,4 @@
--- The fragments of a train joined.
+-- Joining the fragments of a train.
 use Rattle.std.proofs.Common.{◌≡◌, ◌≢◌, ℕ, ◌+◌, ◌<◌, ◌≤◌, List, [], ◌∷◌, ◌++◌, length, map, remove, Option, refl, sym, ap, ◌∙◌, subst, arith, append_assoc, append-nil, unwrap_or, cond, Bool, true, false}
 use Rattle.std.specs.Prelude.{nat_lt}
 use Rattle.std.specs.List.{cons_option}
@@ -46,7 +46,7 @@ pub record Joins (p q : PoolView) (t : TrainView) (c : ℕ) (r : PoolView) (u : 
   pub queued_packets_are : queued_packets r u ≡ queued_packets q u
   pub moves : Moves p (c ∷ numbers p t) r (c ∷ numbers r u)
 
--- the chain in hand while another comes out of the train
+-- the chain joined so far, after the next one was removed from the train
 pub record InHand (p q : PoolView) (u : TrainView) (c d : ℕ) : Type 0 where
   pub live : IsLive q c
   pub shown : chain_of q c ≡ chain_of p c

@@ -1,4 +1,4 @@
--- What a fragment laid as BSD does it leaves known: the flat machine's overlay.
+-- The map after a fragment is inserted as BSD does it: the flat machine's overlay.
 use Rattle.std.proofs.Common.{◌≡◌, ℕ, zero, suc, ◌+◌, ◌-◌, ◌<◌, ◌≤◌, min, Bool, true, false, List, [], ◌∷◌, ◌++◌, length, count_by, Option, None, Some, refl, sym, ap, ◌∙◌, inl, inr, ◌⊎◌, arith, length-drop}
 use Rattle.std.specs.List.{range_with_len}
 use Rattle.std.proofs.lemmas.Bool.{cases_lt, le-leb, lt-leb, lt-ltb, le-ltb, and_from, and_left, and_right, cond-true, cond-false}
@@ -10,7 +10,7 @@ use Rattle.ip_reass.specs.Inside.Walks.{reach, AllUpto, AllAbove, trimmed, left_
 use Rattle.ip_reass.specs.Inside.Known.{known_here, known_below, known_past, below, within, past, known_place, none_or_some, nothing_past, nothing_upto, known_left, known_right, apart_join, apart_lower, left_after, left_whole, left_none, left_cut, end_trimmed, byte_trimmed, left_from_none, left_from_apart}
 
 -- ---- the fragments that begin up to a, and those that begin above
--- between a and where the last of them ends, the fragments before know each byte
+-- from a up to the end of the last of them, each byte is below `low` or known from the fragments before
 pub covered : (a low : ℕ) (xs : List Fragment) (k : ℕ) → Apart low xs → AllUpto a xs → a ≤ k → k < reach low xs
     → (k < low) ⊎ ((c : Held) × (map_of xs k ≡ Some c))
 covered a low [] k h u l m = inl m
@@ -23,12 +23,12 @@ covered a low (p ∷ xs) k h u l m = elim (known_place p k) [
   ]
 ]
 
--- where the piece begins
+-- the offset at which the piece begins
 abbrev first_in : Option Held → ℕ
 first_in None = 0
 first_in (Some c) = c.piece.first
 
--- their pieces begin up to a, and the others above it
+-- if all fragments begin at most at a, so do their pieces; and the same for those that begin above a
 pub begins_upto : (a : ℕ) (xs : List Fragment) (k : ℕ) (c : Held) → AllUpto a xs → map_of xs k ≡ Some c
     → c.piece.first ≤ a
 begins_upto a [] k c u e = absurd (let f : None ≡ Some c = e in cc)
@@ -53,7 +53,7 @@ begins_above a (p ∷ ys) k c u e = elim (known_place p k) [
       omega (arith, u.0)
 ]
 
--- ---- counts over a stretch
+-- ---- counts over a range
 count_stretch : (test : ℕ → Bool) (r a n : ℕ) → ((k : ℕ) → a ≤ k → k < a + n → k < r → test k ≡ true)
     → ((k : ℕ) → a ≤ k → k < a + n → r ≤ k → test k ≡ false)
     → count_by test (range_with_len a n) ≡ min (r - a) n
@@ -77,7 +77,7 @@ count_stretch test r a (suc n) hit miss =
       )
     ]
 
--- ---- a byte that isn't the fragment's
+-- ---- a byte of another fragment
 pub cut_none : (f : Fragment) (c : Held) → (c.piece.first ≤ f.offset) ⊎ (flat.fragment_end f ≤ c.piece.first)
     → Some (cut_back f c) ≡ Some c
 cut_none f c (inl l) = ap Some (cond-false _ _ _ (and_left _ _ (le-ltb f.offset c.piece.first l)))
@@ -88,7 +88,7 @@ pub cut_some : (f : Fragment) (c : Held) → f.offset < c.piece.first → c.piec
 cut_some f c l m =
     cond-true _ _ _ (and_from _ _ (lt-ltb f.offset c.piece.first l) (lt-ltb c.piece.first (flat.fragment_end f) m))
 
--- fragments that begin after the fragment stay
+-- fragments that begin after the end of the new one are unchanged
 pub left_alone : (m : Map) (f : Fragment) (low : ℕ) (ps : List Fragment) (k : ℕ) → Apart low ps
     → flat.fragment_end f ≤ low → lies m f k false (map_of ps k) ≡ map_of ps k
 left_alone m f low [] k a l = refl
@@ -103,7 +103,7 @@ left_alone m f low (p ∷ ps) k a l =
           ∙ (cut_none f (own p k) (inr (omega arith)) ∙ sym (known_here p ps k b c))
     ]
 
--- what is left of the fragments after, from where the fragment ends
+-- the rest of the fragments after the new one, from its end on
 pub left_from_known : (m : Map) (f : Fragment) (low : ℕ) (ps : List Fragment) (k : ℕ) → Apart low ps
     → AllAbove f.offset ps → flat.fragment_end f ≤ k
     → map_of (left_from (flat.fragment_end f) ps) k ≡ lies m f k false (map_of ps k)
@@ -136,7 +136,7 @@ left_from_known m f low (p ∷ ps) k a u l = elim (left_after (flat.fragment_end
       ]
 ]
 
--- fragments in order, cut where they begin above a
+-- fragments in order, split at a: those that begin at most at a, and those that begin above a
 pub record Around (a : ℕ) (xs ys : List Fragment) : Type 0 where
   pub before : Apart 0 xs
   pub after : Apart (reach 0 xs) ys
@@ -161,7 +161,7 @@ module _ (f : Fragment) (xs ys : List Fragment) (w : Around f.offset xs ys) wher
       go (inl e) = ap (stays f.offset) e
       go (inr (c, e)) = ap (stays f.offset) e ∙ lt-leb c.piece.first f.offset (begins_above f.offset ys k c w.above e)
 
-  -- **the least offset that the fragment owns is where the fragments in front end**
+  -- **the fragment owns its bytes from the end of the fragments before it on**
   pub first_is : first_owned (map_of (xs ++ ys)) f ≡ f.offset + min (reach 0 xs - f.offset) (length f.bytes)
   unfolding first_owned
   first_is =
@@ -189,7 +189,7 @@ module _ (f : Fragment) (xs ys : List Fragment) (w : Around f.offset xs ys) wher
   unfolding overlay
   over k b o h e = λ i. lies (map_of (xs ++ ys)) f k (h i) (e i)
 
-  -- a byte that a fragment before knows stays
+  -- a byte that is known from a fragment before is unchanged
   early_stays : (k : ℕ) (c : Held) → map_of xs k ≡ Some c → overlay (map_of (xs ++ ys)) f k ≡ Some c
   early_stays k c e = go (is_within f k) refl
     where
@@ -201,7 +201,7 @@ module _ (f : Fragment) (xs ys : List Fragment) (w : Around f.offset xs ys) wher
           over k true (Some c) h (known_left xs ys k c e) ∙ cond-true _ _ _ (le-leb c.piece.first f.offset first)
       go false h = over k false (Some c) h (known_left xs ys k c e) ∙ cut_none f c (inl first)
 
-  -- what isn't known in front is brought
+  -- a byte of the new fragment that isn't known from those before comes from the new one
   brought_here : (k : ℕ) → f.offset ≤ k → k < flat.fragment_end f → map_of xs k ≡ None
       → overlay (map_of (xs ++ ys)) f k ≡ Some (brought (map_of (xs ++ ys)) f k)
   brought_here k l m e = go (map_of ys k) refl
@@ -213,8 +213,7 @@ module _ (f : Fragment) (xs ys : List Fragment) (w : Around f.offset xs ys) wher
           over k true (Some c) (inside k l m) (known_right xs ys k e ∙ h)
           ∙ cond-false _ _ _ (lt-leb c.piece.first f.offset (begins_above f.offset ys k c w.above h))
 
-  -- **the fragments before, what they leave of the new one, and what it leaves of the fragments after, are the
-  -- overlay**
+  -- **the fragments before, the rest of the new one, and the rest of the fragments after it make up the overlay**
   pub laid_at : (cut k : ℕ) → cut ≡ reach 0 xs - f.offset → cut < length f.bytes
       → map_of (new_parts cut) k ≡ overlay (map_of (xs ++ ys)) f k
   laid_at cut k is_cut some = elim (none_or_some (map_of xs k)) [

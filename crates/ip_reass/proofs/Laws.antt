@@ -1,9 +1,9 @@
--- All the lemmas that crates above may cite. Their statements stand in the files named.
+-- All the lemmas that crates above may cite. Their statements are in the files named.
 
 -- ---- a table without datagrams holds no key twice
 pub use Rattle.ip_reass.proofs.Distinct.{none_distinct}
--- ---- an arrival is the flat machine's, where the chain shows how its packet came
+-- ---- an arrival is the flat machine's if the chain shows how its packet came
 pub use Rattle.ip_reass.proofs.Came.{fragment_arrives}
--- ---- so is that of bytes that are laid at once, and what was asked of them
+-- ---- so is the arrival of a packet that is queued directly, and the test before it
 pub use Rattle.ip_reass.proofs.Came.{stored_arrives, stored_weight}
 pub use Rattle.ip_reass.proofs.AtOnce.{Fits, fits_is}

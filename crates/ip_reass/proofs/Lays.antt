@@ -1,4 +1,4 @@
--- A chain laid among the fragments of a train.
+-- A chain inserted among the fragments of a train.
 use Rattle.std.proofs.Common.{◌≡◌, ℕ, zero, suc, ◌+◌, ◌-◌, ◌/◌, ◌%◌, ◌<◌, ◌≤◌, min, Bool, true, false, cond, eqb, List, [], ◌∷◌, ◌++◌, length, map, take, drop, insert, Option, unwrap_or, refl, sym, ap, ◌∙◌, subst, arith, length-append}
 use Rattle.std.specs.FinMap as finmap
 use Rattle.std.proofs.lemmas.Bool.{cond-true, cond-false, le-leb, lt-leb}
@@ -73,7 +73,7 @@ settled p r q s t u w c i n offset e tag more place held change cleared moves en
           (moves_beside (c ∷ numbers r t) (c ∷ numbers q u) (c ∷ []) moves (λ k. omega arith) (λ k. omega arith)) goes);
     }
 
--- ---- the same of the fragments
+-- ---- the same for fragments
 pub fragment_cut : (n : ℕ) (q : QueuedFragment) → fragment_of (cut n q) ≡ trimmed n (fragment_of q)
 fragment_cut n q =
     λ i. record {
@@ -105,7 +105,7 @@ map-settled i n e q qs =
     ∙ (λ j. sym (take-map fragment_of i qs) j ++ fragment_cut n q j
     ∷ (map-cut_to e (drop i qs) ∙ ap (left_from e) (sym (drop-map fragment_of i qs))) j)
 
--- what the code makes of a queue is what is laid
+-- the queue that the code makes is the one of the definition
 pub laid_list : (low i : ℕ) (q : QueuedFragment) (qs : List QueuedFragment)
     → AllUpto q.offset (take i (map fragment_of qs)) → AllAbove q.offset (drop i (map fragment_of qs))
     → take i qs ++ cut (reach low (take i (map fragment_of qs)) - q.offset) q ∷ cut_to (queued_end q) (drop i qs)
@@ -130,7 +130,7 @@ around p t a i is upto above =
       above = above;
     }
 
--- the fragments then
+-- the fragments after the insertion
 pub made_is : (p s : PoolView) (t w : TrainView) (i n c : ℕ) (q : QueuedFragment) → Settled p t i n c q s w
     → fragments s w ≡ take i (fragments p t) ++ trimmed n (fragment_of q)
     ∷ left_from (queued_end q) (drop i (fragments p t))
@@ -187,7 +187,7 @@ laid_in p s t w i n c q is upto above n_is some fits done =
           ));
     }
 
--- ---- after all others
+-- ---- a fragment after all others
 without_none : (es : List Entry) → without_first 0 es ≡ es
 without_none [] = refl
 without_none (e ∷ es) =
@@ -235,7 +235,7 @@ appended p s t w c i offset tag more is_i held half odd put goes =
       moves = goes;
     }
 
--- then it's the last
+-- the new fragment is the last one
 pub record IsLast (s : PoolView) (w : TrainView) (i : ℕ) (f : Fragment) : Type 0 where
   pub len : i + 1 ≡ length (fragments s w)
   pub more : (fragment_at (fragments s w) i).more ≡ f.more
@@ -267,7 +267,7 @@ is_last p s t w i c q held is_i done =
       end = reach_last 0 i (fragments s w) len ∙ (ap end_of_fragment at ∙ end_trimmed 0 (fragment_of q) (omega arith));
     }
 
--- the fragments reach as far as before
+-- the end of the last fragment isn't lower than before
 pub reaches : (p s : PoolView) (t w : TrainView) (i n c : ℕ) (q : QueuedFragment)
     → n ≡ reach 0 (take i (fragments p t)) - q.offset → n < length (flat_bytes q.entries) → Settled p t i n c q s w
     → reach 0 (fragments p t) ≤ reach 0 (fragments s w)
@@ -279,7 +279,7 @@ reaches p s t w i n c q is some done =
       reach_laid n (fragment_of q) (take i (fragments p t)) (drop i (fragments p t)) is some,
     )
 
--- ---- nothing left of it
+-- ---- a fragment whose bytes are all covered
 pub record Covered (p : PoolView) (t : TrainView) (c : ℕ) (f : Fragment) (r : PoolView) : Type 0 where
   pub covered : is_covered (map_of (fragments p t)) f ≡ true
   pub queue_is : queued r t ≡ queued p t

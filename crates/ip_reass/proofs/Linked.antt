@@ -1,4 +1,4 @@
--- The links of an index, with a row more and a row less, and what they tell of the rows.
+-- The links of an index after a row is added and after one is removed, and the rows to which they lead.
 use Rattle.std.proofs.Common.{◌≡◌, ◌≢◌, ℕ, zero, suc, ◌+◌, ◌<◌, ◌≤◌, Bool, true, false, ◌==◌, cond, List, [], ◌∷◌, ◌++◌, take, length, get_or, set, get_or-set_same, length-set, refl, sym, ap, ◌∙◌, arith, inl, inr}
 use Rattle.std.specs.Prelude.{remove}
 use Rattle.std.proofs.lemmas.Bool.{cases_eq, eq-eqb, ne_eqb}
@@ -38,7 +38,7 @@ upto_here b bs (suc n) j e = go (get_or bs n 0 == b) refl e (upto_here b bs n j)
     go true is e rest = let same : j ≡ n = omega arith in ap (λ k. get_or bs k 0 == b) same ∙ is
     go false is e rest = rest e
 
--- only the first rows are looked at
+-- only the first n rows matter
 pub upto_same : (b : ℕ) (bs cs : List ℕ) (n : ℕ) → ((k : ℕ) → k < n → get_or bs k 0 ≡ get_or cs k 0)
     → upto_last b bs n ≡ upto_last b cs n
 upto_same b bs cs zero same = refl
@@ -86,7 +86,7 @@ other_last (y ∷ xs) zero (suc k) x ne = refl
 other_last (y ∷ xs) (suc n) zero x ne = refl
 other_last (y ∷ xs) (suc n) (suc k) x ne = other_last xs n k x (λ e. ne (ap suc e))
 
--- a row more
+-- one more row
 pub linked_more : (lasts : List ℕ) (rows : List Row) (n : ℕ) (r : Row) → AreLinked lasts rows n → n < length rows
     → r.bucket < length lasts → r.before ≡ get_or lasts r.bucket 0
     → AreLinked (set lasts r.bucket (n + 1)) (set rows n r) (n + 1)
@@ -151,7 +151,7 @@ linked_more lasts rows n r are lt low before = record {
     passed : (b : ℕ) → (get_or new n 0 == b) ≡ false → upto_last b new (n + 1) ≡ upto_last b new n
     passed b is = ap (upto_last b new) one ∙ ap (λ t. cond t (suc n) (upto_last b new n)) is
 
--- a row less
+-- one row less
 pub linked_less : (lasts : List ℕ) (rows : List Row) (n m : ℕ) (r d : Row) → AreLinked lasts rows n → n ≡ suc m
     → r ≡ get_or rows m d → AreLinked (set lasts r.bucket r.before) rows m
 linked_less lasts rows n m r d are is row = record {
@@ -189,9 +189,9 @@ linked_less lasts rows n m r d are is row = record {
     low : r.bucket < length lasts
     low = omega (arith, are.inside m d (omega arith), ap (λ (x : Row). x.bucket) row)
 
--- ---- the row at a place taken out
+-- ---- the row at a place is removed
 
--- what is left up to one more
+-- the remaining rows, up to one more
 take_without : (bs : List ℕ) (i m : ℕ) → i ≤ m → suc m < length bs
     → take (suc m) (remove bs i) ≡ take m (remove bs i) ++ get_or bs (suc m) 0 ∷ []
 take_without [] i m le lt = absurd (omega arith)
@@ -233,7 +233,7 @@ pub closed_none : (rows : List Row) (place n : ℕ) → place ≤ n
     → buckets_in rows place ≡ take place (remove (buckets_in rows n) place)
 closed_none rows place n le = taken_in rows place n le ∙ sym (take_before (buckets_in rows n) place)
 
--- one row more is in its new place
+-- one more row is in its new place
 pub closed_more : (lasts : List ℕ) (old rows : List Row) (place k n : ℕ) (d r : Row) → AreLinked lasts rows k
     → buckets_in rows k ≡ take k (remove (buckets_in old n) place)
     → ((j : ℕ) (e : Row) → k < j → get_or rows j e ≡ get_or old j e)

@@ -1,4 +1,4 @@
--- What a fragment in hand finds at its place in the table.
+-- A fragment at its place in the table.
 use Rattle.std.proofs.Common.{◌≡◌, ℕ, ◌*◌, ◌<◌, ◌≤◌, Bool, true, false, List, [], ◌∷◌, length, find, Option, Some, None, refl, sym, ap, ◌∙◌, subst, arith, inl, inr}
 use Rattle.std.specs.Prelude.{count_by}
 use Rattle.flat_model.specs.Amounts.Weight.{Weight, ◌⊕◌}
@@ -28,7 +28,7 @@ use Rattle.ip_reass.proofs.Followed.{length_more}
 use Rattle.ip_reass.proofs.Queues.{begins_cause, begins_layout, found_cause, found_layout, none_reserved, wait_reserved, wait_then}
 use Rattle.ip_reass.proofs.Reserved.{Began, Freed, Stays, began, begins_here, freed, lacking, stays}
 
--- an mbuf is asked for
+-- an mbuf is requested
 pub asks : (p q : PoolView) (r s : TableView) (c d : Counters) (answer : Bool) → ((x : State) (held : Weight)
     → x.unfinished ≡ unfinished p r.datagrams → x.counters ≡ c → IsAccounted p x held
     → Reserves x held (need_mbufs 1) answer (record x { unfinished = unfinished q s.datagrams; counters = d }) q)
@@ -43,7 +43,7 @@ asks p q r s c d answer reserves moves ready is kept none = record {
   moves = moves;
 }
 
--- Chain n is in hand: where it's laid at place i of s, it joined the datagram of key k from r on.
+-- The caller holds chain n. To put it at place i of s is a step from r in which it joins the datagram of key k.
 pub record Placed (p : PoolView) (r : TableView) (c : Counters) (k : Key) (n i : ℕ) (q : PoolView) (s : TableView)
     (d : Counters) : Type 0 where
   pub within : i < length s.datagrams
@@ -120,7 +120,7 @@ module _ (p : PoolView) (r : TableView) (c : Counters) (k : Key) (n i : ℕ) (re
             s.datagrams ts k n i offset more result some chain bg.rows b.place leaves;
       }
 
-  -- **either way**
+  -- **in both cases**
   pub placed : (q : PoolView) (s : TableView) (d : Counters) → HasPlace p r c k (Some i) q s d
       → Placed p r c k n i q s d
   placed q s d (inl a) =
@@ -129,7 +129,7 @@ module _ (p : PoolView) (r : TableView) (c : Counters) (k : Key) (n i : ℕ) (re
       (subst (λ o. Placed p r c k n i o r c) (sym a.1) (here a.0)))
   placed q s d (inr a) = new q s d a.0 a.1
 
--- **the place as the caller has it**
+-- **the same in the caller's terms**
 pub placed_in : (p : PoolView) (r : TableView) (c : Counters) (k k' : Key) (n i : ℕ) → IsReady p r
     → IsOwned p (n ∷ held_all p r.datagrams) → 0 < length (string (chain_of p n)) → (q : PoolView)
     (s s' : TableView) (d : Counters) (o : Option ℕ) → k' ≡ k → s' ≡ s → o ≡ Some i → HasPlace p r c k' o q s d
@@ -139,7 +139,7 @@ placed_in p r c k k' n i ready owns some q s s' d o key same is place =
     (subst (λ j. HasPlace p r c j (Some i) q s' d) key
     (subst (λ t. HasPlace p r c k' (Some i) q t d) (sym same) (subst (λ m. HasPlace p r c k' m q s d) is place)))
 
--- Chain n is in hand, no mbuf was to be had for its key, and it was freed.
+-- The caller held chain n, no mbuf was free for its key, and it was freed.
 pub record Lacks (p : PoolView) (r : TableView) (c : Counters) (k : Key) (n : ℕ) (t : PoolView) (s : TableView)
     (d : Counters) : Type 0 where
   pub ready : IsReady t s

@@ -1,4 +1,4 @@
--- One datagram of a table takes a step, or goes.
+-- A step of one datagram of a table, and its removal.
 use Rattle.std.proofs.Common.{◌≡◌, ℕ, zero, suc, ◌+◌, ◌<◌, ◌≤◌, Bool, true, false, not, cond, List, [], ◌∷◌, ◌++◌, length, map, filter, find, count_by, get_or, set, insert, remove, Option, None, Some, unwrap_or, refl, sym, ap, ◌∙◌, arith, inl, inr}
 use Rattle.std.proofs.lemmas.Bool.{cond-true, cond-false, cases_Bool}
 use Rattle.std.proofs.lemmas.Option.{none-some}
@@ -51,7 +51,7 @@ each_put p [] i y l a h = absurd (omega arith)
 each_put p (d ∷ ds) zero y l a h = (h, a)
 each_put p (d ∷ ds) (suc i) y l a h = (a.0, each_put p ds i y (omega arith) a.1 h)
 
--- ---- a step of one datagram, with the chains xs beside it before
+-- ---- a step of one datagram, before which the caller holds the chains xs
 module _ (p q : PoolView) (ds : List Datagram) (i : ℕ) (x : Datagram) (xs zs : List ℕ) (l : i < length ds)
     (owns : IsOwned p (xs ++ held_all p ds)) (is : IsTable p ds) (m : Moves p (xs ++ held p (get_or ds i x)) q zs) where
   split : (k : ℕ) → times_among k (xs ++ held_all p ds)
@@ -59,7 +59,7 @@ module _ (p q : PoolView) (ds : List Datagram) (i : ℕ) (x : Datagram) (xs zs :
   split k =
       omega (arith, times-append k xs (held_all p ds), times-append k xs (held p (get_or ds i x)), held_at p k ds i x l)
 
-  -- the others are as they were
+  -- the other datagrams are unchanged
   pub others_same : SameAt p q (held_all p (remove ds i))
   others_same =
       same_beside (held_all p (remove ds i)) m (λ k. omega (arith, owns k, split k))
@@ -71,7 +71,7 @@ module _ (p q : PoolView) (ds : List Datagram) (i : ℕ) (x : Datagram) (xs zs :
   pub others_each : AllUnfinished q (remove ds i)
   others_each = each_same p q (remove ds i) others_same (each_at p ds i x l is.each).1
 
-  -- it stands in its place again, as y, and ys came out
+  -- the datagram is put back as y, and the caller gets the chains ys
   pub put_moves : (y : Datagram) (ys : List ℕ)
       → ((k : ℕ) → times_among k zs ≡ times_among k ys + times_among k (held q y))
       → Moves p (xs ++ held_all p ds) q (ys ++ held_all q (set ds i y))
@@ -101,7 +101,7 @@ module _ (p q : PoolView) (ds : List Datagram) (i : ℕ) (x : Datagram) (xs zs :
       ∙ insert_remove (queues p ds) i (queue_of q y)
       (omega (arith, Rattle.std.proofs.lemmas.List.length-map ds (queue_of p)))))
 
-  -- it is gone from the table
+  -- the datagram was removed from the table
   pub gone_moves : Moves p (xs ++ held_all p ds) q (zs ++ held_all q (remove ds i))
   gone_moves =
       moves_beside (xs ++ held_all p ds) (zs ++ held_all q (remove ds i)) (held_all p (remove ds i)) m split
@@ -113,7 +113,7 @@ module _ (p q : PoolView) (ds : List Datagram) (i : ℕ) (x : Datagram) (xs zs :
   pub gone_queues : queues q (remove ds i) ≡ remove (queues p ds) i
   gone_queues = queues_same p q (remove ds i) others_same ∙ map-remove (queue_of p) ds i
 
--- ---- what is found by a test that no two pass
+-- ---- an element found by a test that at most one passes
 module _ {X : Type 0} (t : X → Bool) where
   counts_yes : (x : X) (xs : List X) → t x ≡ true → count_by t (x ∷ xs) ≡ 1 + count_by t xs
   counts_yes x xs e = omega (arith, count_cons t x xs, cond-true {A = ℕ} (t x) 1 0 e)
@@ -136,7 +136,7 @@ module _ {X : Type 0} (t : X → Bool) where
     | inr is ↦ counts_no y ys is ∙ none_found ys (sym (cond-false (t y) (Some y) (find t ys) is) ∙ e)
   ]
 
-  -- none passes
+  -- no element passes
   pub map_none : (g : X → X) (xs : List X) → count_by t xs ≡ 0 → map (λ x. cond (t x) (g x) x) xs ≡ xs
   map_none g [] z = refl
   map_none g (x ∷ xs) z = elim (cases_Bool (t x)) [
@@ -157,7 +157,7 @@ module _ {X : Type 0} (t : X → Bool) where
   one_passes (x ∷ xs) zero d l e = omega (arith, counts_yes x xs e)
   one_passes (x ∷ xs) (suc i) d l e = omega (arith, count_cons t x xs, one_passes xs i d (omega arith) e)
 
-  -- one passes, at place i
+  -- one element passes, at place i
   pub map_one : (g : X → X) (xs : List X) (i : ℕ) (d : X) → i < length xs → t (get_or xs i d) ≡ true → count_by t xs ≤ 1
       → map (λ x. cond (t x) (g x) x) xs ≡ set xs i (g (get_or xs i d))
   map_one g [] i d l h most = absurd (omega arith)

@@ -92,7 +92,7 @@ module _ (k : Key) (f : QueuedFragment) where
         ∙ ap (λ (rs : List KeyedQueue). q ∷ rs) (without_here qs i (omega arith) (sym (cond-false _ _ _ is) ∙ n) e)
   ]
 
--- what is left by place is what is left by key, where the first queue with the key stands there
+-- the result by place is the result by key, if this is the place of the first queue with the key
 leaves_here : (k : Key) (f : QueuedFragment) (qs : List KeyedQueue) (i : ℕ) (q : PoolView) (result : Arrival)
     (now : List KeyedQueue) → i < length qs → find (has_queue_key k) (take i qs) ≡ None
     → has_queue_key k (keyed_queue_at qs i) ≡ true
@@ -105,7 +105,7 @@ leaves_here k f qs i q (Whole c x) now l n e h = (
 )
 leaves_here k f qs i q (Dropped why) now l n e h = h.0
 
--- and so is the cause
+-- so is the cause
 cause_here : (k : Key) (f : QueuedFragment) (qs : List KeyedQueue) (i : ℕ) (q : PoolView) (result : Arrival)
     (now : List KeyedQueue) → i < length qs → find (has_queue_key k) (take i qs) ≡ None
     → has_queue_key k (keyed_queue_at qs i) ≡ true
@@ -118,7 +118,7 @@ cause_here k f qs i q (Dropped why) now l n e h is =
     ∙ (ap (λ (fs : List QueuedFragment). is_covered (map_of (map fragment_of fs)) (fragment_of f))
     (under_here k f qs i l n e) ∙ h.1)))
 
--- and where a new one stands after the others
+-- the same for a new queue after the others
 set_end : {X : Type 0} (xs : List X) (x y : X) → set (xs ++ x ∷ []) (length xs) y ≡ xs ++ y ∷ []
 set_end [] x y = refl
 set_end (z ∷ zs) x y = ap (λ ws. z ∷ ws) (set_end zs x y)
@@ -153,7 +153,7 @@ leaves_new k f qs q (Dropped why) now l n h =
     ∙ (λ j. is_covered (map_of (map fragment_of
     (sym (at_end qs (record { key = k; fragments = [] }) no_queue) j).fragments)) (fragment_of f)) ∙ h.1))
 
--- a fragment with bytes is laid in a new queue
+-- a fragment with bytes is put into a new queue
 cause_new : (cause : Why) (k : Key) (f : QueuedFragment) (qs : List KeyedQueue) (q : PoolView) (result : Arrival)
     (now : List KeyedQueue) → 0 < length (fragment_of f).bytes
     → LeavesAt (length qs) f (qs ++ record { key = k; fragments = [] } ∷ []) q result now → HasCause cause result
@@ -164,7 +164,7 @@ cause_new cause k f qs q (Dropped why) now l h =
     ∙ (λ j. is_covered (map_of (map fragment_of
     (sym (at_end qs (record { key = k; fragments = [] }) no_queue) j).fragments)) (fragment_of f)) ∙ h.1))
 
--- **where nothing waits, a fragment with bytes ended for want of an mbuf**
+-- **if no datagram waits, a fragment with bytes was dropped because no mbuf was free**
 pub cause_lacking : (k : Key) (f : QueuedFragment) (now : List KeyedQueue) → 0 < length (fragment_of f).bytes → now ≡ []
     → NoBufs ≡ cause_among (under k now) f
 cause_lacking k f now l e =
@@ -195,7 +195,7 @@ pub wait_reserved : (p q : PoolView) (r s : TableView) (c d : Counters) (b : Boo
 wait_reserved p q r s c d b kept none =
     wait_tested p q r.datagrams s.datagrams b (λ e. let a = kept e in λ j. queues (a.0 j) (a.1 j).datagrams) none
 
--- and what there is room for stays that
+-- after a test of the pool, there are still fewer datagrams than half its mbufs
 pub few_reserved : (p q : PoolView) (r s : TableView) (c d : Counters) (b : Bool)
     → (b ≡ true → (q ≡ p) × (s ≡ r) × (d ≡ c)) → (b ≡ false → length s.datagrams ≡ 0) → q.mbufs ≡ p.mbufs
     → 2 * length r.datagrams < p.mbufs → 2 * length s.datagrams < q.mbufs
@@ -203,7 +203,7 @@ few_reserved p q r s c d true kept none size few =
     omega (arith, size, few, ap (λ (t : TableView). length t.datagrams) (kept refl).1)
 few_reserved p q r s c d false kept none size few = omega (arith, size, few, none refl)
 
--- **nothing waits where the pool had no mbuf**
+-- **nothing waits if the pool had no mbuf**
 pub none_reserved : (p q : PoolView) (r s : TableView) (c d : Counters) (answer : Bool)
     → (are_free p 1 0 ≡ true → (q ≡ p) × (s ≡ r) × (d ≡ c)) → (are_free p 1 0 ≡ false → length s.datagrams ≡ 0)
     → answer ≡ are_free q 1 0 → answer ≡ false → queues q s.datagrams ≡ []
@@ -217,7 +217,7 @@ none_then : (k : Key) (qs rs : List KeyedQueue) → WaitOrNone qs rs → find (h
 none_then k qs rs (inl a) n = ap (find (has_queue_key k)) a ∙ n
 none_then k qs rs (inr a) n = ap (find (has_queue_key k)) a
 
--- what is left where the queue is a new one
+-- the result if the queue is a new one
 new_place : (p r t : PoolView) (hs : List Datagram) (qs now : List KeyedQueue) (k : Key) (n i offset : ℕ) (more : Bool)
     (result : Arrival) → chain_of r n ≡ chain_of p n → queues r hs ≡ qs ++ record { key = k; fragments = [] } ∷ []
     → i ≡ length qs
@@ -257,7 +257,7 @@ begins_cause cause p q r t es hs ts k n i offset more result some chain rows i_i
     (new_place p r t hs (queues q es) (queues t ts) k n i offset more result chain rows
     (omega (arith, i_is, length-map es (queue_of q))) leaves)
 
--- the queue of the first datagram with the key stands at the same place
+-- the queue of the first datagram with the key is at the same place
 record Found (p : PoolView) (ds : List Datagram) (k : Key) (i : ℕ) : Type 0 where
   within : i < length (queues p ds)
   front : find (has_queue_key k) (take i (queues p ds)) ≡ None
@@ -315,7 +315,7 @@ arrived_cause p r n n' h held result good entries x =
     (ap (λ (xs : List Entry). cause_among held (record { offset = h.offset; more = h.more; entries = xs })) entries
     ∙ sym (cond-false _ _ _ good)) x
 
--- **a fragment of which nothing is left**
+-- **a fragment whose bytes are all covered**
 pub covered_layout : (p q : PoolView) (ds slice es back : List Datagram) (i c n : ℕ) (f : QueuedFragment)
     (answer : Bool) → i < length ds → n ≡ length ds → slice ≡ ds → answer ≡ false → InsertsIn p slice i c f answer q es
     → back ≡ take n (es ++ drop (length es) ds)

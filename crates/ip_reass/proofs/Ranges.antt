@@ -1,4 +1,4 @@
--- What the flat machine's pieces own, of a datagram whose fragments are in order and apart.
+-- The offsets that the flat machine's pieces own, for a datagram whose fragments are in order and don't overlap.
 use Rattle.std.proofs.Common.{◌≡◌, ℕ, zero, suc, ◌+◌, ◌-◌, ◌<◌, ◌≤◌, Bool, true, false, List, [], ◌∷◌, length, map, count_by, sum_by, slice_get, None, Some, option_map, refl, sym, ap, ◌∙◌, subst, inl, inr, arith}
 use Rattle.std.specs.List.{range_with_len}
 use Rattle.std.proofs.lemmas.Bool.{cases_lt, eq-eqb, ne_eqb, cond-true, cond-false}
@@ -21,11 +21,11 @@ use Rattle.ip_reass.specs.declared.questions.UnfinishedDatagram.{UnfinishedDatag
 use Rattle.ip_reass.proofs.Walks.{length-fragments}
 use Rattle.ip_reass.proofs.Places.{each_at}
 
--- what a fragment holds
+-- the range of a fragment
 abbrev pub held_by : Fragment → HeldRange
 held_by f = record { offset = f.offset; len = length f.bytes; more = f.more }
 
--- of n numbers from `at` on, a test holds of those from a to e
+-- of n numbers from `at` on, a test passes for those from a up to e
 count_between : (test : ℕ → Bool) (a e at n : ℕ) → a ≤ e → e ≤ at + n → ((k : ℕ) → a ≤ k → k < e → test k ≡ true)
     → ((k : ℕ) → k < a → test k ≡ false) → ((k : ℕ) → e ≤ k → test k ≡ false)
     → count_by test (range_with_len at n) ≡ (e - a) - (at - a)
@@ -41,7 +41,7 @@ count_between test a e at (suc n) o l hit low high =
       ]
     ]
 
--- what begins in front of them all owns nothing of them
+-- a piece that begins before all these fragments owns no byte of them
 later : (a low : ℕ) (fs : List Fragment) (k : ℕ) → Apart low fs → a < low → is_of a (map_of fs k) ≡ false
 later a low [] k h l = refl
 later a low (f ∷ fs) k h l = elim (known_place f k) [
@@ -50,7 +50,7 @@ later a low (f ∷ fs) k h l = elim (known_place f k) [
   | within b c ↦ ap (is_of a) (known_here f fs k b c) ∙ ne_eqb f.offset a (λ e. absurd (omega arith))
 ]
 
--- From an offset on a map is that of these fragments, and what lies below it begins below it.
+-- From an offset on, the map is that of these fragments; a byte below it belongs to a piece that begins below it.
 record IsFrom (m : Map) (low : ℕ) (fs : List Fragment) : Type 0 where
   pub same : (k : ℕ) → low ≤ k → m k ≡ map_of fs k
   pub under : (a k : ℕ) → low ≤ a → k < low → is_of a (m k) ≡ false
@@ -69,7 +69,7 @@ passed m low f fs h c = record {
   ];
 }
 
--- a fragment's piece owns as many offsets as it has bytes
+-- a fragment's piece owns one offset for each byte of the fragment
 owned : (most : ℕ) (m : Map) (low : ℕ) (f : Fragment) (fs : List Fragment) → Apart low (f ∷ fs) → IsFrom m low (f ∷ fs)
     → end_of_fragment f ≤ most → owned_below most m f.offset ≡ length f.bytes
 unfolding owned_below
@@ -93,13 +93,13 @@ each_held m low (f ∷ fs) h e c =
     let others = each_held m (end_of_fragment f) fs h.2 e.1 (passed m low f fs h c) in
     λ i. record { offset = f.offset; len = len i; more = f.more } ∷ others i
 
--- **the ranges are what the fragments hold**
+-- **the ranges are those of the fragments**
 pub ranges_are : (fs : List Fragment) → Apart 0 fs → AllEnd IP_MAX_DATA fs → ranges (map_of fs) ≡ map held_by fs
 ranges_are fs a e =
     ap (map (range_of (map_of fs))) (pieces_are fs a e)
     ∙ each_held (map_of fs) 0 fs a e (record { same = λ k l. refl; under = λ a k l s. absurd (omega arith) })
 
--- their bytes
+-- the sum of their bytes
 sum_held : (fs : List Fragment) → sum_by (λ (range : HeldRange). range.len) (map held_by fs) ≡ bytes_held fs
 sum_held [] = refl
 sum_held (f ∷ fs) =
@@ -125,7 +125,7 @@ nth_is fs k a e l =
     ∙ (slice_get-map held_by fs k ∙ ap (option_map held_by) (slice_get-get_or fs k no_fragment l))
 
 -- ---- a datagram by its place
--- what is told of a datagram
+-- the summary of a datagram
 abbrev pub told_from : Datagram → UnfinishedDatagram
 told_from d = record { key = d.key; ticks = d.ticks; bytes = d.bytes; ranges = d.fragments.len }
 

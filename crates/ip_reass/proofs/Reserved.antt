@@ -1,4 +1,4 @@
--- What an arrival has in hand while the pool is tested, and a datagram that begins.
+-- The chain that an arrival holds while the pool is tested, and a datagram that begins.
 use Rattle.std.proofs.Common.{◌≡◌, ℕ, ◌*◌, ◌<◌, ◌≤◌, Bool, true, false, List, [], ◌∷◌, ◌++◌, length, find, count_by, get_or, None, refl, sym, ap, ◌∙◌, subst, arith, inl, inr, length-append}
 use Rattle.std.proofs.lemmas.Bool.{false≢true, and_from, eq-eqb}
 use Rattle.std.proofs.lemmas.List.Sums.{count_by-le-length}
@@ -29,12 +29,12 @@ use Rattle.ip_reass.specs.declared.datagram.Datagram.{Datagram}
 use Rattle.ip_reass.proofs.Places.{none_found}
 use Rattle.ip_reass.proofs.Tables.{Begins, begins}
 
--- a key that isn't held takes an mbuf, and then its datagram begins
+-- a new key takes an mbuf, and then its datagram begins
 abbrev TestsForKey : Weight → Key → Fragment → State → State → Type 0
 TestsForKey held k f old new =
     Tests exact_ledger old (held ⊕ f.weight) 1 new (λ mid. Lays exact_ledger held k f (begun k) (begin_unfinished k mid) new)
 
--- ---- chain c is in hand while the table takes a step
+-- ---- the caller holds chain c while the table takes a step
 pub record Stays (p : PoolView) (ds : List Datagram) (c : ℕ) (q : PoolView) (es : List Datagram) : Type 0 where
   pub owned : IsOwned q (c ∷ held_all q es)
   pub chain : chain_of q c ≡ chain_of p c
@@ -55,7 +55,7 @@ stays p q ds es c owns m =
       moves = moves;
     }
 
--- it was freed
+-- chain c was freed
 pub record Freed (p : PoolView) (ds : List Datagram) (c : ℕ) (q r : PoolView) (es : List Datagram) : Type 0 where
   pub table : IsTable r es
   pub shows : unfinished r es ≡ unfinished q es
@@ -77,7 +77,7 @@ freed p q r ds es c st is gone =
           (moves_without q r c st.live gone) (λ k. omega arith) (λ k. omega (arith, ap (times_among k) all)));
     }
 
--- ---- the two ends of the test for a key's mbuf
+-- ---- the two results of the test for a key's mbuf
 pub lacking : (rest : State) (held : Weight) (new : State) (k : Key) (f : Fragment) (p q r : PoolView)
     (ds es : List Datagram) (c mid d : Counters)
     → HasBuffers exact_ledger (machine_with p ds c rest) (held ⊕ f.weight) (need_mbufs 1) false
@@ -93,7 +93,7 @@ lacking rest held new k f p q r ds es c mid d af shows counts is = record {
   };
 }
 
--- what is left of the datagrams after a test
+-- the datagrams that are left after a test
 none_then : (rest : State) (w : Weight) (k : Key) (p q : PoolView) (ds es : List Datagram) (c mid : Counters)
     → find (is_key k) (unfinished p ds) ≡ None
     → HasBuffers exact_ledger (machine_with p ds c rest) w (need_mbufs 1) true (machine_with q es mid rest)
@@ -177,7 +177,7 @@ begins_here rest held new k p q r ds es hs c d n i offset more none af chain b s
       goes_on = record { yes = λ e. c'; no = λ e. absurd (false≢true (sym e)) };
     }
 
--- there is room in the table: each datagram has an mbuf for its key and a fragment, and the chain in hand one more
+-- the table has space: each datagram has an mbuf for its key and a fragment, and the caller's chain takes one more
 pub room : (p : PoolView) (ds : List Datagram) (c : ℕ) → IsBounded p → IsTable p ds → HaveFragments ds
     → IsOwned p (c ∷ held_all p ds) → 2 * length ds < p.mbufs
 room p ds c b is some owns = omega (arith, owned_at_most p (c ∷ held_all p ds) b owns, twice ds is.each some)

@@ -1,4 +1,4 @@
--- A fragment laid, as a step of the flat machine.
+-- A fragment that was put into a datagram, as a step of the flat machine.
 use Rattle.std.proofs.Common.{◌≡◌, ℕ, zero, suc, ◌<◌, ◌≤◌, Bool, true, not, cond, List, [], ◌∷◌, ◌++◌, length, map, filter, count_by, get_or, set, take, drop, remove, refl, sym, ap, ◌∙◌, subst, arith, inl, inr}
 use Rattle.std.proofs.lemmas.Bool.{false≢true}
 use Rattle.std.proofs.lemmas.List.{get_or-map, get_or-set_same, length-map, length-set}
@@ -36,7 +36,7 @@ remove-set [] (suc i) y = refl
 remove-set (x ∷ xs) zero y = refl
 remove-set (x ∷ xs) (suc i) y = ap (λ zs. x ∷ zs) (remove-set xs i y)
 
--- one key at place i
+-- only the datagram at place i has the key
 module _ (k : Key) (p : PoolView) (ds : List Datagram) (i : ℕ) (l : i < length ds)
     (here : is_key k (unfinished_of p (datagram_at ds i)) ≡ true) (most : count_by (is_key k) (unfinished p ds) ≤ 1)
   where
@@ -46,7 +46,7 @@ module _ (k : Key) (p : PoolView) (ds : List Datagram) (i : ℕ) (l : i < length
     within : i < length (unfinished p ds)
     within = omega (arith, length-map ds (unfinished_of p))
 
-    -- what `set_bytes` makes of the datagrams
+    -- the datagrams after `set_bytes`
     pub bytes_set : (bytes : Map) → map (λ (u : Unfinished). cond (is_key k u) (record u { bytes = bytes }) u)
         (unfinished p ds) ≡ set (unfinished p ds) i (record (unfinished_of p (datagram_at ds i)) { bytes = bytes })
     bytes_set bytes =
@@ -58,7 +58,7 @@ module _ (k : Key) (p : PoolView) (ds : List Datagram) (i : ℕ) (l : i < length
     ended =
         filter_one (is_key k) (unfinished p ds) i (unfinished_of p no_datagram) within (ap (is_key k) at_i ∙ here) most
 
--- it waits
+-- the datagram waits
 pub settles_kept : (rest : State) (held : Weight) (k : Key) (p q : PoolView) (ds es : List Datagram) (c : Counters)
     (i n : ℕ) (f : QueuedFragment) (new : State) → i < length ds
     → is_key k (unfinished_of p (datagram_at ds i)) ≡ true → count_by (is_key k) (unfinished p ds) ≤ 1
@@ -125,7 +125,7 @@ settles_whole rest held k p q r ds es hs c d i n out m f new l here most la ta w
       no = λ e. subst (λ (b : Map). Settles exact_ledger held k b (machine_with p ds c rest) new) la.map settled;
     }
 
--- ---- as the code sees it: the table was lent as a slice
+-- ---- the same for a table that was lent as a slice
 pub record Lent (p : PoolView) (ds : List Datagram) (i c : ℕ) (f : QueuedFragment) (q : PoolView)
     (es back : List Datagram) : Type 0 where
   pub lays : InsertsIn p ds i c f true q es
@@ -163,7 +163,7 @@ lent_table p q ds slice es i c n f answer back l n_is was agrees la back_is =
 
 module _ (p q : PoolView) (ds es back : List Datagram) (i n : ℕ) (f : QueuedFragment) (e : Lent p ds i n f q es back)
   where
-    -- it waits
+    -- the datagram waits
     pub lent_kept : (rest : State) (held : Weight) (k : Key) (c : Counters) (new : State) → i < length ds
         → is_key k (unfinished_of p (datagram_at ds i)) ≡ true → count_by (is_key k) (unfinished p ds) ≤ 1
         → ((m : ℕ) → ¬ IsWhole (map_of (fragments q (datagram_at es i).fragments)) m) → new ≡ machine_with q back c rest
@@ -177,11 +177,11 @@ module _ (p q : PoolView) (ds es back : List Datagram) (i n : ℕ) (f : QueuedFr
         → IsWhole (map_of (fragments q e.lays.train)) m
     whole_here m w = subst (λ (t : TrainView). IsWhole (map_of (fragments q t)) m) e.train_is w
 
-    -- a whole datagram is no longer than the longest, and has a fragment
+    -- a whole datagram has at most 65,515 bytes, and at least one fragment
     pub whole_short : (m : ℕ) → IsWhole (map_of (fragments q (datagram_at es i).fragments)) m → m ≤ 65515
     whole_short m w = whole_most (fragments q e.lays.train) m e.queue.apart e.queue.small (whole_here m w)
 
-    -- it is whole
+    -- the datagram is whole
     module _ (l : i < length ds) (r : PoolView) (hs : List Datagram) (out m : ℕ) (bounded : IsBounded q)
         (w : IsWhole (map_of (fragments q (datagram_at es i).fragments)) m) (takes : TakesOut q back i out r hs) where
       taken : TakesOut q es i out r hs

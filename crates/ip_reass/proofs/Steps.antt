@@ -23,7 +23,7 @@ pub queued_is : (p : PoolView) (t : TrainView) (i : ℕ) → IsHeld p t → i < 
 queued_is p t i h l =
     get_or-map queued_of (queued_packets p t) i no_queued_packet no_queued (omega (arith, length-queued_packets p t h))
 
--- where one begins, and where it ends
+-- the begin and the end of a fragment
 pub begin_is : (p : PoolView) (t : TrainView) (i : ℕ) → IsHeld p t → i < t.len
     → (queued_at (queued p t) i).offset ≡ (fragment_at (fragments p t) i).offset
 begin_is p t i h l =
@@ -68,7 +68,7 @@ queued_cut c n tag es =
     let odd : (tag + 2 * n) % 2 ≡ tag % 2 = omega arith in
     λ i. record { offset = half i; more = eqb (odd i) 1; entries = without_first n es }
 
--- ---- a fragment freed
+-- ---- a fragment is freed
 pub queue_freed : (p q r : PoolView) (t u : TrainView) (i : ℕ) → FreedPacket p t q r u
     → queued_packets q u ≡ remove (queued_packets p t) i → queued r u ≡ remove (queued p t) i
 queue_freed p q r t u i f gone =
@@ -80,7 +80,7 @@ fragments_freed p r t u i e =
     fragments_are r u ∙ (ap (map fragment_of) e
     ∙ (map-remove fragment_of (queued p t) i ∙ ap (λ (fs : List Fragment). remove fs i) (sym (fragments_are p t))))
 
--- ---- a chain beside the train changed
+-- ---- a chain outside the train changed
 pub record Changed (q : PoolView) (u : TrainView) (c : ℕ) (v : ChainView) (r : PoolView) : Type 0 where
   pub live : IsLive r c
   pub shown : chain_of r c ≡ v
@@ -104,7 +104,7 @@ changed q r u c v live apart holds is =
           (λ k. omega (arith, ap (times_among k) b.numbers));
     }
 
--- ---- a fragment cut
+-- ---- a fragment is cut
 pub record Trimmed (p : PoolView) (t : TrainView) (i n : ℕ) (s : PoolView) (w : TrainView) : Type 0 where
   pub queue_is : queued s w ≡ set (queued p t) i (cut n (queued_at (queued p t) i))
   pub moves : Moves p (numbers p t) s (numbers s w)
@@ -140,7 +140,7 @@ trimmed_at p q r s t u w c i n tag place held gone took moved change put moves =
       moves = moves_trans moved (moves_trans change.moves moves);
     }
 
--- ---- clearing
+-- ---- clearing what the new fragment covers
 rest_at : (ps : List QueuedFragment) (i : ℕ) → i < length ps → drop i ps ≡ queued_at ps i ∷ drop (suc i) ps
 rest_at [] i l = absurd (omega arith)
 rest_at (p ∷ ps) zero l = refl
@@ -157,7 +157,7 @@ cut_to_cut : (e : ℕ) (p : QueuedFragment) (ps : List QueuedFragment) → p.off
     → cut_to e (p ∷ ps) ≡ cut (e - p.offset) p ∷ ps
 cut_to_cut e p ps a b = cond-false _ _ _ (lt-leb e p.offset a) ∙ cond-false _ _ _ (lt-leb (queued_end p) e b)
 
--- what a loop that clears keeps: the fragments before stay, and what is to be left of the others is the same
+-- the loop that clears: the fragments before are unchanged, and so is the rest of the others from offset e on
 pub record Clearing (e i : ℕ) (old now : List QueuedFragment) : Type 0 where
   pub front : take i now ≡ take i old
   pub rest : cut_to e (drop i now) ≡ cut_to e (drop i old)
@@ -172,7 +172,7 @@ clearing_more e i old now next c l a b is = subst (Clearing e i old) (sym is) (r
       ∙ (ap (cut_to e) (sym (rest_at now i l)) ∙ c.rest));
 })
 
--- the three ends
+-- the three ways in which the loop ends
 pub cleared_all : (e i : ℕ) (old now : List QueuedFragment) → Clearing e i old now → length now ≤ i
     → now ≡ take i old ++ cut_to e (drop i old)
 cleared_all e i old now c l =

@@ -21,7 +21,7 @@ use Rattle.mbuf_chain.proofs.Laws.Trains.{held_none}
 use Rattle.ip_reass.specs.Same.{held_all_same, each_same, unfinished_same, queues_same}
 use Rattle.ip_reass.specs.Layouts.{KeyedQueue, queue_of, queues}
 
--- ---- datagrams freed
+-- ---- datagrams are freed
 pub held_all-append : (p : PoolView) (k : ℕ) (xs ys : List Datagram)
     → times_among k (held_all p (xs ++ ys)) ≡ times_among k (held_all p xs) + times_among k (held_all p ys)
 held_all-append p k [] ys = omega arith
@@ -86,7 +86,7 @@ shorter p r xs ys d e is m =
       moves = moves;
     }
 
--- one datagram
+-- one datagram, whose chains were freed
 pub record Emptied (p : PoolView) (d : Datagram) (q : PoolView) : Type 0 where
   pub held_q : IsHeld q d.fragments
   pub queue_is : queued q d.fragments ≡ queued p d.fragments
@@ -106,7 +106,7 @@ emptied p q d owns holds is =
           (λ k. omega (arith, ap (times_among k) b.numbers));
     }
 
--- the datagrams that stay are as they were, step by step
+-- the datagrams that stay are unchanged by each step
 pub same_more : (p q r : PoolView) (xs ys : List Datagram) (d : Datagram) → xs ≡ ys ++ d ∷ []
     → SameAt p q (held_all p xs) → SameAt q r (held_all q ys) → SameAt p r (held_all p ys)
 same_more p q r xs ys d e s n =

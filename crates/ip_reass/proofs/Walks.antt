@@ -58,7 +58,7 @@ reach_take low i [] l = absurd (omega arith)
 reach_take low zero (p ∷ ps) l = refl
 reach_take low (suc i) (p ∷ ps) l = reach_take (end_of_fragment p) i ps (omega arith)
 
--- the last of them
+-- the end of the last fragment
 pub reach_last : (low i : ℕ) (ps : List Fragment) → i + 1 ≡ length ps
     → reach low ps ≡ end_of_fragment (fragment_at ps i)
 reach_last low i [] e = absurd (omega arith)
@@ -67,7 +67,7 @@ reach_last low (suc i) (p ∷ []) e = absurd (omega arith)
 reach_last low zero (p ∷ q ∷ ps) e = absurd (omega arith)
 reach_last low (suc i) (p ∷ q ∷ ps) e = reach_last (end_of_fragment p) i (q ∷ ps) (omega arith)
 
--- all begin at most where the last one ends
+-- all fragments begin at most at the end of the last one
 pub upto_reach : (a low : ℕ) (ps : List Fragment) → Apart low ps → reach low ps ≤ a → AllUpto a ps
 upto_reach a low [] h l = tt
 upto_reach a low (p ∷ ps) h l =

@@ -11,12 +11,12 @@ use Rattle.ip_reass.specs.Fragments.{end_of_fragment, own, map_of, bytes_held, A
 use Rattle.ip_reass.specs.Inside.Walks.{reach, bytes_of, fragment_at, trimmed, left_from}
 use Rattle.ip_reass.specs.Inside.Known.{known_here, known_below, known_past, below, within, past, known_place, nothing_below, nothing_past, reach_grows, left_after, left_whole, left_none, left_cut, end_trimmed}
 
--- each begins where the one before ends, the first at low
+-- each begins at the end of the one before, and the first at low
 abbrev pub InRow : ℕ → List Fragment → Type 0
 InRow low [] = Unit {0}
 InRow low (p ∷ ps) = (p.offset ≡ low) × InRow (end_of_fragment p) ps
 
--- whether more come after the last
+-- whether more fragments follow the last one
 abbrev pub last_more : List Fragment → Bool
 last_more [] = true
 last_more (p ∷ []) = p.more
@@ -30,7 +30,7 @@ row_known low (p ∷ ps) k r l m = elim (cases_lt k (end_of_fragment p)) [
   | inr b ↦ subst IsSome (sym (known_past p ps k b)) (row_known (end_of_fragment p) ps k r.1 b m)
 ]
 
--- what is known lies below the end
+-- a known byte is below the end of the last fragment
 pub known_end : (low : ℕ) (ps : List Fragment) (k : ℕ) → Apart low ps → IsSome (map_of ps k) → k < reach low ps
 known_end low ps k a h = elim (cases_lt k (reach low ps)) [
   | inl l ↦ l
@@ -46,7 +46,7 @@ last_is low p (q ∷ ps) k a e =
     let r = last_is (end_of_fragment p) q ps k a.2 e in
     (r.0, known_past p (q ∷ ps) k (omega arith) ∙ r.1, r.2)
 
--- **fragments in a row whose last has no more are whole**
+-- **contiguous fragments are whole if the last one has no more after it**
 pub whole_from : (ps : List Fragment) (n : ℕ) → Apart 0 ps → InRow 0 ps → last_more ps ≡ false → n ≡ reach 0 ps
     → IsWhole (map_of ps) n
 whole_from [] n a row last e = absurd (let f : true ≡ false = last in cc)
@@ -103,7 +103,7 @@ whole_only n (p ∷ ps) a w =
     subst (λ (o : Option Held). IfSome o (λ held. held.piece.more ≡ false)) c.1 w.last in
     (r.0, r.1, sym c.2 ∙ none)
 
--- **the bytes of fragments in a row, joined, are the map's in order**
+-- **the joined bytes of contiguous fragments are the map's bytes in order**
 pub joined_at : (low : ℕ) (ps : List Fragment) (k : ℕ) (c : Held) → InRow low ps → map_of ps (low + k) ≡ Some c
     → c.byte ≡ get_or (bytes_of ps) k 0
 joined_at low [] k c r e = absurd (let f : None ≡ Some c = e in cc)
@@ -129,7 +129,7 @@ length-joined low [] r = omega arith
 length-joined low (p ∷ ps) r =
     omega (arith, length-joined (end_of_fragment p) ps r.1, length-append p.bytes (bytes_of ps))
 
--- **what is whole is the fragments joined**
+-- **the bytes of a whole datagram are the joined bytes of its fragments**
 pub bytes_are : (ps : List Fragment) (n : ℕ) → Apart 0 ps → IsWhole (map_of ps) n
     → (bytes_below (map_of ps) n ≡ bytes_of ps) × (n ≡ length (bytes_of ps))
 bytes_are ps n a w =
@@ -144,13 +144,13 @@ bytes_are ps n a w =
       len,
     )
 
--- ---- fragments whose bytes are counted
--- together they have at most as many bytes as lie below the end of the last
+-- ---- the number of bytes of the fragments
+-- together they have at most the number of bytes below the end of the last one
 pub held_most : (low : ℕ) (ps : List Fragment) → Apart low ps → low + bytes_held ps ≤ reach low ps
 held_most low [] a = omega arith
 held_most low (p ∷ ps) a = omega (arith, held_most (end_of_fragment p) ps a.2)
 
--- in a row they have as many, and only those in a row have
+-- contiguous fragments have exactly that number, and only those do
 row_held : (low : ℕ) (ps : List Fragment) → InRow low ps → low + bytes_held ps ≡ reach low ps
 row_held low [] r = omega arith
 row_held low (p ∷ ps) r = omega (arith, row_held (end_of_fragment p) ps r.1)
@@ -167,20 +167,20 @@ last_at (suc i) (p ∷ []) e = absurd (omega arith)
 last_at zero (p ∷ q ∷ ps) e = absurd (omega arith)
 last_at (suc i) (p ∷ q ∷ ps) e = last_at i (q ∷ ps) (omega arith)
 
--- more come after the last
+-- the last fragment has more after it
 pub open_stops : (ps : List Fragment) (i : ℕ) → Apart 0 ps → i + 1 ≡ length ps → (fragment_at ps i).more ≡ true
     → (n : ℕ) → ¬ IsWhole (map_of ps) n
 open_stops ps i a l m n w =
     let r = whole_only n ps a w in
     false≢true (sym r.2 ∙ (last_at i ps l ∙ m))
 
--- some are missing
+-- some bytes are missing
 pub gap_stops : (ps : List Fragment) → Apart 0 ps → bytes_held ps < reach 0 ps → (n : ℕ) → ¬ IsWhole (map_of ps) n
 gap_stops ps a l n w =
     let r = whole_only n ps a w in
     absurd (omega (arith, row_held 0 ps r.0))
 
--- **none is missing**
+-- **no byte is missing**
 pub whole_held : (ps : List Fragment) (i : ℕ) → Apart 0 ps → i + 1 ≡ length ps → (fragment_at ps i).more ≡ false
     → reach 0 ps ≤ bytes_held ps → IsWhole (map_of ps) (bytes_held ps)
 whole_held ps i a l m most =
@@ -191,23 +191,23 @@ reach_within : (low : ℕ) (qs : List Fragment) → low ≤ 65515 → AllEnd 655
 reach_within low [] l s = l
 reach_within low (q ∷ qs) l s = reach_within (end_of_fragment q) qs s.0 s.1
 
--- they end within the limit, and so they have no more bytes
+-- all fragments end within the limit
 pub ends_within : (ps : List Fragment) → AllEnd 65515 ps → reach 0 ps ≤ 65515
 ends_within ps small = reach_within 0 ps (omega arith) small
 
 pub held_within : (ps : List Fragment) → Apart 0 ps → AllEnd 65515 ps → bytes_held ps ≤ 65515
 held_within ps a small = omega (arith, held_most 0 ps a, ends_within ps small)
 
--- what is whole ends within the limit
+-- a whole datagram ends within the limit
 pub whole_most : (ps : List Fragment) (n : ℕ) → Apart 0 ps → AllEnd 65515 ps → IsWhole (map_of ps) n → n ≤ 65515
 whole_most ps n a small w = omega (arith, (whole_only n ps a w).1, ends_within ps small)
 
--- ---- what is laid
+-- ---- after an insertion
 reach_join : (low : ℕ) (xs ys : List Fragment) → reach low (xs ++ ys) ≡ reach (reach low xs) ys
 reach_join low [] ys = refl
 reach_join low (p ∷ xs) ys = reach_join (end_of_fragment p) xs ys
 
--- what is left of fragments reaches as far, or what they're left to does
+-- the rest of the fragments reaches at least to the end of all of them
 reach_left : (low e x : ℕ) (ps : List Fragment) → low ≤ x → e ≤ x → reach low ps ≤ reach x (left_from e ps)
 reach_left low e x [] l m = l
 reach_left low e x (p ∷ ps) l m = elim (left_after e p ps) [
@@ -231,7 +231,7 @@ reach_laid n f xs ys is some =
       reach_left (reach 0 xs) (end_of_fragment f) (end_of_fragment (trimmed n f)) ys (omega arith) (omega arith),
     )
 
--- the last of them
+-- the last fragment of a list
 pub last_here : (xs : List Fragment) (f : Fragment) (i : ℕ) → i ≡ length xs → fragment_at (xs ++ f ∷ []) i ≡ f
 last_here [] f zero e = refl
 last_here [] f (suc i) e = absurd (omega arith)

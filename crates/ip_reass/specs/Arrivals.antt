@@ -42,7 +42,7 @@ key_in h = record { source = h.src; destination = h.dst; id = h.id; protocol = h
 abbrev pub carried_at : PoolView → ℕ → Item
 carried_at p c = record { bytes = drop IP_HEADER (string (chain_of p c)); weight = weight_at p c }
 
--- The first mbuf shows where a packet came from: by loopback it's plain; from the wire it's a cluster if at least 208
+-- The first mbuf shows the origin of a packet: by loopback it's plain; from the wire it's a cluster if at least 208
 -- bytes were received, which then holds more than 40 bytes of the packet, or all.
 pub record CameByWire (received : ℕ) (v : ChainView) : Type 0 where
   pub cluster : is_some (entry_of v 0).cluster ≡ nat_le MINCLSIZE received

@@ -1,4 +1,4 @@
--- The fragments of an unfinished datagram, in order of offset and without overlap, and what the flat machine sees of
+-- The fragments of an unfinished datagram, in order of offset and without overlap, and the flat machine's view of
 -- them (TCP/IP Illustrated, volume 2, chapter 10).
 use Rattle.std.specs.Prelude.{ℕ, ◌+◌, ◌-◌, ◌/◌, ◌%◌, ◌<◌, ◌≤◌, Bool, ◌&&◌, ◌==◌, nat_le, nat_lt, if◌then◌else◌, List, [], ◌∷◌, length, slice_index, map, None, Some}
 use Rattle.params.specs.declared.TheConstants.{IP_MAX_DATA}
@@ -42,7 +42,7 @@ queued_end q = q.offset + length (flat_bytes q.entries)
 abbrev pub cut : ℕ → QueuedFragment → QueuedFragment
 cut n q = record { offset = q.offset + n; more = q.more; entries = without_first n q.entries }
 
--- what is left of a queue from offset e on
+-- the rest of a queue from offset e on
 abbrev pub cut_to : ℕ → List QueuedFragment → List QueuedFragment
 cut_to e [] = []
 cut_to e (q ∷ qs) = if nat_le e q.offset then q ∷ qs else if nat_le (queued_end q) e then cut_to e qs
@@ -70,7 +70,7 @@ abbrev pub joined_fragments : List QueuedFragment → List Entry
 joined_fragments [] = []
 joined_fragments (q ∷ qs) = joined_after q.entries qs
 
--- ---- what the flat machine sees of it
+-- ---- the flat machine's view of it
 
 -- the fragments of a train
 abbrev pub fragment_in : QueuedPacket → Fragment
@@ -91,7 +91,7 @@ piece_of f = record { first = f.offset; more = f.more; weight = f.weight }
 abbrev pub own : Fragment → ℕ → Held
 own f k = record { byte = slice_index f.bytes (k - f.offset); piece = piece_of f }
 
--- what is known at an offset
+-- the byte and the piece that are known at an offset
 abbrev pub map_of : List Fragment → Map
 map_of [] k = None
 map_of (f ∷ fs) k = if nat_le f.offset k && nat_lt k (end_of_fragment f) then Some (own f k) else map_of fs k

@@ -1,6 +1,6 @@
--- The layout of waiting fragments and of returned datagrams: their mbufs, where the bytes begin, and to which clusters
--- they refer (`ip_reass` of TCP/IP Illustrated, volume 2, chapter 10, with `m_pullup`, `m_adj` and `m_cat` of chapter
--- 2).
+-- The layout of waiting fragments and of returned datagrams: their mbufs, the offsets of the bytes, and the clusters to
+-- which they refer (`ip_reass` of TCP/IP Illustrated, volume 2, chapter 10, with `m_pullup`, `m_adj` and `m_cat` of
+-- chapter 2).
 use Rattle.std.specs.Prelude.{◌≡◌, ◌⊎◌, ℕ, ◌-◌, Bool, true, is_some, ◌==◌, ◌&&◌, if◌then◌else◌, List, [], ◌∷◌, map, slice_index_or, slice_set, remove}
 use Rattle.params.specs.declared.TheConstants.{IP_HEADER}
 use Rattle.flat_model.specs.Amounts.Choice.{Choice}
@@ -60,7 +60,7 @@ without_key k (q ∷ qs) = if has_queue_key k q then qs else q ∷ without_key k
 abbrev pub fragment_carried : ChainView → IpHead → QueuedFragment
 fragment_carried v h = record { offset = h.offset; more = h.more; entries = carried_entries v }
 
--- what an arrival of the fragment f leaves, if the queues `qs` waited
+-- the queues after an arrival of the fragment f, if the queues `qs` waited before
 abbrev pub Leaves : Key → QueuedFragment → List KeyedQueue → PoolView → Arrival → List KeyedQueue → Type 0
 Leaves k f qs q Kept now = now ≡ inserted_under k f qs
 Leaves k f qs q (Whole c h) now =
@@ -122,7 +122,7 @@ no_queue = record { key = record { source = 0; destination = 0; id = 0; protocol
 abbrev pub keyed_queue_at : List KeyedQueue → ℕ → KeyedQueue
 keyed_queue_at qs i = slice_index_or qs i no_queue
 
--- what is left of a fragment that is put into the queue at a place
+-- the queues after a fragment was put into the queue at a place
 abbrev pub LeavesAt : ℕ → QueuedFragment → List KeyedQueue → PoolView → Arrival → List KeyedQueue → Type 0
 LeavesAt i f qs q Kept now = now ≡ slice_set qs i (with_inserted f (keyed_queue_at qs i))
 LeavesAt i f qs q (Whole c h) now =

@@ -21,7 +21,7 @@ is_of first (Some held) = held.piece.first == first
 unfoldable pub owned_below : ℕ → Map → ℕ → ℕ
 owned_below most bytes first = count_by (λ offset. is_of first (bytes offset)) (range_with_len 0 most)
 
--- what is left of a piece: as many bytes as it owns offsets
+-- the rest of a piece, with one byte for each offset that it owns
 abbrev pub range_of : Map → Piece → HeldRange
 range_of bytes piece = record {
   offset = piece.first;
@@ -29,7 +29,7 @@ range_of bytes piece = record {
   more = piece.more;
 }
 
--- what is left of all pieces, in order of offset
+-- the rest of all pieces, in order of offset
 abbrev pub ranges : Map → List HeldRange
 ranges bytes = map (range_of bytes) (pieces bytes)
 

@@ -1,5 +1,5 @@
--- A step that doesn't touch the table leaves it as it was, and what it weighs: laws that the ghost members of the table
--- cite (this project's own).
+-- A step that doesn't touch the table leaves it and its weight unchanged: laws that the ghost members of the table cite
+-- (this project's own).
 use Rattle.std.proofs.Common.{◌≡◌, ℕ, List, [], ◌∷◌, ◌++◌, length, map, refl, sym, ap, ◌∙◌, subst, arith}
 use Rattle.std.specs.Prelude.{count_by}
 use Rattle.std.proofs.lemmas.List.{length-map}
@@ -118,7 +118,7 @@ one_weighs : (p : PoolView) (d : Datagram) → IsUnfinished p d
 one_weighs p d is = λ j. is.holder j ⊕ (sym (queued_packets_weigh p (numbers p d.fragments))
     ∙ sym (weight_is (fragments p d.fragments) is.queue.apart is.queue.small)) j
 
--- **the chains weigh what the flat machine says**
+-- **the weight of the chains is that of the flat machine's datagrams**
 pub table_weighs : (p : PoolView) (ds : List Datagram) → AllUnfinished p ds
     → SameWeight (weight_owned p (held_all p ds))
     (all_of (λ (u : Unfinished). mbuf ⊕ weight_of_pieces u.bytes) (unfinished p ds))

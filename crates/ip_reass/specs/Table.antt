@@ -1,4 +1,4 @@
--- The table of unfinished datagrams, and what the flat machine sees of it (TCP/IP Illustrated, volume 2, chapter 10).
+-- The table of unfinished datagrams, and the flat machine's view of it (TCP/IP Illustrated, volume 2, chapter 10).
 use Rattle.std.specs.Prelude.{◌≡◌, ℕ, ◌-◌, ◌*◌, ◌<◌, ◌≤◌, nat_lt, Bool, ◌==◌, ◌&&◌, if◌then◌else◌, List, [], ◌∷◌, ◌++◌, map, count_by, None}
 use Rattle.std.specs.List.{AllByRecursion}
 use Rattle.params.specs.declared.TheConstants.{FRAGMENT_TICKS}
@@ -11,7 +11,7 @@ use Rattle.ledger.specs.Accounts.{weight_at}
 use Rattle.ip_reass.specs.Fragments.{IsQueue, bytes_held, fragments, map_of}
 use Rattle.ip_reass.specs.declared.datagram.Datagram.{Datagram}
 
--- what the flat machine sees of a datagram
+-- the flat machine's view of a datagram
 abbrev pub unfinished_of : PoolView → Datagram → Unfinished
 unfinished_of p d = record { key = d.key; ticks = d.ticks; bytes = map_of (fragments p d.fragments) }
 
@@ -72,7 +72,7 @@ AreDistinct p ds = (k : Key) → count_by (is_key k) (unfinished p ds) ≤ 1
 abbrev pub HaveFragments : List Datagram → Type 0
 HaveFragments ds = AllByRecursion (λ (d : Datagram). 0 < d.fragments.len) ds
 
--- what a contract sees of the table: its datagrams, oldest first, and how many fit
+-- the view of the table in contracts: its datagrams, oldest first, and how many fit
 pub record TableView : Type 0 where
   pub datagrams : List Datagram
   pub room : ℕ

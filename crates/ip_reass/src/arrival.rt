@@ -8,7 +8,7 @@ use mbuf_chain::Chain;
 pub enum Arrival {
     /// It waits for the others of its datagram.
     Kept,
-    /// Its datagram is whole: its chain without IP header, and what the header of the whole says.
+    /// Its datagram is whole: the datagram's chain without IP header, and its header.
     Whole(Chain, IpHead),
     /// It was dropped, for this cause, and its chain is freed.
     Dropped(Why),

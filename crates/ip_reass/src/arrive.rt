@@ -24,7 +24,7 @@ use ledger::reserve;
 use mbuf_chain::{Chain, Pool};
 use params::{FRAGMENT_UNIT, IP_HEADER, IP_MAX_DATA, IP_MAX_PACKET};
 
-/// The key of a fragment.
+/// Returns the key of a fragment.
 fn key_of(head: &IpHead) -> FragmentKey
     ensures { result ≡ key_in head.now }
 {
@@ -36,8 +36,8 @@ fn key_of(head: &IpHead) -> FragmentKey
     }
 }
 
-/// Whether a fragment of `len` bytes is malformed: it has no bytes, or "more fragments" and a length that is no
-/// multiple of 8, or it reaches past the longest datagram.
+/// Returns whether a fragment of `len` bytes is malformed: it's empty, or it has "more fragments" and a length that
+/// isn't a multiple of 8, or it reaches past the longest datagram.
 #[inline(always)]
 pub(crate) fn is_bad(head: &IpHead, len: u32) -> bool
     requires offset { head.now.offset ≤ IP_MAX_PACKET }
@@ -48,8 +48,8 @@ pub(crate) fn is_bad(head: &IpHead, len: u32) -> bool
 }
 
 impl Reass {
-    /// The place of the datagram with a key. If there isn't one, it's begun after the others, which takes an mbuf for
-    /// its key; `None` if no mbuf is available.
+    /// Returns the place of the datagram with a key. If there isn't one, it's begun after the others, which takes an
+    /// mbuf for its key. Returns `None` if no mbuf is available.
     // Inlined: as a call, which passes the header through memory, it cost each fragment 18 more instructions.
     #[inline(always)]
     fn place_of(
@@ -131,8 +131,8 @@ impl Reass {
         arrival
     }
 
-    /// Moves the IP header of a fragment into a plain mbuf if its first mbuf is a cluster; this takes an mbuf. `None`
-    /// if no mbuf is available; the fragment is then freed and counted.
+    /// Moves the IP header of a fragment into a plain mbuf if its first mbuf is a cluster; this takes an mbuf. Returns
+    /// `None` if no mbuf is available; the fragment is then freed and counted.
     fn pull_up(
         &mut self,
         pool: &mut Pool,

@@ -21,8 +21,8 @@ use params::{
     PACKET_START,
 };
 
-/// Whether a packet of 20 to 65,535 bytes is as long as its header, `head`, says, and isn't a malformed fragment. The
-/// header's offset is at most 65,535.
+/// Returns whether a packet of 20 to 65,535 bytes is as long as its header, `head`, says, and isn't a malformed
+/// fragment. The header's offset is at most 65,535.
 #[inline(always)]
 pub fn is_sound(head: &IpHead, packet: &[u8]) -> bool
     requires offset { head.now.offset ≤ IP_MAX_PACKET }
@@ -34,8 +34,9 @@ pub fn is_sound(head: &IpHead, packet: &[u8]) -> bool
     u32::from(head.total) == len && !is_bad(head, len - IP_HEADER)
 }
 
-/// Whether a packet with this header can be stored by `Reass::arrive_bytes`: it takes one cluster or two mbufs (101 to
-/// 2048 bytes), `is_sound` is true for it, and two mbufs and a cluster are free. The header's offset is at most 65,535.
+/// Returns whether a packet with this header can be stored by `Reass::arrive_bytes`: it takes one cluster or two mbufs
+/// (101 to 2048 bytes), `is_sound` is true for it, and two mbufs and a cluster are free. The header's offset is at most
+/// 65,535.
 #[inline(always)]
 pub fn fits_at_once(pool: &Pool, head: &IpHead, packet: &[u8]) -> bool
     requires { head.now.offset ≤ IP_MAX_PACKET }

@@ -15,11 +15,11 @@ pub struct Datagram {
     pub holder: Chain,
     /// Its fragments: a chain's tag is its offset times 2, plus 1 if more fragments follow.
     pub fragments: Train,
-    /// How many bytes they have together, at most 65,515: none is missing exactly if the last fragment ends at this
+    /// The number of their bytes, at most 65,515: none is missing exactly if the last fragment ends at this
     /// number.
     // of 16 bits, next to the ticks, so that a row has 32 bytes
     pub bytes: u16,
-    /// How many ticks it has left.
+    /// The number of ticks that it has left.
     pub ticks: u8,
 }
 

@@ -7,12 +7,12 @@ use flat_model::FragmentKey;
 use std::alloc::{AllocError, Global};
 use std::marker::Model;
 
-/// What the index keeps of a row.
+/// The data of a row in the index.
 #[derive(Clone, Copy)]
 struct Row {
     /// The bucket of its key.
     bucket: u32,
-    /// How many rows there are up to and including the one before it in its bucket: 0 if it's the first.
+    /// The number of rows up to and including the one before it in its bucket: 0 if it's the first.
     before: u32,
 }
 
@@ -94,8 +94,8 @@ impl Model for Index {
 }
 
 impl Index {
-    /// An index without rows, with space for `rooms` rows and the same number of buckets. Fails with `AllocError` if
-    /// the host has no memory for it, and then nothing stays allocated.
+    /// Creates an index without rows, with space for `rooms` rows and the same number of buckets. Fails with
+    /// `AllocError` if the host has no memory for it, and then nothing stays allocated.
     pub(crate) fn boot(alloc: Global, rooms: u32) -> Result<Index, AllocError>
         ensures none { IfOk result (λ x. x.buckets ≡ []) }
         ensures some { IfOk result (λ x. 0 < x.count) }
@@ -114,7 +114,7 @@ impl Index {
         })
     }
 
-    /// The bucket of a key.
+    /// Returns the bucket of a key.
     pub(crate) fn bucket(&self, key: &FragmentKey) -> u32
         requires { 0 < self.now.count }
         ensures is { result ≡ bucket_of self.now.count key.now }
@@ -127,7 +127,7 @@ impl Index {
         (sum % self.lasts.len() as u64) as u32
     }
 
-    /// How many rows there are up to and including the last in a bucket: 0 if it's empty.
+    /// Returns how many rows there are up to and including the last in a bucket: 0 if it's empty.
     pub(crate) fn last(&self, bucket: u32) -> u32
         requires { bucket < self.now.count }
         ensures { result ≡ upto_last bucket self.now.buckets (length self.now.buckets) }
@@ -135,7 +135,7 @@ impl Index {
         self.lasts[bucket as usize]
     }
 
-    /// The same for the rows before one, in its bucket.
+    /// Returns the same for the rows before one, in its bucket.
     pub(crate) fn before(&self, place: u32) -> u32
         requires { place < length self.now.buckets }
         ensures { result ≡ upto_last (get_or self.now.buckets place 0) self.now.buckets place }
@@ -143,7 +143,7 @@ impl Index {
         self.rows[place as usize].before
     }
 
-    /// How many rows there are.
+    /// Returns how many rows there are.
     pub(crate) fn len(&self) -> usize
         ensures is { result ≡ length self.now.buckets }
         ensures within { result ≤ self.now.room }

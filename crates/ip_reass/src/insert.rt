@@ -97,7 +97,7 @@ pub(crate) fn take_out(pool: &mut Pool, table: &mut Vec<Datagram>, i: usize) -> 
     join_all(pool, fragments)
 }
 
-/// A fragment that came, without its IP header, and what that said.
+/// A fragment that arrived, without its IP header, and the fields of that header.
 pub(crate) struct Fragment {
     pub(crate) chain: Chain,
     pub(crate) head: IpHead,

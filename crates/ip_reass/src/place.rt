@@ -8,7 +8,7 @@ ghost use Rattle.ip_reass.specs.Inside.Walks.{IsFront, after};
 
 use mbuf_chain::{Chain, Pool, QueuedPlace, Train};
 
-/// The place of the fragment after this one, or of the first if none precedes it.
+/// Returns the place of the fragment after this one, or of the first if none precedes it.
 pub(crate) fn next_after(
     pool: &Pool,
     train: &Train,

@@ -20,7 +20,7 @@ pub(crate) struct Tag {
 }
 
 impl Tag {
-    /// The tag of a fragment.
+    /// Returns the tag of a fragment.
     pub(crate) fn new(span: Span) -> Tag
         requires { span.offset ≤ IP_MAX_PACKET }
         ensures half { result.bits / 2 ≡ span.offset }
@@ -31,21 +31,21 @@ impl Tag {
         }
     }
 
-    /// The offset of the fragment.
+    /// Returns the offset of the fragment.
     pub(crate) fn offset(self) -> u32
         ensures { result ≡ self.bits / 2 }
     {
         self.bits / 2
     }
 
-    /// Whether more follow.
+    /// Returns whether more follow.
     pub(crate) fn more(self) -> bool
         ensures { result ≡ (self.bits % 2 == 1) }
     {
         self.bits % 2 == 1
     }
 
-    /// The tag of the fragment without its first `n` bytes.
+    /// Returns the tag of the fragment without its first `n` bytes.
     pub(crate) fn moved(self, n: u32) -> Tag
         requires { self.bits / 2 + n ≤ IP_MAX_PACKET }
         ensures { result.bits ≡ self.bits + 2 * n }

@@ -48,10 +48,10 @@ impl Model for Reass {
 }
 
 impl Reass {
-    /// A table without datagrams. Fails with `AllocError` if the host has no memory for it, and then nothing stays
-    /// allocated.
+    /// Creates a table without datagrams. Fails with `AllocError` if the host has no memory for it, and then nothing
+    /// stays allocated.
     ///
-    /// Afterwards it can hold half as many unfinished datagrams as the pool has mbufs, without more host memory. There
+    /// Afterwards it can hold one unfinished datagram for every two mbufs of the pool, without more host memory. There
     /// can't be more, because each takes at least two mbufs: one for its key, and those of its fragments. `mbufs` is
     /// that of the pool.
     pub fn boot(alloc: Global, mbufs: u32) -> Result<Reass, AllocError>
@@ -81,14 +81,14 @@ impl Reass {
         datagrams.destroy_empty();
     }
 
-    /// How many datagrams are unfinished.
+    /// Returns how many datagrams are unfinished.
     pub fn len(&self) -> u32
         ensures { result ≡ length self.now.datagrams }
     {
         self.datagrams.len() as u32
     }
 
-    /// Whether no datagram is unfinished.
+    /// Returns whether no datagram is unfinished.
     pub fn is_empty(&self) -> bool
         ensures { result ≡ (length self.now.datagrams == 0) }
     {
@@ -136,7 +136,7 @@ fn free_beyond(pool: &mut Pool, table: &mut Vec<Datagram>, kept: usize)
     }
 }
 
-/// Takes a tick from each, and moves those that have none left after the others. Returns how many remain.
+/// Takes a tick from each datagram, and moves those that have none left after the others. Returns how many remain.
 fn age(table: &mut [Datagram]) -> usize
     ensures within { result ≤ length table.new }
     ensures kept { take result table.new ≡ aged table.old }
@@ -155,7 +155,7 @@ fn age(table: &mut [Datagram]) -> usize
     kept
 }
 
-/// The place of the datagram with a key, if there is one, by the rows of the key's bucket, the last first.
+/// Returns the place of the datagram with a key, if there is one, by the rows of the key's bucket, the last first.
 // Not inlined: usually the newest datagram is the one.
 #[inline(never)]
 fn find_by_bucket(table: &[Datagram], index: &Index, key: FragmentKey) -> Option<usize>
@@ -178,8 +178,8 @@ fn find_by_bucket(table: &[Datagram], index: &Index, key: FragmentKey) -> Option
     None
 }
 
-/// The place of the datagram with a key, if there is one. The newest is tested first, because fragments of a datagram
-/// mostly follow one another.
+/// Returns the place of the datagram with a key, if there is one. The newest is tested first, because fragments of a
+/// datagram mostly follow one another.
 #[inline(always)]
 pub(crate) fn find(table: &[Datagram], index: &Index, key: FragmentKey) -> Option<usize>
     requires some { 0 < index.now.count }

@@ -1,4 +1,4 @@
--- The pool's counts are what the flat machine counts.
+-- The pool's counts are those of the flat machine.
 use Rattle.std.proofs.Common.{◌≡◌, ℕ, ◌+◌, ◌-◌, ◌<◌, ◌≤◌, true, List, count_by, nat_eq, sym, ap, ◌∙◌, arith}
 use Rattle.std.specs.Prelude.{◌&&◌, nat_le}
 use Rattle.std.specs.List.{range_with_len}
@@ -16,7 +16,7 @@ use Rattle.ledger.specs.Accounts.{weight_owned, IsAccounted}
 use Rattle.ledger.specs.Reserve.{are_free}
 use Rattle.ledger.proofs.Weights.{owned_mbufs, owned_bag}
 
--- ---- where each chain stands once in the owners' lists, and these weigh what the state and `held` weigh, the pool
+-- ---- if the owners' lists contain each chain once, and these weigh what the state and `held` weigh, the pool
 -- accounts for both
 pub accounted_all : (p : PoolView) (s : State) (held : Weight) (all : List ℕ) → IsAll p all → s.config.mbufs ≡ p.mbufs
     → s.config.clusters ≡ p.clusters → SameWeight (weight_owned p all) (weight_of_state s ⊕ held) → IsAccounted p s held
@@ -27,7 +27,7 @@ accounted_all p s held all h m c b = record {
   references = λ k. references_by_owners p all k h ∙ sym (owned_bag p k all) ∙ b.bag k;
 }
 
--- ---- a test of the pool is the machine's
+-- ---- a test of the pool has the result of the machine's test
 free_clusters_were : (p : PoolView) (s : State) (held : Weight) → IsAccounted p s held
     → free_clusters p ≡ flat.free_clusters s held
 free_clusters_were p s held b =
@@ -65,7 +65,7 @@ enough_clusters p mbufs clusters e =
     leb-true clusters (free_clusters p)
     (and_parts (nat_le mbufs (p.mbufs - held_mbufs p)) (nat_le clusters (free_clusters p)) e).1
 
--- ---- the same pool beside another state, and another weight held
+-- ---- the same pool with another state, and another weight held
 pub accounted_as : {p : PoolView} {s t : State} {held kept : Weight} → IsAccounted p s held → t.config ≡ s.config
     → SameWeight (weight_of_state s ⊕ held) (weight_of_state t ⊕ kept) → IsAccounted p t kept
 accounted_as a e b = record {

@@ -1,5 +1,5 @@
--- What an owner's step does to the accounts, by `Moves` alone: what it doesn't touch stays as it was, so the counts
--- change as those of its own chains.
+-- The accounts after an owner's step, by `Moves` only: other chains are unchanged, so the counts change by those of the
+-- owner's chains.
 use Rattle.std.proofs.Common.{◌≡◌, ◌≢◌, ℕ, zero, suc, ◌+◌, ◌<◌, ◌≤◌, List, [], ◌∷◌, None, sum_by, refl, sym, ap, ◌∙◌, subst, arith, inl, inr}
 use Rattle.std.specs.FinMap as finmap
 use Rattle.std.proofs.lemmas.Bool.{cases_eq}
@@ -30,7 +30,7 @@ unfolding left
 left_clusters p [] = refl
 left_clusters p (x ∷ xs) = left_clusters (without p x) xs
 
--- what is gone stays gone
+-- a number without a chain stays without one
 gone_left : (p : PoolView) (xs : List ℕ) (k : ℕ) → finmap.get p.chains k ≡ None → finmap.get (left p xs).chains k ≡ None
 unfolding left
 gone_left p [] k e = e
@@ -57,7 +57,7 @@ in_left p (x ∷ xs) k h = elim (cases_eq k x) [
   | inr ne ↦ in_left (without p x) xs k (omega (arith, h, times_other k x xs ne))
 ]
 
--- what both have beside their own is the same
+-- the chains of other owners are the same
 same_left : {p q : PoolView} {xs ys : List ℕ} → Moves p xs q ys → left p xs ≡ left q ys
 same_left {p} {q} {xs} {ys} m =
     let chains : (left p xs).chains ≡ (left q ys).chains =
@@ -83,7 +83,7 @@ same_left {p} {q} {xs} {ys} m =
     at k zero zero (suc l) is_a is_b is_l =
         out_left p xs k is_a ∙ sym (m.others k (live_from p k (omega arith)) is_a) ∙ sym (out_left q ys k is_b)
 
--- ---- a count F that loses f of a chain with that chain
+-- ---- a count F that falls by f of a chain when that chain is freed
 module _ (F : PoolView → ℕ) (f : ChainView → ℕ)
     (falls : (p q : PoolView) (c : ℕ) → IsLive p c → q ≡ without p c → F q + f (chain_of p c) ≡ F p) where
   sum_left : (p : PoolView) (c : ℕ) (xs : List ℕ) → times_among c xs ≡ 0

@@ -1,4 +1,4 @@
--- As many free clusters as a step takes, if so many are free.
+-- Free clusters for a step, if the pool has enough.
 use Rattle.std.proofs.Common.{◌≡◌, ℕ, ◌+◌, ◌<◌, ◌≤◌, Bool, true, false, cond, zero, suc, List, [], ◌∷◌, length, refl, ap, arith}
 use Rattle.std.specs.Prelude.{count_by, ◌==◌}
 use Rattle.std.specs.List.{AllByRecursion as Each, range_with_len}
@@ -13,7 +13,7 @@ use Rattle.mbuf_chain.specs.Chain.{PoolView, free_clusters}
 use Rattle.ledger.specs.Accounts.{IsAccounted}
 use Rattle.ledger.proofs.Accounts.{free_clusters_are}
 
--- ---- some numbers that pass a test, if so many do
+-- ---- n numbers that pass a test, if at least n do
 
 record Picked (f : ℕ → Bool) (at len n : ℕ) : Type 0 where
   found : List ℕ
@@ -103,7 +103,7 @@ each_free s (x ∷ xs) h g = (
   each_free s xs h.1 g.1,
 )
 
--- ---- clusters that a step may take, if so many are free
+-- ---- n clusters that a step may allocate, if at least n are free
 
 pub some_free : (p : PoolView) (s : State) (n : ℕ) → IsAccounted p s nothing → n ≤ free_clusters p
     → (cs : List ℕ) × AreTaken exact_ledger s n cs

@@ -1,4 +1,4 @@
--- A test of the pool is the machine's, for each state whose accounts the pool keeps.
+-- A test of the pool has the result of the machine's test, for each state that the pool accounts for.
 use Rattle.std.proofs.Common.{◌≡◌, ℕ, Bool, true, false, List, [], ◌∷◌, length, refl, sym, ◌∙◌, subst, arith, inl, inr}
 use Rattle.flat_model.specs.Machine.Count.{counts_more}
 use Rattle.flat_model.specs.Amounts.Weight.{Weight, Item, mbuf, nothing, ◌⊕◌, all_of, SameWeight}
@@ -20,7 +20,7 @@ use Rattle.ledger.proofs.Moved.{accounted_after}
 abbrev weight_of_unfinished : List Unfinished → Weight
 weight_of_unfinished us = all_of (λ (u : Unfinished). mbuf ⊕ weight_of_pieces u.bytes) us
 
--- ---- enough at once
+-- ---- the first test passes
 pub reserves_at_once : {p : PoolView} {need : Need} (s : State) (held : Weight) (us : List Unfinished) (c : Counters)
     → are_free p need.mbufs need.clusters ≡ true → s.unfinished ≡ us → s.counters ≡ c → IsAccounted p s held
     → Reserves s held need true (record s { unfinished = us; counters = c }) p
@@ -28,7 +28,7 @@ reserves_at_once {p} {need} s held us c enough is_us is_c b =
     subst (λ (m : State). Reserves s held need true m p) (λ i. record s { unfinished = is_us i; counters = is_c i })
     (record { has_buffers = inl (sym (test_is p s held need b ∙ enough), refl); accounted = b })
 
--- ---- all that waited is given back, and the test is made once more
+-- ---- all waiting datagrams are freed, and the pool is tested again
 shifts_reclaimed : (p q : PoolView) (s : State) (held : Weight) (waited : List ℕ)
     → SameWeight (weight_owned p waited) (weight_of_unfinished s.unfinished)
     → Shifts s held (weight_owned p waited) (reclaimed s) held (weight_owned q [])
@@ -65,7 +65,7 @@ no_length : {A : Type 0} (xs : List A) → length xs ≡ 0 → xs ≡ []
 no_length [] e = refl
 no_length (x ∷ xs) e = absurd (omega arith)
 
--- an owner of the chains `waited`, that were n datagrams, gave all of them back
+-- the owner of the chains `waited`, which weigh what the unfinished datagrams us weigh, freed them all
 pub record GivesBack (p : PoolView) (waited : List ℕ) (us : List Unfinished) (c : Counters) (q : PoolView)
     (vs : List Unfinished) (d : Counters) : Type 0 where
   pub moves : Moves p waited q []

@@ -1,4 +1,4 @@
--- What is shown of the pool, by the pool's own counts.
+-- The usage that the pool shows, from the pool's own counts.
 use Rattle.std.proofs.Common.{◌≡◌, ℕ, ◌+◌, sym, arith}
 use Rattle.std.specs.Prelude.{map, sum, fold, max}
 use Rattle.std.specs.List.{range_with_len}

@@ -12,7 +12,7 @@ use Rattle.ledger.specs.Accounts.{IsAccounted}
 abbrev pub are_free : PoolView → ℕ → ℕ → Bool
 are_free p mbufs clusters = nat_le mbufs (p.mbufs - held_mbufs p) && nat_le clusters (free_clusters p)
 
--- the exact machine's test of what is needed may have this result and leave `after`, and q accounts for that
+-- the exact machine's test for `need` may have this result and the state `after`, and q accounts for that state
 pub record Reserves (s : State) (held : Weight) (need : Need) (answer : Bool) (after : State) (q : PoolView) : Type 0
   where
     pub has_buffers : HasBuffers exact_ledger s held need answer after

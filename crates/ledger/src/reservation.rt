@@ -1,4 +1,4 @@
-//! The test of the pool, and what is freed if it fails.
+//! The test of the pool, and what it frees on failure.
 
 ghost use Rattle.std.specs.Prelude.{◌≡◌, true, false};
 ghost use Rattle.flat_model.specs.Machine.State.{State};
@@ -11,8 +11,8 @@ use crate::Waiting;
 use flat_model::{Counter, Counters};
 use mbuf_chain::Pool;
 
-/// Whether that number of mbufs and clusters is free now. Nothing is reserved: a call elsewhere may take them. Takes a
-/// number of steps that doesn't depend on the pool (this project's own).
+/// Returns whether that number of mbufs and clusters is free now. Nothing is reserved: a call elsewhere may take them.
+/// It takes O(1) steps (this project's own).
 #[inline(always)]
 pub fn are_free(pool: &Pool, mbufs: u32, clusters: u32) -> bool
     ensures { result ≡ are_free pool.now mbufs clusters }

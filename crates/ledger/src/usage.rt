@@ -1,4 +1,4 @@
-//! What is in use of the pool.
+//! Usage of the pool.
 
 ghost use Rattle.std.specs.Prelude.{◌≡◌};
 ghost use Rattle.flat_model.specs.Machine.State.{State};
@@ -9,9 +9,9 @@ ghost use Rattle.ledger.specs.Accounts.{IsAccounted};
 use flat_model::Mbstat;
 use mbuf_chain::Pool;
 
-/// What is free of the pool, all that it has, the sum of the counts of its clusters, and the greatest of them: what the
-/// flat machine shows of each state for which the pool accounts while a step holds nothing. Takes one step for each
-/// cluster.
+/// Returns what is free in the pool, its totals, the sum of the counts of its clusters, and the greatest of them. The
+/// flat machine shows the same for each state for which the pool accounts while a step holds nothing. It takes one step
+/// for each cluster.
 pub fn mbstat(pool: &Pool) -> Mbstat
     ensures { (s : State) → IsAccounted pool.now s nothing → result ≡ usage_of s }
 {

@@ -1,4 +1,4 @@
-//! Unfinished datagrams as the flat machine sees them.
+//! Unfinished datagrams, and their list in the flat machine.
 
 ghost use Rattle.std.specs.Prelude.{◌≡◌, List, length};
 ghost use Rattle.flat_model.specs.Machine.State.{Unfinished};
@@ -15,22 +15,22 @@ use mbuf_chain::Reclaim;
 ///
 /// Its ghost member `unfinished` is the list of datagrams that the object and the pool show. The laws below say that
 /// `Reclaim` counts that number of them, that its chains weigh what the flat machine says, and that a step that doesn't
-/// touch them leaves them as they were.
+/// touch them leaves them unchanged.
 pub trait Waiting: Reclaim {
     ghost unfinished: { PoolView → Self → List Unfinished };
 
-    /// How many datagrams wait.
+    /// Returns how many datagrams wait.
     fn count(&self) -> u32
         ensures { result ≡ Self.datagrams self.now };
 
     // the datagrams shown are those counted
     ghost counts: { (p : PoolView) (s : Self) → Self.is_ready p s → length (unfinished p s) ≡ Self.datagrams s };
 
-    // its chains weigh what the flat machine says: the pieces of each datagram, and an mbuf for its key
+    // its chains have their weight in the flat machine: the pieces of each datagram, and an mbuf for its key
     ghost weighs: { (p : PoolView) (s : Self) → Self.is_ready p s →
         SameWeight (weight_owned p (Self.owned p s)) (all_of (λ u. mbuf ⊕ weight_of_pieces u.bytes) (unfinished p s)) };
 
-    // a step that doesn't touch its chains leaves it as it was
+    // a step that doesn't touch its chains leaves it unchanged
     ghost unfinished_same: { (p q : PoolView) (s : Self) → SameAt p q (Self.owned p s)
         → unfinished q s ≡ unfinished p s };
 }

@@ -1,4 +1,4 @@
--- The first mbufs of a chain, walked along.
+-- A walk along the first mbufs of a chain.
 use Rattle.std.proofs.Common.{◌≡◌, ℕ, zero, suc, ◌+◌, ◌-◌, ◌<◌, ◌≤◌, List, [], ◌∷◌, length, Option, None, Some, refl, sym, ap, ◌∙◌, subst, arith, take, drop, take-append-drop, slice_index, true}
 use Rattle.std.specs.Option.{IsSome}
 use Rattle.mbuf_pool.specs.Cells.{Head}
@@ -32,7 +32,7 @@ ones_drop zero l le = omega arith
 ones_drop (suc n) [] le = absurd (omega arith)
 ones_drop (suc n) (x ∷ xs) le = omega (arith, ones_drop n xs (omega arith))
 
--- an mbuf on the way, and what stands after it
+-- an mbuf on the way, and the mbufs after it
 pub record OnWay (s : StoreView) (l : List ℕ) (i at : ℕ) : Type 0 where
   pub here : drop (i - 1) l ≡ at ∷ cells_from s (mbuf_head s at).next
   pub after : cells_from s (mbuf_head s at).next ≡ drop i l
@@ -60,7 +60,7 @@ has_next s l i at h w e lt = go h.next refl
           ap (weigh one) (sym w.after ∙ walk_end s (mbuf_head s at).next (ap (λ (y : Head). y.next) (sym e) ∙ is)),
         ))
 
--- the next one
+-- the next mbuf on the way
 pub record NextOn (s : StoreView) (l : List ℕ) (i next : ℕ) : Type 0 where
   pub out : is_out s next ≡ true
   pub whole : LeadsToEnd s (Some next)

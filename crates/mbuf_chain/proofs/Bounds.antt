@@ -1,4 +1,4 @@
--- How large the pool over a store is, and where its entries lie.
+-- How large the pool over a store is, and that its entries fit into their mbufs and clusters.
 use Rattle.std.proofs.Common.{◌≡◌, ◌≢◌, ℕ, zero, suc, ◌+◌, ◌<◌, ◌≤◌, List, [], ◌∷◌, length, Option, Some, None, refl, sym, ap, ◌∙◌, arith, slice_get, slice_index}
 use Rattle.std.specs.Option.{IfSome}
 use Rattle.mbuf_pool.specs.Cells.{IsLink}
@@ -32,7 +32,7 @@ fits s c at ok live place =
       known = cluster_known s c at ok live place;
     }
 
--- how often a number stands in a list of mbufs
+-- how often a number is in a list of mbufs
 times_weigh : (k : ℕ) (l : List ℕ) → times_among k l ≡ weigh (is_at k) l
 times_weigh k [] = refl
 times_weigh k (x ∷ xs) = ap (λ (n : ℕ). is_at k x + n) (times_weigh k xs)
@@ -77,7 +77,7 @@ bounded s ok = record {
   small = ok.1.store.mbufs.1;
 }
 
--- a live chain's number is told from none
+-- a live chain's number differs from the encoding of "none"
 pub told : (s : StoreView) (at : Option ℕ) → IsPool s → IfSome at (IsLive (pool_of s)) → IsLink at
 told s None ok live = tt
 told s (Some k) ok live = omega (arith, (bounded s ok).numbers k live, (bounded s ok).small)

@@ -1,4 +1,4 @@
--- Runs of bytes in a list, and what a write leaves of them.
+-- Runs of bytes in a list, before and after a write.
 use Rattle.std.proofs.Common.{◌≡◌, ℕ, ◌+◌, ◌-◌, ◌≤◌, ◌<◌, ◌⊎◌, inl, inr, List, [], ◌∷◌, ◌++◌, zero, suc, length, take, drop, get_or, refl, sym, ap, ◌∙◌, arith, ext_get_or, length-take-le, length-drop, take_all, get_or-drop}
 use Rattle.std.proofs.lemmas.List.{drop-drop, get_or-take}
 use Rattle.mbuf_pool.specs.Cells.{over}
@@ -11,7 +11,7 @@ run_length xs a n le = length-take-le n (drop a xs) (omega (arith, length-drop a
 run_at : (xs : List ℕ) (a n k : ℕ) → k < n → get_or (take n (drop a xs)) k 0 ≡ get_or xs (a + k) 0
 run_at xs a n k lt = get_or-take n (drop a xs) k 0 lt ∙ get_or-drop a xs k 0
 
--- two runs with the same bytes
+-- two runs are equal if they have the same bytes
 run_is : (xs ys : List ℕ) (a b n : ℕ) → a + n ≤ length xs → b + n ≤ length ys
     → ((k : ℕ) → k < n → get_or xs (a + k) 0 ≡ get_or ys (b + k) 0) → take n (drop a xs) ≡ take n (drop b ys)
 run_is xs ys a b n fx fy h =
@@ -56,7 +56,7 @@ run_inner xs a len skip keep le within =
     (λ k lt. let e : a + (skip + k) ≡ a + skip + k = omega arith in
     run_at xs a len (skip + k) (omega arith) ∙ ap (λ j. get_or xs j 0) e)
 
--- ---- what a write leaves of a run that ends, begins or goes on where it writes
+-- ---- a run after a write that begins at its end, ends at its beginning, or is within it
 pub written_after : (xs : List ℕ) (a len : ℕ) (ws : List ℕ) → a + len + length ws ≤ length xs
     → take (len + length ws) (drop a (over xs (a + len) ws)) ≡ take len (drop a xs) ++ ws
 written_after xs a len ws fits =

@@ -1,4 +1,4 @@
--- From one store to the next: what stays of the chains that a step leaves alone, and what the pool shows.
+-- From one store to the next: the chains that a step doesn't change, and the view of the pool.
 use Rattle.std.proofs.Common.{◌≡◌, ℕ, ◌+◌, ◌<◌, ◌≤◌, not, cond, ◌&&◌, nat_eq, List, [], ◌∷◌, ◌++◌, length, map, sum_by, count_by, Option, None, Some, is_some, refl, sym, ap, ◌∙◌, subst, arith, inl, inr, take, drop}
 use Rattle.std.specs.Ordering.{nat_cmp}
 use Rattle.std.specs.FinMap as finmap
@@ -28,7 +28,7 @@ get-view_of s q =
 pub view_is : (s : StoreView) (lists : List (List ℕ)) → AreSoundChains s lists → view_of s ≡ chains_of s lists
 view_is s lists ok = same _ _ (λ q. get-view_of s q ∙ chain_is s lists ok q ∙ sym (get-chains_of s lists q))
 
--- ---- one chain brought to the front
+-- ---- one chain moved to the front of the lists
 pub record Focus (s : StoreView) (lists : List (List ℕ)) (c : ℕ) (v : ChainView) : Type 0 where
   pub found : Found s c v lists
   pub sound : AreSoundChains s (found.cells ∷ found.rest)
@@ -67,13 +67,13 @@ focus s lists c v ok is =
           ∙ ap (λ (w : ChainView). finmap.insert (chains_of s found.rest) c w) found.shows;
     }
 
--- ---- chains that a step leaves alone
+-- ---- chains that a step doesn't change
 pub record SameCell (s t : StoreView) (k : ℕ) : Type 0 where
   pub head : mbuf_head t k ≡ mbuf_head s k
   pub entry : entry_at t k ≡ entry_at s k
   pub out : is_out t k ≡ is_out s k
 
--- an mbuf that is as it was, with its cluster's bytes, shows the same
+-- an mbuf whose head and bytes are unchanged, with those of its cluster, has the same entry
 pub same_cell : (s t : StoreView) (k : ℕ) → mbuf_of t k ≡ mbuf_of s k → is_out t k ≡ is_out s k
     → ((c : ℕ) → (mbuf_head s k).cluster ≡ Some c → (cluster_of t c).bytes ≡ (cluster_of s c).bytes) → SameCell s t k
 same_cell s t k e out d =
@@ -183,8 +183,7 @@ all_linked : (s : StoreView) (xs ys : List (List ℕ)) → AllByRecursion (IsCha
 all_linked s [] ys g h = h
 all_linked s (x ∷ xs) ys g h = (g.0, all_linked s xs ys g.1 h)
 
--- a step from s to t that takes the chains of the lists `before` and leaves those of `after`, and changes no mbuf of
--- another chain
+-- from s to t, the chains of the lists `before` became those of `after`, and no mbuf of another chain changed
 pub record Step (s t : StoreView) (before after rest : List (List ℕ)) : Type 0 where
   pub kept : (k : ℕ) → 0 < weigh_all (is_at k) rest → SameCell s t k
   pub linked : AllByRecursion (IsChain t) after

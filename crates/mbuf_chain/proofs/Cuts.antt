@@ -71,7 +71,7 @@ follow_split : (s : StoreView) (l m : List ℕ) → AllFollow s (l ++ m) → All
 follow_split s [] m h = (tt, h)
 follow_split s (x ∷ l) m h = let below = follow_split s l m h.1 in ((h.0, below.0), below.1)
 
--- both parts of a chain, once the last link of the first is gone
+-- both parts of a chain, after the last link of the first part is removed
 pub record Parts (s t : StoreView) (a b : ℕ) (l m : List ℕ) : Type 0 where
   pub front : IsChain t l
   pub back : IsChain t m

@@ -1,4 +1,4 @@
--- The first mbuf of a chain given back.
+-- Freeing the first mbuf of a chain.
 use Rattle.std.proofs.Common.{◌≡◌, ℕ, ◌+◌, ◌<◌, true, List, [], ◌∷◌, length, Option, Some, refl, sym, ap, ◌∙◌, subst, arith}
 use Rattle.std.specs.FinMap as finmap
 use Rattle.std.specs.FinMap.{FinMap}
@@ -29,13 +29,13 @@ nothing_freed s l =
       counted = λ c. refl;
     }
 
--- the first mbuf of a live chain can be given back
+-- the first mbuf of a live chain can be freed
 pub first_ready : (s : StoreView) (a : ℕ) → IsPool s → IsLive (pool_of s) a → Ready s s (Some a) (Some a) a
 first_ready s a pool live =
     let o = open_on s a pool live in
     ready s s (Some a) (Some a) a refl (freeable s a o.at) (whole_of s a o.at) (nothing_freed s (cells_from s (Some a)))
 
--- in a chain of several another follows it
+-- in a chain of more than one mbuf, the first has a next one
 pub next_some : (s : StoreView) (a : ℕ) → IsPool s → IsLive (pool_of s) a → 1 < length (chain_of (pool_of s) a).entries
     → IsSome (mbuf_head s a).next
 next_some s a pool live several =
@@ -49,7 +49,7 @@ next_some s a pool live several =
         subst (λ (j : ℕ). IsSome (mbuf_head s j).next) (sym (same_Some a x h.0))
         (subst (λ (n : Option ℕ). IsSome n) (sym h.3.0) refl)
 
--- the mbufs after it are a chain, which begins with one that says nothing of the packet
+-- the mbufs after the first are a chain, whose first mbuf has no packet header
 record Later (s : StoreView) (b : ℕ) (m : List ℕ) : Type 0 where
   pub chain : IsChain s m
   pub first : first_of m ≡ b
@@ -67,7 +67,7 @@ later s n b (y ∷ ys) is h follow =
       bare = subst (λ (j : ℕ). IsFollower (mbuf_head s j)) first follow.0;
     }
 
--- From s to t the first mbuf of chain a was given back; the others are chain b.
+-- From s to t the first mbuf of chain a was freed; the others are chain b.
 pub record Dropped (s t : StoreView) (a b : ℕ) : Type 0 where
   pub pool : IsPool t
   pub adds : Adds (without (pool_of s) a) (pool_of t) b (second_part 1 (chain_of (pool_of s) a))

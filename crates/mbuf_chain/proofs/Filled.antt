@@ -1,4 +1,4 @@
--- A new plain mbuf, whose bytes are written after its head.
+-- A new plain mbuf, to which bytes are written after its head.
 use Rattle.std.proofs.Common.{◌≡◌, ℕ, ◌+◌, ◌≤◌, Bool, List, length, None, refl, sym, ap, ◌∙◌, subst, arith, take, drop}
 use Rattle.std.proofs.lemmas.Option.{none-some}
 use Rattle.mbuf_pool.specs.Cells.{Head, over}
@@ -16,7 +16,7 @@ use Rattle.mbuf_chain.proofs.Laws.Steps.{new_entry, filled}
 abbrev pub only : ℕ → Place
 only i = record { index = 0; cell = i }
 
--- what the write needs, and what is there after it
+-- what the write needs, and the pool after it
 pub record Blank (s t : StoreView) (i : ℕ) (header : Bool) (start : ℕ) (ws : List ℕ) : Type 0 where
   pub pool : IsPool t
   pub live : IsLive (pool_of t) i

@@ -1,4 +1,4 @@
--- A new mbuf on a cluster of its own, whose bytes are written after its head.
+-- A new mbuf with a new cluster, to which bytes are written.
 use Rattle.std.proofs.Common.{◌≡◌, ℕ, ◌+◌, ◌<◌, ◌≤◌, Bool, cond, List, [], ◌∷◌, length, Some, refl, sym, ap, ◌∙◌, subst, arith, take, drop}
 use Rattle.std.proofs.lemmas.Bool.{eq-eqb}
 use Rattle.std.proofs.lemmas.List.Sums.{sum_by-cons}
@@ -16,7 +16,7 @@ use Rattle.mbuf_chain.proofs.Laws.Accounts.{references-adds}
 use Rattle.mbuf_chain.proofs.Laws.Owners.{live_adds, shown_adds}
 use Rattle.mbuf_chain.proofs.Laws.Steps.{filled, new_entry}
 
--- the bytes that it shows before they are written
+-- the entry before the bytes are written
 abbrev before : StoreView → ℕ → ℕ → ℕ → Entry
 before u d start len = record { bytes = take len (drop start (cluster_of u d).bytes); start = start; cluster = Some d }
 
@@ -34,7 +34,7 @@ made s t u i d header start len pool got_cluster got store high =
     (added s u i h pool n refl (record { low = omega arith; high = omega (arith, high); kind = refl })
     (total_for header start len (Some d))))
 
--- what the write needs, and what is there after it
+-- what the write needs, and the pool after it
 pub record Blank (s u : StoreView) (i d : ℕ) (header : Bool) (start : ℕ) (ws : List ℕ) : Type 0 where
   pub pool : IsPool u
   pub live : IsLive (pool_of u) i

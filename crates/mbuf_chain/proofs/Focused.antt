@@ -1,4 +1,4 @@
--- One live chain brought to the front of the lists, and one of its mbufs.
+-- One live chain moved to the front of the lists, and one of its mbufs.
 use Rattle.std.proofs.Common.{◌≡◌, ℕ, zero, suc, ◌+◌, ◌<◌, ◌≤◌, true, List, [], ◌∷◌, length, map, Option, None, Some, refl, sym, ap, ◌∙◌, subst, arith, inl, inr, slice_get, slice_index_or, slice_index}
 use Rattle.std.specs.FinMap as finmap
 use Rattle.std.specs.List.{AllByRecursion}
@@ -11,7 +11,7 @@ use Rattle.std.proofs.lemmas.Bool.{cases_eq, cases_lt}
 use Rattle.mbuf_chain.proofs.Lists.{chains_of, walk_is, is_at_same, is_at_other, small, bit, few_out}
 use Rattle.mbuf_chain.proofs.Changes.{Focus, focus, count_ones}
 
--- a live chain: its mbufs, the other chains' mbufs, and the pool's map as one with that chain put in
+-- a live chain: its mbufs, the other chains' mbufs, and the pool's map as a map without that chain and the chain
 pub record Focused (s : StoreView) (c : ℕ) : Type 0 where
   pub cells : List ℕ
   pub rest : List (List ℕ)
@@ -45,7 +45,7 @@ focused_of s lists c f = record {
   map_is = f.map_is;
 }
 
--- a live chain of a pool, and one whose packet length is off
+-- a live chain of a pool; and one of a pool in which that chain's packet length is wrong
 pub record Opened (s : StoreView) (c : ℕ) : Type 0 where
   pub at : Focused s c
   pub totals : IsTotal s at.cells × AllByRecursion (IsTotal s) at.rest
@@ -65,7 +65,7 @@ open_off s c added removed (lists, ok, totals) is =
     let f = focus s lists c (chain_of (pool_of s) c) ok is in
     record { at = focused_of s lists c f; totals = f.found.totals_by c added removed totals }
 
--- the mbufs of a live chain are its own
+-- the mbufs of a live chain can be freed
 pub freeable : (s : StoreView) (c : ℕ) → Focused s c → IsFreeable s (Some c)
 freeable s c f = record {
   whole = subst (IsLinked s (Some c)) (sym f.walks) f.linked;
@@ -99,7 +99,7 @@ fit_in s at [] i h lt = absurd (omega arith)
 fit_in s at (x ∷ xs) zero h lt = h.2
 fit_in s at (x ∷ xs) (suc i) h lt = fit_in s (mbuf_head s x).next xs i h.3 (omega arith)
 
--- what is known of the mbuf at a place of a live chain
+-- the facts about the mbuf at a place of a live chain
 pub record Entered (s : StoreView) (c : ℕ) (f : Focused s c) (i x : ℕ) : Type 0 where
   pub below : i < weigh one f.cells
   pub cell : slice_index f.cells i ≡ x
@@ -132,7 +132,7 @@ enter s c at f is =
       fit = subst (λ (j : ℕ). IsFit (mbuf_head s j)) cell (fit_in s (Some c) f.cells at.index f.linked below);
     }
 
--- the first mbuf is handed out
+-- the first mbuf is in use
 pub first_out : (s : StoreView) (c : ℕ) → Focused s c → is_out s c ≡ true
 first_out s c f = go f.cells f.linked f.chain
   where
@@ -140,7 +140,7 @@ first_out s c f = go f.cells f.linked f.chain
     go [] g h = absurd h
     go (y ∷ ys) g h = ap (is_out s) (same_Some c y g.0) ∙ g.1
 
--- a sum over a list has each of its terms
+-- a sum over a list is at least each of its terms
 pub weigh_has : (f : ℕ → ℕ) (x : ℕ) (l : List ℕ) → 0 < weigh (is_at x) l → f x ≤ weigh f l
 weigh_has f x [] h = absurd (omega arith)
 weigh_has f x (y ∷ ys) h = elim (cases_eq y x) [

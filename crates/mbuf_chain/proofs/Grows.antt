@@ -1,4 +1,4 @@
--- An mbuf that shows more bytes, once they were written beside its own.
+-- An mbuf that gets more data bytes, written next to the ones it has.
 use Rattle.std.proofs.Common.{◌≡◌, ℕ, zero, suc, Bool, true, false, [], ◌∷◌, slice_index, ◌+◌, ◌-◌, ◌<◌, ◌≤◌, cond, List, length, Option, None, Some, is_some, refl, sym, ap, ◌∙◌, subst, arith, inl, inr}
 use Rattle.std.proofs.lemmas.Bool.{cases_eq, eq-eqb, ne_eqb}
 use Rattle.mbuf_pool.specs.Cells.{Head, PacketHeader}
@@ -16,7 +16,7 @@ most : (o : Option ℕ) → cond {A = ℕ} (is_some o) 2048 128 ≤ 2048
 most None = omega arith
 most (Some d) = omega arith
 
--- ---- after
+-- ---- bytes added after the data
 pub record FitsAfter (s : StoreView) (at : Place) (h : Head) (n : ℕ) : Type 0 where
   pub out : is_out s at.cell ≡ true
   pub low : head_room_low (mbuf_head s at.cell) ≤ h.start + h.len
@@ -83,8 +83,8 @@ ready_after {s} {t} c {n} {at} {h} {ws} pool live place e fits count w =
               (grown_back s t c n ws at k w' count (omega (arith, f.high, count)));
         }
 
--- ---- in front
--- the room of an mbuf, as a caller sees it
+-- ---- bytes added before the data
+-- an mbuf after the first of its chain has no packet header
 follows : (s : StoreView) (l : List ℕ) (i : ℕ) → IsChain s l → 0 < i → i < weigh one l
     → IsFollower (mbuf_head s (slice_index l i))
 follows s l i h lt within = go l i h lt within
@@ -195,7 +195,7 @@ ready_before s t c n at h ws pool live place e fits count w =
               (grown_front s t c n ((mbuf_head s at.cell).start - n) ws at k w' count (omega (arith, f.less, count)));
         }
 
--- ---- rooms told
+-- ---- the free bytes before and after the data, by the head
 pub record Rooms (s : StoreView) (c : ℕ) (at : Place) (h : Head) : Type 0 where
   pub out : is_out s at.cell ≡ true
   pub start : h.start ≡ (entry_of (chain_of (pool_of s) c) at.index).start
@@ -221,7 +221,7 @@ rooms_at s c at h pool live place e =
       high_is = ap room_high e ∙ high_seen s c at k;
     }
 
--- the rooms by the head's cases
+-- n bytes are free before the data of an entry
 pub record FrontTold (s : StoreView) (c : ℕ) (at : Place) (n : ℕ) : Type 0 where
   pub value : n ≡ leading_space (chain_of (pool_of s) c) at.index
   pub within : room_start (chain_of (pool_of s) c) at.index + n ≤ (entry_of (chain_of (pool_of s) c) at.index).start

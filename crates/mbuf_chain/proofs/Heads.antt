@@ -1,4 +1,4 @@
--- A head of a live chain written anew.
+-- Replacing a head of a live chain.
 use Rattle.std.proofs.Common.{◌≡◌, ◌≢◌, ℕ, zero, suc, ◌+◌, ◌-◌, ◌<◌, ◌≤◌, true, cond, List, [], ◌∷◌, length, Option, None, Some, is_some, option_map, unwrap_or, refl, sym, ap, ◌∙◌, subst, arith, inl, inr, slice_set, slice_index_or, take, drop}
 use Rattle.std.specs.List.{AllByRecursion}
 use Rattle.std.proofs.lemmas.Bool.{cases_eq}
@@ -42,7 +42,7 @@ same_outs s x m out =
       counts = λ c. refl;
     }
 
--- the bytes that a fitting head shows lie after it
+-- the data of an mbuf with a head that fits begins after the head
 pub low_is : (h : Head) → h.cluster ≡ None → head_size h ≡ head_room_low h
 low_is h none =
     ap (λ (o : Option ℕ). cond {A = ℕ} (is_some o) 32 (cond (is_some h.packet) 28 20)) none
@@ -154,7 +154,7 @@ enter_first s c f =
           (Rattle.mbuf_chain.proofs.Focused.fit_in s (Some c) f.cells 0 f.linked some);
     }
 
--- ---- a chain shown as it was
+-- ---- a chain replaced by itself
 pub with_self : (p : PoolView) (c : ℕ) → IsLive p c → with_chain p c (chain_of p c) ≡ p
 with_self p c live =
     λ i. record { mbufs = p.mbufs; clusters = p.clusters; chains = insert_same p.chains c (chain_of p c) live i }
@@ -168,12 +168,12 @@ set_same (y ∷ ys) (suc i) e is = ap (λ (l : List Entry). y ∷ l) (set_same y
 pub with_entry_same : (v : ChainView) (i : ℕ) (e : Entry) → entry_of v i ≡ e → with_entry v i e ≡ v
 with_entry_same v i e is = λ j. record { front = v.front; entries = set_same v.entries i e is j; cells = v.cells }
 
--- ---- the packet length put right
+-- ---- the packet length corrected
 abbrev pub with_total : Head → ℕ → ℕ → PacketHeader → Head
 with_total h added removed packet =
     record h { packet = Some (record { len = packet.len + added - removed; arrival = packet.arrival }) }
 
--- what is known where it is off
+-- the head of a chain whose packet length is wrong: it's in use, and the corrected length fits
 pub record Totalled (s : StoreView) (c added removed : ℕ) : Type 0 where
   pub out : is_out s c ≡ true
   pub fits : (packet : PacketHeader) → (mbuf_head s c).packet ≡ Some packet
@@ -217,7 +217,7 @@ pub record IsSet (s t : StoreView) : Type 0 where
   pub pool : IsPool t
   pub same : pool_of t ≡ pool_of s
 
--- the packet length alone
+-- setting only the packet length
 pub total_sets : (s t : StoreView) (c added removed : ℕ) (packet : PacketHeader) → (mbuf_head s c).packet ≡ Some packet
     → SetsHead s t c (with_packet_len (mbuf_head s c) (packet.len + added - removed))
     → SetsHead s t c (with_total (mbuf_head s c) added removed packet)
@@ -277,7 +277,7 @@ total_set s t c added removed packet off live is sets store =
         → AllByRecursion (IsTotal t) f.rest
     rest_kept f went = went.totals
 
--- ---- an mbuf that shows fewer of its bytes
+-- ---- an mbuf that loses some of its data bytes
 pub place_long : (s : StoreView) (c i x : ℕ) → (f : Focused s c) → Entered s c f i x
     → length (place_bytes s x (mbuf_head s x).cluster) ≡ room_high (mbuf_head s x)
 place_long s c i x f e = go (mbuf_head s x).cluster refl
@@ -298,7 +298,7 @@ entry_long s c i x f e =
     run_length (place_bytes s x (mbuf_head s x).cluster) (mbuf_head s x).start (mbuf_head s x).len
     (omega (arith, place_long s c i x f e, e.fit.high))
 
--- a head that shows other bytes of the same room: the entry that it shows, and a packet length that is off
+-- a new head with other bytes of the same data area: the entry after it, and a packet length that is wrong
 pub record Resized (s t : StoreView) (c added removed i : ℕ) (e : Entry) : Type 0 where
   pub off : IsOff t c added removed
   pub live : IsLive (pool_of t) c
@@ -337,7 +337,7 @@ resized s t c added removed start len at pool live place sets store low high len
       map_is = map_is;
     }
 
--- what is known of the mbuf at a place
+-- the facts about the mbuf at a place
 pub record Shown (s : StoreView) (c : ℕ) (at : Place) : Type 0 where
   pub out : is_out s at.cell ≡ true
   pub fit : IsFit (mbuf_head s at.cell)
@@ -364,7 +364,7 @@ shown_at s c at pool live place =
     high_most None = omega arith
     high_most (Some d) = omega arith
 
--- narrowed
+-- a narrowed entry
 pub narrowed_is : (s : StoreView) (c skip keep : ℕ) (at : Place) → Shown s c at
     → skip + keep ≤ (mbuf_head s at.cell).len
     → entry_from s at.cell (with_segment (mbuf_head s at.cell) ((mbuf_head s at.cell).start + skip) keep)
@@ -380,7 +380,7 @@ narrowed_is s c skip keep at k within =
     })
     ∙ ap (λ (y : Entry). narrowed y skip keep) (sym k.entry)
 
--- each mbuf of a live chain shows as many bytes as its head says
+-- the entry of each mbuf of a live chain has the length that its head says
 pub cell_long : (s : StoreView) (c k : ℕ) → (f : Focused s c) → 0 < weigh (is_at k) f.cells
     → length (entry_at s k).bytes ≡ (mbuf_head s k).len
 cell_long s c k f p =

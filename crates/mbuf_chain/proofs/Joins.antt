@@ -1,4 +1,4 @@
--- Chains given back, stripped, joined and cut.
+-- Freeing chains, removing their packet header, joining and cutting them.
 use Rattle.std.proofs.Common.{◌≡◌, ◌≢◌, ℕ, zero, suc, ◌+◌, ◌<◌, ◌≤◌, true, false, cond, nat_eq, List, [], ◌∷◌, ◌++◌, length, map, Option, None, Some, is_some, refl, sym, ap, ◌∙◌, subst, arith, inl, inr, slice_get, slice_index}
 use Rattle.std.specs.FinMap as finmap
 use Rattle.std.specs.FinMap.{FinMap}
@@ -53,7 +53,7 @@ pub sum_is : (s : StoreView) (c : ℕ) → IsPool s → IsLive (pool_of s) c
     → weigh (len_at s) (cells_from s (Some c)) ≡ length (string (chain_of (pool_of s) c))
 sum_is s c pool live = let o = open_on s c pool live in ap (weigh (len_at s)) o.at.walks ∙ sym (bytes_are s c o.at)
 
--- ---- a chain given back
+-- ---- a chain is freed
 pub freed_all : (s t : StoreView) (c : ℕ) → IsPool s → IsLive (pool_of s) c → Freed s t (cells_from s (Some c)) []
     → IsStore t → IsPool t × (pool_of t ≡ without (pool_of s) c)
 freed_all s t c pool live freed store =
@@ -92,7 +92,7 @@ freed_all s t c pool live freed store =
       },
     )
 
--- ---- the packet header taken off
+-- ---- the packet header is removed
 abbrev pub bare : Head → Head
 bare h = record h { next_packet = None; packet = None }
 
@@ -154,7 +154,7 @@ stripped s t c pool live sets store =
     lower None (Some p) = omega arith
     lower (Some d) p = omega arith
 
--- ---- two chains brought to the front
+-- ---- two chains moved to the front of the lists
 pub record Two (s : StoreView) (a b : ℕ) : Type 0 where
   pub front : List ℕ
   pub back : List ℕ
@@ -220,8 +220,8 @@ open_two s a b pool live_a live_b ne =
       fresh = get-chains_of s found.rest b ∙ not_first s b found.rest alone_b;
     }
 
--- ---- one link written anew
--- what an mbuf shows and says is the same, but for its link
+-- ---- one link is replaced
+-- the mbuf is unchanged except for its link
 pub record LikeCell (s t : StoreView) (k : ℕ) : Type 0 where
   pub entry : entry_at t k ≡ entry_at s k
   pub front : front_of (mbuf_head t k) ≡ front_of (mbuf_head s k)
@@ -300,7 +300,7 @@ pub last_in : (x : ℕ) (xs : List ℕ) → 0 < weigh (is_at (last_of (x ∷ xs)
 last_in x [] = omega (arith, is_at_same x)
 last_in x (y ∷ ys) = omega (arith, last_in y ys)
 
--- the mbuf at the last place is the last
+-- the mbuf at the last place is the last one
 pub last_is : (l : List ℕ) (i x : ℕ) → slice_index l i ≡ x → i + 1 ≡ weigh one l → last_of l ≡ x
 last_is [] i x is e = absurd (omega arith)
 last_is (y ∷ []) zero x is e = is
@@ -308,7 +308,7 @@ last_is (y ∷ []) (suc i) x is e = absurd (omega arith)
 last_is (y ∷ z ∷ zs) zero x is e = absurd (omega arith)
 last_is (y ∷ z ∷ zs) (suc i) x is e = last_is (z ∷ zs) i x is (omega arith)
 
--- the list of a chain that ends in x goes on with another
+-- the list of a chain that ends in x continues with another list
 goes_on : (s t : StoreView) (x : ℕ) (next : Option ℕ) → Relinked s t x next → (at : Option ℕ) (y : ℕ) (ys m : List ℕ)
     → IsLinked s at (y ∷ ys) → last_of (y ∷ ys) ≡ x → ((k : ℕ) → weigh (is_at k) (y ∷ ys) ≤ 1) → IsLinked t next m
     → IsLinked t at ((y ∷ ys) ++ m)
@@ -352,7 +352,7 @@ pub record Joined (s t : StoreView) (a b added : ℕ) : Type 0 where
   pub map_is : pool_of t ≡ with_chain (without (pool_of s) b) a
       (joined (chain_of (pool_of s) a) (chain_of (pool_of s) b))
 
--- a chain whose front says nothing begins with an mbuf that says nothing
+-- if the first mbuf of a chain has no packet header and no next packet, no mbuf of it has
 all_follow : (s : StoreView) (l : List ℕ) → IsChain s l → IsFollower (mbuf_head s (first_of l)) → AllFollow s l
 all_follow s [] h first = tt
 all_follow s (y ∷ ys) h first = (first, h.1)

@@ -1,4 +1,4 @@
--- The laws for crates above: what steps leave, who owns what, what the pool holds, and trains. A file for each subject.
+-- The laws for crates above: pools after a step, owners, accounts, iterators, and trains. A file for each subject.
 pub mod Steps
 pub mod Owners
 pub mod Accounts

@@ -1,4 +1,4 @@
--- A chain that is about to be linked after another: it has lost its packet header and its place in a train.
+-- A chain before it is linked after another: its packet header and its place in a train are removed.
 use Rattle.std.proofs.Common.{◌≡◌, ◌≢◌, ℕ, ◌+◌, true, false, None, length, sym, ap, subst, ◌∙◌}
 use Rattle.mbuf_pool.specs.Store.{StoreView, mbuf_head, SetsHead, IsStore}
 use Rattle.mbuf_chain.specs.declared.place.Place.{Place}

@@ -1,4 +1,4 @@
--- The lists of mbufs after a pool: they are what the links say, and give the map that the pool shows.
+-- The lists of mbufs of a pool's chains: the links determine them, and they determine the pool's map.
 use Rattle.std.proofs.Common.{◌≡◌, ◌≢◌, ℕ, zero, suc, ◌+◌, ◌*◌, ◌<◌, ◌≤◌, Bool, true, false, not, cond, ◌&&◌, nat_eq, List, [], ◌∷◌, length, Option, None, Some, is_some, refl, sym, ap, ◌∙◌, subst, arith, inl, inr}
 use Rattle.std.specs.Ordering.{nat_cmp}
 use Rattle.std.specs.FinMap as finmap
@@ -15,12 +15,12 @@ use Rattle.mbuf_chain.specs.Chain.{ChainView}
 use Rattle.mbuf_chain.specs.Inside.Cells.{weigh, weigh_all, is_at, one, first_of, read_chain, walk, cells_from, is_pointed, chain_at, IsLinked, IsChain, AreSoundChains, IsFit, IsTotal, IsTotalBy, LeadsToEnd, len_at}
 use Rattle.mbuf_chain.proofs.Maps.{get_here, get_there}
 
--- the chain that stands first under a number
+-- the first chain in the lists that begins with mbuf q
 abbrev pub find_first : StoreView → ℕ → List (List ℕ) → Option ChainView
 find_first s q [] = None
 find_first s q (l ∷ ls) = cond (nat_eq (first_of l) q) (Some (read_chain s l)) (find_first s q ls)
 
--- the map that the lists make
+-- the map of the chains of the lists
 abbrev pub chains_of : StoreView → List (List ℕ) → FinMap nat_cmp ChainView
 chains_of s [] = finmap.empty
 chains_of s (l ∷ ls) = finmap.insert (chains_of s ls) (first_of l) (read_chain s l)
@@ -53,7 +53,7 @@ pub bit : (b : Bool) → 0 < cond {A = ℕ} b 1 0 → b ≡ true
 bit true h = refl
 bit false h = absurd (omega arith)
 
--- ---- how often an mbuf stands first, and how often after another
+-- ---- how often an mbuf is the first of a list, and how often a later one
 abbrev pub tail : List ℕ → List ℕ
 tail [] = []
 tail (c ∷ cs) = cs
@@ -82,7 +82,7 @@ is_at_same q = on (nat_eq q q) (eq-eqb q q refl)
 pub is_at_other : (q c : ℕ) → c ≢ q → is_at q c ≡ 0
 is_at_other q c ne = off (nat_eq c q) (ne_eqb c q ne)
 
--- an mbuf after another is the next of one
+-- an mbuf that isn't the first of its list is the next of another
 after : (s : StoreView) (q : ℕ) (at : Option ℕ) (c : ℕ) (cs : List ℕ) → IsLinked s at (c ∷ cs) → 0 < weigh (is_at q) cs
     → (k : ℕ) × (0 < weigh (is_at k) (c ∷ cs)) × ((mbuf_head s k).next ≡ Some q)
 after s q at c [] h p = absurd (omega arith)
@@ -104,7 +104,7 @@ after_all s q ((c ∷ cs) ∷ ls) h p =
       | inr gone ↦ let found = after_all s q ls h.1 (omega arith) in (found.0, omega (arith, found.1), found.2)
     ]
 
--- the next of an mbuf stands after it
+-- the next mbuf of an mbuf is in the rest of the list
 following_next : (s : StoreView) (q k : ℕ) (at : Option ℕ) (c : ℕ) (cs : List ℕ) → IsLinked s at (c ∷ cs)
     → 0 < weigh (is_at k) (c ∷ cs) → (mbuf_head s k).next ≡ Some q → 0 < weigh (is_at q) cs
 following_next s q k at c [] h p e =
@@ -131,7 +131,7 @@ next_after_all s q k ((c ∷ cs) ∷ ls) h p e =
       | inr gone ↦ let found = next_after_all s q k ls h.1 (omega arith) e in omega (arith, found)
     ]
 
--- ---- the walk along the links gives the list
+-- ---- following the links yields the list
 pub walk_is : (n : ℕ) (s : StoreView) (at : Option ℕ) (l : List ℕ) → IsLinked s at l → weigh one l ≤ n → walk n s at ≡ l
 walk_is zero s at [] h le = refl
 walk_is (suc n) s at [] h le = ap (walk (suc n) s) h
@@ -139,7 +139,7 @@ walk_is zero s at (c ∷ cs) h le = absurd (omega arith)
 walk_is (suc n) s at (c ∷ cs) h le =
     ap (walk (suc n) s) h.0 ∙ ap (λ (xs : List ℕ). c ∷ xs) (walk_is n s (mbuf_head s c).next cs h.3 (omega arith))
 
--- ---- which mbufs are pointed at
+-- ---- which mbufs are the next of another
 next_is : (a : Option ℕ) (q : ℕ) → option_eq nat_eq a (Some q) ≡ true → a ≡ Some q
 next_is None q e = absurd (false≢true e)
 next_is (Some x) q e = ap {B = Option ℕ} Some (eqb-true x q e)
@@ -168,7 +168,7 @@ points (suc n) s q k lt out e =
       | inr not ↦ or_right _ (is_pointed n s q) (points n s q k (omega arith) out e)
     ]
 
--- ---- what the mbufs show at a number is what the lists have there
+-- ---- the chain at a number, by the mbufs and by the lists
 pub not_first : (s : StoreView) (q : ℕ) (lists : List (List ℕ)) → heads_at q lists ≡ 0 → find_first s q lists ≡ None
 not_first s q [] h = refl
 not_first s q (l ∷ ls) h =
@@ -178,7 +178,7 @@ not_first s q (l ∷ ls) h =
           ∙ not_first s q ls (omega arith)
     ]
 
--- a chain that begins at the number, with all the lists beside it
+-- a list that begins with mbuf q, moved to the front of all lists
 pub record Found (s : StoreView) (q : ℕ) (v : ChainView) (lists : List (List ℕ)) : Type 0 where
   pub cells : List ℕ
   pub rest : List (List ℕ)
@@ -250,7 +250,7 @@ out_below s k e =
 pub few_out : (s : StoreView) → mbufs_out s ≤ length s.mbufs
 few_out s = count_by-le-length is_some s.mbufs
 
--- the links from the chain's first mbuf on give the chain's mbufs
+-- following the links from the chain's first mbuf yields the chain's mbufs
 pub cells_are : (s : StoreView) (lists : List (List ℕ)) → AreSoundChains s lists → (q : ℕ) (v : ChainView)
     → (found : Found s q v lists) → cells_from s (Some q) ≡ found.cells
 cells_are s lists ok q v found =
@@ -309,7 +309,7 @@ chain_is s lists ok q =
           absurd (omega (arith, tails, ok.once q, heads-tails s q lists ok.linked, on (is_out s q) out))
     ]
 
--- ---- along the links
+-- ---- following the links
 walk_short : (n : ℕ) (s : StoreView) (at : Option ℕ) → weigh one (walk n s at) ≤ n
 walk_short zero s at = omega arith
 walk_short (suc n) s None = omega arith
@@ -318,7 +318,7 @@ walk_short (suc n) s (Some i) = omega (arith, walk_short n s (mbuf_head s i).nex
 pub few_cells : (s : StoreView) (at : Option ℕ) → weigh one (cells_from s at) ≤ length s.mbufs
 few_cells s at = walk_short (length s.mbufs) s at
 
--- an mbuf, and what is after it
+-- an mbuf in use, and the mbufs after it
 pub record Next (s : StoreView) (at : ℕ) : Type 0 where
   pub cells : cells_from s (Some at) ≡ at ∷ cells_from s (mbuf_head s at).next
   pub out : is_out s at ≡ true
@@ -351,13 +351,13 @@ high_small h fit = omega (arith, fit.high, go h.cluster)
     go None = omega arith
     go (Some c) = omega arith
 
--- the bytes of a chain of so many mbufs
+-- a bound of the bytes of a chain, by the number of its mbufs
 pub bytes_bound : (s : StoreView) (at : Option ℕ) (l : List ℕ) → IsLinked s at l
     → weigh (len_at s) l ≤ 2048 * weigh one l
 bytes_bound s at [] h = omega arith
 bytes_bound s at (c ∷ cs) h = omega (arith, bytes_bound s (mbuf_head s c).next cs h.3, high_small (mbuf_head s c) h.2)
 
--- an mbuf that a walk has come to, and what is after it
+-- an mbuf that a walk reaches, and the mbufs after it
 pub record Walked (s : StoreView) (at : Option ℕ) (i : ℕ) : Type 0 where
   pub cells : cells_from s at ≡ i ∷ cells_from s (mbuf_head s i).next
   pub out : is_out s i ≡ true
@@ -379,7 +379,7 @@ walk_on s at i is whole =
 pub walk_end : (s : StoreView) (at : Option ℕ) → at ≡ None → cells_from s at ≡ []
 walk_end s at is = ap (cells_from s) is ∙ no_cells s
 
--- a walk that has added up so far goes on
+-- a walk that adds up f, before its next step
 pub record Goes (s : StoreView) (f : ℕ → ℕ) (all total : ℕ) (i : ℕ) (h : Head) : Type 0 where
   pub whole : LeadsToEnd s h.next
   pub sum : total + f i + weigh f (cells_from s h.next) ≡ all

@@ -23,7 +23,7 @@ use Rattle.mbuf_chain.proofs.Focused.{weigh_all_has, open_on, enter}
 use Rattle.mbuf_chain.proofs.Stores.{slot_here, mbuf_there, out_there, out_here, outs_total, cluster_here, cluster_there, refers_to, refers_not, refers_none}
 use Rattle.mbuf_chain.proofs.Heads.{Shown, narrowed_is}
 
--- from s to t the mbuf i was taken and stands alone, with its reference counted
+-- from s to t mbuf i was allocated as a chain of one mbuf, and its reference was counted
 pub record NewMbuf (s t : StoreView) (i : ℕ) (h : Head) : Type 0 where
   pub mbufs : length t.mbufs ≡ length s.mbufs
   pub clusters : length t.clusters ≡ length s.clusters
@@ -36,7 +36,7 @@ pub record NewMbuf (s t : StoreView) (i : ℕ) (h : Head) : Type 0 where
   pub counts : (c : ℕ) → cluster_count t c ≡ cluster_count s c + refers_at t c i
   pub store : IsStore t
 
--- what an mbuf refers to is counted
+-- a cluster to which an mbuf of a chain refers has a count above 0
 pub counted_in : (s : StoreView) (lists : List (List ℕ)) → AreSoundChains s lists → (k c : ℕ)
     → 0 < weigh_all (is_at k) lists
     → (mbuf_head s k).cluster ≡ Some c → 0 < cluster_count s c
@@ -145,7 +145,7 @@ pub low_for : (header : Bool) (start len : ℕ) → head_room_low (only_head hea
 low_for true start len = refl
 low_for false start len = refl
 
--- a plain mbuf alone, that shows so many of its bytes
+-- a new chain of one plain mbuf, with the bytes that are stored there
 pub plain_made : (s t : StoreView) (i : ℕ) (header : Bool) (start len : ℕ) → IsPool s
     → Taken s t i (only_head header start len None) → IsStore t → start_of header ≤ start → start + len ≤ 128
     → IsMade s t i (one_mbuf header
@@ -171,11 +171,11 @@ plain_made s t i header start len pool got store low high =
         → entry_at t i ≡ record { bytes = take len (drop start (mbuf_of t i).bytes); start = start; cluster = None }
     entry e = ap (entry_from t i) e
 
--- no mbuf is free where all are held
+-- if all mbufs are held, none is free
 pub none_free : (s : StoreView) → IsPool s → mbufs_out s ≡ length s.mbufs → held_mbufs (pool_of s) ≡ length s.mbufs
 none_free s (lists, ok, totals) all = held_is s lists ok ∙ all
 
--- an mbuf that is taken was free
+-- an mbuf that is allocated was free
 pub one_free : (s t : StoreView) (i : ℕ) (h : Head) → IsPool s → Taken s t i h → held_mbufs (pool_of s) < length s.mbufs
 one_free s t i h (lists, ok, totals) got =
     let m : MbufView = record { head = h; bytes = got.bytes } in
@@ -189,7 +189,7 @@ one_free s t i h (lists, ok, totals) got =
     )
 
 -- ---- an mbuf that shares a cluster
--- no cluster is held by more mbufs than are out
+-- a cluster's count is at most the number of mbufs in use
 pub count_few : (s : StoreView) (lists : List (List ℕ)) → AreSoundChains s lists → (c : ℕ)
     → cluster_count s c ≤ mbufs_out s
 count_few s lists ok c = omega (arith, ok.counted c, ok.total, fewer lists)
@@ -208,7 +208,7 @@ count_few s lists ok c = omega (arith, ok.counted c, ok.total, fewer lists)
     fewer [] = omega arith
     fewer (l ∷ ls) = omega (arith, at_most l, fewer ls)
 
--- what is known once an mbuf was taken that is to share cluster d
+-- the facts after an mbuf was allocated that is to share cluster d
 pub record CanHold (s t : StoreView) (d : ℕ) : Type 0 where
   pub some : 0 < cluster_count t d
   pub few : cluster_count t d < 65535
@@ -303,7 +303,7 @@ new_shared s t u i d h got is some is_held store =
       | inr ne ↦ ap (λ (v : ClusterView). v.bytes) (there c ne)
     ]
 
--- an mbuf alone that shows some of the bytes that another shows in its cluster
+-- a new chain of one mbuf that shares some of the bytes of another in its cluster
 pub shared_made : (s t u : StoreView) (i c d skip keep : ℕ) (at : Place) (header : Bool) (start : ℕ) → IsPool s
     → Shown s c at → (mbuf_head s at.cell).cluster ≡ Some d → 0 < cluster_count s d
     → skip + keep ≤ length (entry_of (chain_of (pool_of s) c) at.index).bytes
@@ -429,7 +429,7 @@ one_free_beside s t u i d h (lists, ok, totals) got_cluster got =
       ap (λ (v : StoreView). length v.mbufs) got_cluster.change,
     )
 
--- the cluster is given back, since no mbuf is free
+-- the cluster is released, because no mbuf is free
 pub given_back : (s t u v : StoreView) (d : ℕ) → TakesCluster s t d → u ≡ t
     → v ≡ with_cluster u d (released (cluster_of u d)) → v ≡ s
 given_back s t u v d got same change =
@@ -466,7 +466,7 @@ was_unreferenced s t d pool got =
     unreferenced s pool d ∙ ap (λ (w : ClusterView). w.count)
     (get_or_from_slice_get s.clusters d free_cluster free_cluster got.was_free)
 
--- and it was free
+-- if an element passes the test, the count of those that pass is above 0
 some_zero : {X : Type 0} (f : X → Bool) (xs : List X) (c : ℕ) (x : X) → slice_get xs c ≡ Some x → f x ≡ true
     → 0 < count_by f xs
 some_zero f [] c x e is = absurd (none-some x e)
@@ -492,7 +492,7 @@ cluster_free s t d pool got =
 pub counts_are : (s : StoreView) → IsPool s → reference_counts (pool_of s) ≡ Rattle.mbuf_pool.specs.Store.counts_of s
 counts_are s pool = λ i. map (λ c. unreferenced s pool c i) (range_with_len 0 (length s.clusters))
 
--- the cluster of a live chain's entry is counted
+-- the cluster of a live chain's entry has a count above 0
 pub counted_at : (s : StoreView) (c d : ℕ) (at : Place) → IsPool s → IsLive (pool_of s) c
     → IsPlace (chain_of (pool_of s) c) at → (mbuf_head s at.cell).cluster ≡ Some d → 0 < cluster_count s d
 counted_at s c d at pool live place is =

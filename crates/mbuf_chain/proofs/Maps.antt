@@ -1,4 +1,4 @@
--- Finite maps from numbers: a table, a key put back, and a sum over the values.
+-- Finite maps from numbers: a table, a key that is removed and inserted again, and a sum over the values.
 use Rattle.std.proofs.Common.{◌≡◌, ◌≢◌, ℕ, zero, suc, ◌+◌, ◌<◌, ◌≤◌, true, false, cond, List, [], ◌∷◌, length, map, sum_by, Option, None, Some, refl, sym, ap, ◌∙◌, subst, arith, inl, inr}
 use Rattle.std.specs.declared.cmp.Ordering.TheVariants.{Less, Equal, Greater}
 use Rattle.std.specs.Ordering.{nat_cmp, eq_by_cmp, is_eq}
@@ -27,7 +27,7 @@ module _ {X : Type 0} where
   pub same : (m n : FinMap nat_cmp X) → ((q : ℕ) → finmap.get m q ≡ finmap.get n q) → m ≡ n
   same m n h = same_map nat_cmp_total nat_cmp-IsAntisymmetric m n h
 
-  -- what a map has after a change at a number
+  -- a map after an insertion or a removal
   pub get_here : (m : FinMap nat_cmp X) (k : ℕ) (v : X) → finmap.get (finmap.insert m k v) k ≡ Some v
   get_here m k v = get-insert nat_cmp_total m k v k ∙ ap (λ b. cond b (Some v) (finmap.get m k)) (tied k)
 
@@ -41,7 +41,7 @@ module _ {X : Type 0} where
   pub get_left : (m : FinMap nat_cmp X) (k q : ℕ) → q ≢ k → finmap.get (finmap.remove m k) q ≡ finmap.get m q
   get_left m k q ne = get-remove nat_cmp_total m k q ∙ ap (λ b. cond b None (finmap.get m q)) (apart q k ne)
 
-  -- the last change at a number stands
+  -- the last insertion at a key wins
   pub insert-insert : (m : FinMap nat_cmp X) (k : ℕ) (v w : X)
       → finmap.insert (finmap.insert m k v) k w ≡ finmap.insert m k w
   insert-insert m k v w = same _ _ (λ q. elim (cases_eq q k) [
@@ -80,7 +80,7 @@ module _ {X : Type 0} where
     | inr ne ↦ get_there m k v q ne
   ])
 
-  -- what a table has
+  -- the values of a table
   pub get-tabulate : (n : ℕ) (f : ℕ → Option X) (q : ℕ)
       → (q < n → finmap.get (tabulate n f) q ≡ f q) × (n ≤ q → finmap.get (tabulate n f) q ≡ None)
   get-tabulate zero f q = (λ h. absurd (omega arith), λ _. get-empty nat_cmp q)
@@ -154,7 +154,7 @@ module _ {X : Type 0} where
   unfolding total
   total-empty f = ap (λ (es : List (ℕ × X)). sum_by f (map (λ e. e.1) es)) no_entries
 
-  -- two keys made one
+  -- two keys are merged into one
   pub two_to_one : (m : FinMap nat_cmp X) (a b : ℕ) (v w u : X) → finmap.get m b ≡ None → a ≢ b
       → finmap.insert (finmap.remove (finmap.insert (finmap.insert m b w) a v) b) a u ≡ finmap.insert m a u
   two_to_one m a b v w u none ne = same _ _ (λ q. elim (cases_eq q a) [
@@ -169,7 +169,7 @@ module _ {X : Type 0} where
   ])
 
 module _ {X : Type 0} where
-  -- one key made two
+  -- one key is split into two
   pub one_to_two : (m : FinMap nat_cmp X) (a b : ℕ) (v w u : X) → a ≢ b
       → finmap.insert (finmap.insert m b w) a u ≡ finmap.insert (finmap.insert (finmap.insert m a v) a u) b w
   one_to_two m a b v w u ne = same _ _ (λ q. elim (cases_eq q a) [
@@ -184,5 +184,5 @@ module _ {X : Type 0} where
     ]
   ])
 
--- what a map has after changes at numbers, for callers' goals
+-- the rules for a map after insertions and removals, for callers' goals
 pub ruleset map_steps = (get_here, get_there, get_gone, get_left)

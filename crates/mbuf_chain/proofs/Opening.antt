@@ -1,4 +1,4 @@
--- A pool over a store of which nothing is handed out.
+-- A pool over a store in which nothing is in use.
 use Rattle.std.proofs.Common.{◌≡◌, ℕ, zero, suc, false, cond, List, [], ◌∷◌, length, Option, None, Some, is_some, refl, sym, ap, arith, slice_index_or, count_by}
 use Rattle.std.specs.FinMap as finmap
 use Rattle.std.specs.FinMap.{FinMap}

@@ -19,7 +19,7 @@ cells_count : (l : List ℕ) → length l ≡ weigh one l
 cells_count [] = refl
 cells_count (x ∷ xs) = omega (arith, cells_count xs)
 
--- what every live chain shows of its mbufs
+-- what holds for the mbufs of every live chain
 pub record LiveCells (c : ℕ) (v : ChainView) : Type 0 where
   pub same : length v.cells ≡ length v.entries
   pub some : 0 < length v.entries
@@ -104,7 +104,7 @@ next_none s c at h pool live place head is =
           (sym (next_is s c at pool live place) ∙ ap (λ (y : Head). y.next) (sym head) ∙ is),
     )
 
--- ---- where the bytes lie
+-- ---- the part of a buffer that contains the bytes
 pub segment_is : (s : StoreView) (c : ℕ) (at : Place) (h : Head) → Shown s c at → h ≡ mbuf_head s at.cell
     → ◌≡◌ {A = Segment} (record { start = h.start; len = h.len; cluster = h.cluster })
     (record {
@@ -120,8 +120,8 @@ segment_is s c at h k head = λ i. record {
   cluster = (ap (λ (y : Head). y.cluster) head ∙ ap (λ (e : Entry). e.cluster) (sym k.entry)) i;
 }
 
--- ---- a chain linked after another, once it has lost its header
--- what the second part of a link needs after the first
+-- ---- a chain linked after another, after its header is removed
+-- what the second step of a link needs from the first
 pub record Bared (p q : PoolView) (a b : ℕ) : Type 0 where
   pub front_live : IsLive q a
   pub back_live : IsLive q b
@@ -147,7 +147,7 @@ bared p q a b ne live_a live_b is =
       };
     })
 
--- the place of the second chain's first mbuf in the whole
+-- the first mbuf of the second chain comes right after the mbufs of the first
 get_after : (l m : List ℕ) (n : ℕ) → length l ≡ n → slice_get (l ++ m) n ≡ slice_get m 0
 get_after [] m zero e = refl
 get_after [] m (suc n) e = absurd (omega arith)
@@ -179,7 +179,7 @@ linked_place s q a b last pool live_a live_b is_last is =
           ∙ m.first;
     })
 
--- the front of a live chain
+-- the fields of a live chain's front, from its first mbuf
 pub header_is : (s : StoreView) (c : ℕ) → IsPool s → IsLive (pool_of s) c
     → is_some (mbuf_head s c).packet ≡ (chain_of (pool_of s) c).front.header
 header_is s c pool live =

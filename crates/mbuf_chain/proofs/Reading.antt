@@ -13,7 +13,7 @@ use Rattle.mbuf_pool.proofs.Laws.{counted_within}
 use Rattle.mbuf_chain.proofs.Stores.{refers_to}
 use Rattle.mbuf_chain.proofs.Bytes.{run_length}
 
--- ---- where a walk begins
+-- ---- the start of a walk
 pub readable : (s : StoreView) (c : ℕ) → IsPool s → IsLive (pool_of s) c → IsReadable s (Some c)
 readable s c pool live =
     let f = freeable s c (open_on s c pool live).at in
@@ -25,7 +25,7 @@ entries_are s c pool live =
     let f = (open_on s c pool live).at in
     ap (map (entry_at s)) f.walks ∙ ap (λ (v : ChainView). v.entries) f.shows
 
--- the cluster to which an mbuf of a live chain refers is one of the pool's
+-- the cluster to which an mbuf of a live chain refers is a cluster of the pool
 pub cluster_known : (s : StoreView) (c : ℕ) (at : Place) → IsPool s → IsLive (pool_of s) c
     → IsPlace (chain_of (pool_of s) c) at → (d : ℕ) → (entry_of (chain_of (pool_of s) c) at.index).cluster ≡ Some d
     → d < length s.clusters
@@ -41,7 +41,7 @@ cluster_known s c at pool live place d is =
     ))
 
 -- ---- one step
--- what is known of the next mbuf, whose head is h
+-- the facts about the next mbuf, whose head is h
 pub record Reads (s : StoreView) (at : Option ℕ) (i : ℕ) (h : Head) : Type 0 where
   pub out : is_out s i ≡ true
   pub part : IsPart s (data_of i h)
@@ -102,7 +102,7 @@ pub reads : (s : StoreView) (at : Option ℕ) (i : ℕ) (h : Head) → at ≡ So
     → Reads s at i h
 reads s at i h is r head = subst (Reads s at i) (sym head) (reads_head s at i is r)
 
--- ---- what the iterators give
+-- ---- the items of the iterators
 pub next_entry : (s : StoreView) (at : Option ℕ) (i : ℕ) (h : Head) → Reads s at i h
     → layout_of (entries_from s at) ≡ (h.len, h.cluster) ∷ layout_of (entries_from s h.next)
 next_entry s at i h r =
@@ -113,6 +113,6 @@ pub next_piece : (s : StoreView) (at : Option ℕ) (i : ℕ) (h : Head) (bs : Li
 next_piece s at i h bs r is =
     ap pieces_of r.entries ∙ ap (λ (xs : List ℕ). xs ∷ pieces_of (entries_from s h.next)) (sym (is ∙ r.bytes))
 
--- one less is left
+-- one item fewer is left
 pub one_less : {X : Type 0} (xs ys : List X) (x : X) → xs ≡ x ∷ ys → length ys < length xs
 one_less xs ys x e = omega (arith, ap length e)

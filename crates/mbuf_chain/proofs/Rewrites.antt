@@ -1,4 +1,4 @@
--- One mbuf of a chain changed: its head, or the bytes of its place.
+-- Changing one mbuf of a chain: its head, or the bytes of its buffer.
 use Rattle.std.proofs.Common.{◌≡◌, ◌≢◌, ℕ, zero, suc, ◌+◌, ◌<◌, ◌≤◌, true, cond, nat_eq, List, [], ◌∷◌, length, map, Option, Some, sym, ap, ◌∙◌, subst, arith, inl, inr, slice_set, slice_index}
 use Rattle.std.specs.Ordering.{nat_cmp}
 use Rattle.std.specs.FinMap as finmap
@@ -16,7 +16,7 @@ use Rattle.mbuf_chain.proofs.Lists.{chains_of, heads_at, heads-tails, bit, is_at
 use Rattle.mbuf_chain.proofs.Changes.{SameCell, step, view_is, links_kept, list_kept}
 use Rattle.mbuf_chain.proofs.Focused.{Focused, Opened, in_list, once_in}
 
--- as many mbufs and clusters, the same ones handed out, the same counts
+-- the same numbers of mbufs and clusters, the same mbufs in use, and the same counts
 pub record SameOuts (s t : StoreView) : Type 0 where
   pub mbufs : length t.mbufs ≡ length s.mbufs
   pub clusters : length t.clusters ≡ length s.clusters
@@ -24,14 +24,14 @@ pub record SameOuts (s t : StoreView) : Type 0 where
   pub total : mbufs_out t ≡ mbufs_out s
   pub counts : (c : ℕ) → cluster_count t c ≡ cluster_count s c
 
--- from s to t the mbuf x alone has changed, and still leads to the same next one and cluster
+-- from s to t only mbuf x changed, and its link and its cluster are the same
 pub record CellChange (s t : StoreView) (x : ℕ) : Type 0 where
   pub next : (mbuf_head t x).next ≡ (mbuf_head s x).next
   pub cluster : (mbuf_head t x).cluster ≡ (mbuf_head s x).cluster
   pub out : is_out t x ≡ true
   pub fit : IsFit (mbuf_head t x)
 
--- the list of a chain with x as its mbuf i
+-- the list of a chain whose mbuf i is x, after x changed
 pub record Renewed (s t : StoreView) (at : Option ℕ) (l : List ℕ) (i x : ℕ) : Type 0 where
   pub linked : IsLinked t at l
   pub entries : map (entry_at t) l ≡ slice_set (map (entry_at s) l) i (entry_at t x)
@@ -90,7 +90,7 @@ renewed s t x change at (y ∷ ys) (suc i) kept linked once lt is =
       lens = omega (arith, below.lens, ap (λ (h : Head). h.len) here.head);
     }
 
--- ---- the mbufs after the first go on saying nothing of the packet
+-- ---- the mbufs after the first still have no packet header
 follow_renewed : (s t : StoreView) (x : ℕ) (l : List ℕ) → ((k : ℕ) → k ≢ x → 0 < weigh (is_at k) l → SameCell s t k)
     → (0 < weigh (is_at x) l → IsFollower (mbuf_head s x) → IsFollower (mbuf_head t x)) → AllFollow s l → AllFollow t l
 follow_renewed s t x [] kept here h = h
@@ -117,7 +117,7 @@ chain_renewed s t x (y ∷ ys) zero kept once lt is follow chain linked = (
 chain_renewed s t x (y ∷ ys) (suc i) kept once lt is follow chain linked =
     (linked, follow_renewed s t x ys (λ k ne p. kept k ne (omega (arith, p))) (λ _. follow (omega arith)) chain.1)
 
--- ---- what a pool shows after it
+-- ---- the view of a pool after the change
 pub record Changed (s t : StoreView) (c i x : ℕ) (f : Focused s c) : Type 0 where
   pub sound : AreSoundChains t (f.cells ∷ f.rest)
   pub totals : AllByRecursion (IsTotal s) f.rest → AllByRecursion (IsTotal t) f.rest
@@ -223,7 +223,7 @@ rest_right t c added removed (l ∷ ls) none h = (
   rest_right t c added removed ls (omega (arith, none)) h.1,
 )
 
--- no other chain begins there
+-- no other chain begins with this mbuf
 pub alone_first : (s : StoreView) (c : ℕ) → (f : Focused s c) → heads_at c f.rest ≡ 0
 alone_first s c f =
     omega (
@@ -242,7 +242,7 @@ pub some_cell : (s : StoreView) (l : List ℕ) → IsChain s l → 0 < weigh one
 some_cell s [] h = absurd h
 some_cell s (y ∷ ys) h = omega arith
 
--- after a change of an mbuf's length the packet length is off by as much
+-- after a change of an mbuf's length, the packet length is wrong by the same number
 pub off_after : (s t : StoreView) (c i x added removed : ℕ) → (o : Opened s c) → Changed s t c i x o.at
     → (mbuf_head t c).packet ≡ (mbuf_head s c).packet → (mbuf_head t x).len + removed ≡ (mbuf_head s x).len + added
     → IsOff t c added removed
@@ -265,7 +265,7 @@ off_after s t c i x added removed o went packet lens = (
   ),
 )
 
--- an mbuf whose front is as it was: the entry alone has changed
+-- the first mbuf's front is unchanged, so only the entry of x changed
 pub changed_entry : (s t : StoreView) (c i x : ℕ) → (f : Focused s c) → Changed s t c i x f
     → front_of (mbuf_head t c) ≡ front_of (mbuf_head s c)
     → pool_of t ≡ with_chain (pool_of s) c (with_entry (chain_of (pool_of s) c) i (entry_at t x))

@@ -1,4 +1,4 @@
--- The links of a train: chains that follow one another, with one put in, and with one taken out.
+-- The links of a train: chains linked in order, after one is inserted, and after one is removed.
 use Rattle.std.proofs.Common.{◌≡◌, ℕ, zero, suc, ◌<◌, List, [], ◌∷◌, ◌++◌, length, take, drop, Option, Some, None, slice_get, refl, sym, ap, ◌∙◌, subst, arith}
 use Rattle.std.specs.List.{insert, remove}
 use Rattle.std.proofs.lemmas.Option.{none-some, same_Some}
@@ -7,7 +7,7 @@ use Rattle.mbuf_chain.specs.Owners.{times_among}
 use Rattle.mbuf_chain.specs.Train.{follow, last_number}
 use Rattle.mbuf_chain.proofs.Laws.Owners.{times_same}
 
--- the chains follow one another, from `at` on, and none stands after the last
+-- the chains are linked in this order, from `at` on, and the last to none
 abbrev pub IsRun : PoolView → Option ℕ → List ℕ → Type 0
 IsRun p at [] = at ≡ None
 IsRun p at (x ∷ xs) = (at ≡ Some x) × IsRun p (chain_of p x).front.after xs
@@ -31,7 +31,7 @@ run_of p (suc n) None e ends = absurd (omega arith)
 run_of p (suc n) (Some c) e ends =
     (refl, run_of p n (chain_of p c).front.after (omega arith) (ap (λ (xs : List ℕ). drop 1 xs) ends))
 
--- the links of these chains are as they were
+-- the links of these chains are unchanged
 pub record SameLinks (p q : PoolView) (xs : List ℕ) : Type 0 where
   pub after : (k : ℕ) → 0 < times_among k xs → (chain_of q k).front.after ≡ (chain_of p k).front.after
 
@@ -42,7 +42,7 @@ run_same p q at (x ∷ xs) s h =
     run_same p q (chain_of p x).front.after xs (record { after = λ k l. s.after k (omega (arith, l)) }) h.1 in
     (h.0, subst (λ (o : Option ℕ). IsRun q o xs) (sym (s.after x (omega (arith, times_same x xs)))) below)
 
--- the chain after b is c from now on, and after c what was after b
+-- chain b is now linked to c, and c to the chain that followed b
 pub run_with : (p q : PoolView) (at : Option ℕ) (us : List ℕ) (b c : ℕ) (zs : List ℕ)
     → IsRun p at ((us ++ b ∷ []) ++ zs) → SameLinks p q us → SameLinks p q zs
     → (chain_of q b).front.after ≡ Some c → (chain_of q c).front.after ≡ (chain_of p b).front.after
@@ -58,7 +58,7 @@ run_with p q at (u ∷ us) b c zs h su sz eb ec =
           (sym (su.after u (omega (arith, times_same u us)))) below,
     )
 
--- the chain after b is that which was after c
+-- chain b is now linked to the chain that followed c
 pub run_without : (p q : PoolView) (at : Option ℕ) (us : List ℕ) (b c : ℕ) (zs : List ℕ)
     → IsRun p at ((us ++ b ∷ []) ++ c ∷ zs) → SameLinks p q us → SameLinks p q zs
     → (chain_of q b).front.after ≡ (chain_of p c).front.after → IsRun q at ((us ++ b ∷ []) ++ zs)
@@ -73,13 +73,13 @@ run_without p q at (u ∷ us) b c zs h su sz eb =
           below,
     )
 
--- the chain at the end of a run leads to what is after
+-- the last chain of a run is linked to the chain after the run
 pub run_next : (p : PoolView) (at : Option ℕ) (us : List ℕ) (b c : ℕ) (zs : List ℕ)
     → IsRun p at ((us ++ b ∷ []) ++ c ∷ zs) → (chain_of p b).front.after ≡ Some c
 run_next p at [] b c zs h = h.1.0
 run_next p at (u ∷ us) b c zs h = run_next p (chain_of p u).front.after us b c zs h.1
 
--- ---- the last of a list, and a list cut at a place
+-- ---- the last of a list, and a list split at a place
 pub last-append : (ys : List ℕ) (z : ℕ) (zs : List ℕ) → last_number (ys ++ z ∷ zs) ≡ last_number (z ∷ zs)
 last-append [] z zs = refl
 last-append (y ∷ []) z zs = refl
@@ -92,7 +92,7 @@ last_is (x ∷ []) (suc n) e = absurd (omega arith)
 last_is (x ∷ y ∷ ys) zero e = absurd (omega arith)
 last_is (x ∷ y ∷ ys) (suc n) e = last_is (y ∷ ys) n (omega arith)
 
--- what stands in front of a place doesn't tell what stands after it
+-- an element before a place doesn't depend on the elements after it
 pub get_front : (ys zs ws : List ℕ) (k : ℕ) → k < length ys → slice_get (ys ++ zs) k ≡ slice_get (ys ++ ws) k
 get_front [] zs ws k h = absurd (omega arith)
 get_front (y ∷ ys) zs ws zero h = refl
@@ -112,7 +112,7 @@ times_twice (x ∷ xs) zero c e f =
     (omega (arith, times_same c xs, times_get xs zero c f))
 times_twice (x ∷ xs) (suc i) c e f = omega (arith, times_twice xs i c e f)
 
--- a run passes a chain: the place where it stands, and what is after it
+-- a run from chain c on: the place of c in the list, and the run after c
 pub record Passing (p : PoolView) (c : ℕ) (xs : List ℕ) (i : ℕ) : Type 0 where
   pub stands : slice_get xs i ≡ Some c
   pub rest : IsRun p (chain_of p c).front.after (drop (suc i) xs)
@@ -130,7 +130,7 @@ passing p c (x ∷ xs) (suc i) h r =
     let below = passing p c xs i (omega arith) r in
     record { stands = below.stands; rest = below.rest }
 
--- a run that isn't at its end has a chain there
+-- a run that isn't at its end has a next chain
 pub run_there : {A : Type 0} (p : PoolView) (at : Option ℕ) (xs : List ℕ) (i : ℕ) → i < length xs
     → IsRun p at (drop i xs) → at ≡ None → A
 run_there p at [] i h r e = absurd (omega arith)

@@ -1,4 +1,4 @@
--- What each call on a store does to heads, bytes and counts.
+-- The effect of each call of a store on heads, bytes and counts.
 use Rattle.std.proofs.Common.{◌≡◌, ◌≢◌, ℕ, ◌+◌, ◌-◌, ◌<◌, ◌≤◌, true, cond, nat_eq, List, ◌∷◌, length, Option, None, Some, is_some, unwrap_or, refl, sym, ap, ◌∙◌, subst, arith, inl, inr, slice_index_or, count_by}
 use Rattle.std.specs.Option.{option_eq}
 use Rattle.std.proofs.lemmas.Bool.{cases_eq, eq-eqb, ne_eqb}
@@ -81,7 +81,7 @@ refers_not s x c d is ne =
 pub refers_none : (s : StoreView) (x c : ℕ) → (mbuf_head s x).cluster ≡ None → refers_at s c x ≡ 0
 refers_none s x c is = ap {B = ℕ} (λ (o : Option ℕ). cond (option_eq nat_eq o (Some c)) 1 0) is
 
--- ---- an mbuf given back, with its reference
+-- ---- an mbuf is freed, with its reference
 pub free_one : (s t : StoreView) (l m : List ℕ) (i : ℕ) → Freed s t l (i ∷ m) → is_out t i ≡ true
     → ((c : ℕ) → refers_at s c i ≤ cluster_count t c)
     → Freed s (with_mbuf (released_in t (mbuf_head s i).cluster) i None) l m
@@ -183,7 +183,7 @@ free_one s t l m i f out known = go (mbuf_head s i).cluster refl
           ];
         }
 
--- what a loop that gives mbufs back needs of the next one
+-- what a loop that frees mbufs needs of the next one
 pub record Ready (s t : StoreView) (first at : Option ℕ) (i : ℕ) : Type 0 where
   pub out : is_out t i ≡ true
   pub known : (c : ℕ) → (mbuf_head t i).cluster ≡ Some c → 0 < cluster_count t c
@@ -216,7 +216,7 @@ ready s t first at i is own whole f =
           (subst (Freed s t (cells_from s first)) w.cells f) out counts);
     }
 
--- ---- an mbuf taken
+-- ---- an mbuf is allocated
 
 pub taken : (s t : StoreView) (i : ℕ) (h : Head) → TakesWith s t i h → Taken s t i h
 taken s t i h got = record {

@@ -1,4 +1,4 @@
--- What the mbufs of a live chain say of themselves, read along the links.
+-- The heads of the mbufs of a live chain, read along the links.
 use Rattle.std.proofs.Common.{◌≡◌, ℕ, List, [], ◌∷◌, length, map, Option, None, Some, cond, is_some, refl, sym, ap, ◌∙◌, slice_get}
 use Rattle.mbuf_pool.specs.Cells.{Head, PacketHeader}
 use Rattle.mbuf_pool.specs.Store.{StoreView, mbuf_head, stored_part}
@@ -24,12 +24,12 @@ next_told s at i h told bs is r head of part =
     ∙ (λ j. (told_head i (same j), bytes j) ∷ told_from s (same j).next)
     ∙ ap (λ (m : MbufHead). (m, bs) ∷ told_from s h.next) (sym of)
 
--- ---- all of them
+-- ---- the whole walk
 next_of : (s : StoreView) (at : Option ℕ) (l : List ℕ) → IsLinked s at l → at ≡ slice_get l 0
 next_of s at [] g = g
 next_of s at (c ∷ cs) g = g.0
 
--- those after the first
+-- the heads of the mbufs after the first
 later_told : (s : StoreView) (at : Option ℕ) (l : List ℕ) → IsReadable s at → IsLinked s at l → AllFollow s l
     → map (told_at s) l ≡ heads_from None None l (map (entry_at s) l)
 later_told s at [] r g f = refl

@@ -1,4 +1,4 @@
--- A chain put in its place before another in a train.
+-- Linking a chain before another in a train.
 use Rattle.std.proofs.Common.{◌≡◌, ℕ, true, cond, ◌∷◌, Option, None, Some, is_some, option_map, refl, sym, ap, ◌∙◌, subst, arith}
 use Rattle.std.specs.Prelude.{IsSome}
 use Rattle.std.proofs.lemmas.Bool.{false≢true}
@@ -110,7 +110,7 @@ packet_after s t c after packet pool live is first =
     (sym (ap (λ (h : Head). h.packet)
     (sets_head s t c (record (mbuf_head s c) { next_packet = after }) (first_out s c o.at) first) ∙ is)) refl
 
--- the link alone: the tag stays
+-- setting only the link: the tag is unchanged
 pub relinked : (s t : StoreView) (c : ℕ) (after : Option ℕ) → IsPool s → IsLive (pool_of s) c
     → (chain_of (pool_of s) c).front.header ≡ true → SetsHead s t c (record (mbuf_head s c) { next_packet = after })
     → IsStore t

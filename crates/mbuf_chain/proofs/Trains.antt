@@ -1,4 +1,4 @@
--- Laws for owners of trains, for callers, and what a train's own steps make of it.
+-- Laws for owners of trains, for callers, and the effect of a train's own steps.
 use Rattle.std.proofs.Common.{◌≡◌, ◌≢◌, ℕ, zero, suc, ◌+◌, ◌<◌, Bool, true, false, not, List, [], ◌∷◌, ◌++◌, length, map, Option, Some, None, get_or, slice_get, refl, sym, ap, ◌∙◌, subst, arith, inl, inr, length-append}
 use Rattle.std.specs.List.{insert, remove}
 use Rattle.std.specs.Option.{IfSome}
@@ -20,7 +20,7 @@ use Rattle.mbuf_chain.proofs.Laws.Owners.{times_same, times_other, times-append,
 use Rattle.mbuf_chain.proofs.Laws.Accounts.{owned_at_most}
 use Rattle.mbuf_chain.proofs.Runs.{IsRun, Split, split_at, get_front, times_get, times_twice, run_follow, run_ends, run_of, run_same, run_with, run_without, run_next, last-append, insert-append, remove-append}
 
--- ---- a train by the list of its numbers
+-- ---- a train as the list of its numbers
 record Linked (p : PoolView) (t : TrainView) (xs : List ℕ) : Type 0 where
   run : IsRun p t.first xs
   whole : t.len ≡ length xs
@@ -52,7 +52,7 @@ held_of p t xs l =
       last = l.last ∙ ap last_number (sym e);
     }
 
--- ---- the ends of a train by its fields, which are numbers
+-- ---- the first and the last chain as optional numbers, from fields that are numbers
 pub end_there : (n k : ℕ) → 0 < n → (if n == 0 then None else Some k) ≡ Some k
 end_there zero k h = absurd (omega arith)
 end_there (suc n) k h = rw (eqb-suc-zero n) refl
@@ -64,7 +64,7 @@ then_or_none : (b : Bool) (k : ℕ) → then_some (not b) k ≡ (if b then None 
 then_or_none true k = refl
 then_or_none false k = refl
 
--- the first chain's number, by the test that there is no chain
+-- the first chain's number, by the test whether the train is empty
 pub first_is : (first r : Option ℕ) (len n k : ℕ) (b : Bool) → (if n == 0 then None else Some k) ≡ first → n ≡ len
     → b ≡ (len == 0) → r ≡ then_some (not b) k → r ≡ first
 first_is first r len n k b view len_is none is =
@@ -76,7 +76,7 @@ run_head : (p : PoolView) (at : Option ℕ) (xs : List ℕ) (n k : ℕ) → IsRu
 run_head p at [] n k r e is = rw (e, r) refl
 run_head p at (x ∷ xs) n k r e is = rw (e, is, r.0, eqb-suc-zero (length xs)) refl
 
--- k tells what stands after the first chain, where n others do
+-- k is the number of the chain after the first one, unless n, the number of chains after it, is 0
 pub first_after : (p : PoolView) (t : TrainView) (c n k : ℕ) → IsHeld p t → t.first ≡ Some c → n + 1 ≡ t.len
     → k ≡ unwrap_or (chain_of p c).front.after 0 → (if n == 0 then None else Some k) ≡ (chain_of p c).front.after
 first_after p t c n k h first len is = go (numbers p t) refl
@@ -89,7 +89,7 @@ first_after p t c n k h first len is = go (numbers p t) refl
         subst (λ (j : ℕ). IsRun p (chain_of p j).front.after xs) (same_Some x c (sym run.0 ∙ first)) run.1 in
         run_head p (chain_of p c).front.after xs n k rest (omega (arith, len, h.whole, ap length e)) is
 
--- ---- a train while others take their steps
+-- ---- a train during steps on other chains
 pub record Beside (p q : PoolView) (t : TrainView) : Type 0 where
   pub held : IsHeld q t
   pub numbers : numbers q t ≡ numbers p t
@@ -115,19 +115,19 @@ pub beside_moves : {p q : PoolView} {xs ys : List ℕ} (t : TrainView) → Moves
     → IsHeld p t → Beside p q t
 beside_moves {p} {q} t m o h = beside p q t (same_after (numbers p t) m o) h
 
--- a new chain is none of a train's
+-- a new chain isn't in the train
 pub apart_adds : {p q : PoolView} {c : ℕ} {v : ChainView} (t : TrainView) → Adds p q c v → IsHeld p t
     → times_among c (numbers q t) ≡ 0
 apart_adds {p} {q} {c} t a h = ap (times_among c) (beside_adds t a h).numbers ∙ apart_new (numbers p t) a h.owned
 
--- ---- an owner of a train has a new chain beside it
+-- ---- the owner of a train gets a new chain
 pub moves_new : {p q : PoolView} {c : ℕ} {v : ChainView} (t : TrainView) → Adds p q c v → IsHeld p t
     → Moves p (numbers p t) q (c ∷ numbers q t)
 moves_new {p} {q} {c} t a h =
     subst (λ (xs : List ℕ). Moves p (numbers p t) q (c ∷ xs)) (sym (beside_adds t a h).numbers)
     (then_adds (moves_none p (numbers p t)) a)
 
--- a chain taken out of a train and freed
+-- a chain removed from a train and freed
 pub record FreedPacket (p : PoolView) (t : TrainView) (q r : PoolView) (u : TrainView) : Type 0 where
   pub queued_packets : queued_packets r u ≡ queued_packets q u
   pub held : IsHeld r u
@@ -146,7 +146,7 @@ freed_packet {p} {q} {r} {t} {u} {c} held now m is_r =
           (then_without r c (numbers q u) m held.owned is_r);
     }
 
--- a new train is held by any pool
+-- the empty train is held by any pool
 pub held_none : (p : PoolView) (t : TrainView) → t ≡ record { first = None; last = None; len = 0 } → IsHeld p t
 held_none p t e =
     subst (IsHeld p) (sym e) (held_of p (record { first = None; last = None; len = 0 }) []
@@ -197,7 +197,7 @@ pub queued_packet_is : (p : PoolView) (t : TrainView) (i c : ℕ) → slice_get 
     → queued_packet_at p t i ≡ queued_packet_of p c
 queued_packet_is p t i c e = get_queued p (numbers p t) i c e
 
--- after a queued packet that isn't the last stands another
+-- a queued packet that isn't the last is linked to the next one
 pub after_queued : (p : PoolView) (t : TrainView) (i b : ℕ) → IsHeld p t → slice_get (numbers p t) i ≡ Some b
     → suc i < t.len → (c : ℕ) × ((chain_of p b).front.after ≡ Some c) × (slice_get (numbers p t) (suc i) ≡ Some c)
 after_queued p t i b h e more =
@@ -230,7 +230,7 @@ next_apart p t i b c h e more is same =
       times_twice (numbers p t) i b e (next_queued p t i b c h e more is ∙ ap {B = Option ℕ} Some same),
     ))
 
--- what stands after a queued packet is a queued packet
+-- the chain after a queued packet is live
 pub live_after : (p : PoolView) (t : TrainView) (i b : ℕ) → IsHeld p t → slice_get (numbers p t) i ≡ Some b
     → IfSome (chain_of p b).front.after (IsLive p)
 live_after p t i b h e =
@@ -242,7 +242,7 @@ live_after p t i b h e =
         let l : Linked p t ((us ++ b ∷ []) ++ zs) = subst (Linked p t) all (linked_of p t h) in
         live_link p t.first us b zs l.owned l.run
 
--- a pool has fewer chains than a count can tell
+-- the length of a train with room for one more chain fits into a count
 pub room_for : (p : PoolView) (t : TrainView) (c : ℕ) (v : ChainView) (q : PoolView) → IsHeld p t → IsLive p c
     → times_among c (numbers p t) ≡ 0 → q ≡ with_chain p c v → IsBounded q → t.len < 65535
 room_for p t c v q h live apart is_q b =
@@ -255,12 +255,12 @@ room_for p t c v q h live apart is_q b =
       h.whole,
     )
 
--- ---- chains that show what they showed, with other links
+-- ---- chains with the same contents and other links
 record Shown (p q : PoolView) (xs : List ℕ) : Type 0 where
   header : (k : ℕ) → 0 < times_among k xs → (chain_of q k).front.header ≡ (chain_of p k).front.header
   queued_packet : (k : ℕ) → 0 < times_among k xs → queued_packet_of q k ≡ queued_packet_of p k
 
--- ---- a chain put in
+-- ---- a chain is inserted
 record PutIn (p : PoolView) (t : TrainView) (ys zs : List ℕ) (c tag : ℕ) (q : PoolView) (u : TrainView) : Type 0 where
   moves : Moves p (c ∷ (ys ++ zs)) q (c ∷ (ys ++ zs))
   others : Shown p q (ys ++ zs)
@@ -323,7 +323,7 @@ put_in p t ys zs c tag q u l live apart s =
           ∙ ap (λ (xs : List ℕ). slice_get xs k) (sym was);
     }
 
--- ---- a chain taken out
+-- ---- a chain is removed
 record TakenOut (p : PoolView) (t : TrainView) (ys zs : List ℕ) (c : ℕ) (q : PoolView) (u : TrainView) : Type 0 where
   moves : Moves p (ys ++ c ∷ zs) q (ys ++ c ∷ zs)
   others : Shown p q (ys ++ zs)
@@ -395,7 +395,7 @@ after_from p q k e = ap (λ (v : ChainView). v.front.after) e
 not_in : (c k : ℕ) (xs : List ℕ) → times_among c xs ≡ 0 → 0 < times_among k xs → k ≢ c
 not_in c k xs apart h e = absurd (omega (arith, apart, h, ap (λ (j : ℕ). times_among j xs) e))
 
--- a chain put in front
+-- a chain is inserted at the front
 pub inserted_first : (p : PoolView) (t : TrainView) (c tag : ℕ) (q : PoolView) (u : TrainView) → IsHeld p t → IsLive p c
     → (chain_of p c).front.header ≡ true → times_among c (numbers p t) ≡ 0
     → q ≡ with_chain p c (placed (chain_of p c) t.first tag) → u.first ≡ Some c → u.len ≡ t.len + 1
@@ -427,7 +427,7 @@ inserted_first p t c tag q u h live headed apart is_q first len only last =
     end_of [] e = only (omega (arith, h.whole, ap length e))
     end_of (x ∷ xs) e = last (omega (arith, h.whole, ap length e)) ∙ h.last ∙ ap last_number e
 
--- a chain put in after another
+-- a chain is inserted after another
 after_in : (p : PoolView) (t : TrainView) (b i c tag : ℕ) (r q : PoolView) (u : TrainView) → IsHeld p t → IsLive p c
     → (chain_of p c).front.header ≡ true → times_among c (numbers p t) ≡ 0
     → slice_get (numbers p t) i ≡ Some b → r ≡ with_chain p c (placed (chain_of p c) (chain_of p b).front.after tag)
@@ -533,7 +533,7 @@ after_in p t b i c tag r q u h live headed apart at is_r is_q first len only las
         ∙ last-append (s.front ++ b ∷ []) x xs
         ∙ sym (last-append (s.front ++ b ∷ []) c (x ∷ xs))
 
--- the first chain taken out
+-- the first chain is removed
 first_out : (p : PoolView) (t : TrainView) (c : ℕ) (q : PoolView) (u : TrainView) → IsHeld p t → t.first ≡ Some c
     → 0 < t.len
     → q ≡ with_chain p c (placed (chain_of p c) None 0) → u.first ≡ (chain_of p c).front.after → u.len + 1 ≡ t.len
@@ -576,7 +576,7 @@ first_out p t c q u h is_c some is_q first len only last = go (numbers p t) refl
             end_of [] l = only (omega (arith, l.whole))
             end_of (z ∷ zs) l = last (omega (arith, l.whole)) ∙ l.last
 
--- a chain taken out after another
+-- the chain after another is removed
 after_out : (p : PoolView) (t : TrainView) (b i c : ℕ) (r q : PoolView) (u : TrainView) → IsHeld p t
     → Split (numbers p t) i b → suc i < t.len → (chain_of p b).front.after ≡ Some c
     → r ≡ with_chain p b (placed (chain_of p b) (chain_of p c).front.after (chain_of p b).front.tag)

@@ -1,4 +1,4 @@
--- Bytes written where one mbuf alone shows them.
+-- Writing bytes that only one mbuf refers to.
 use Rattle.std.proofs.Common.{◌≡◌, ◌≢◌, ℕ, ◌+◌, ◌-◌, ◌<◌, ◌≤◌, ◌⊎◌, true, cond, List, [], ◌∷◌, ◌++◌, length, Option, None, Some, is_some, unwrap_or, refl, sym, ap, ◌∙◌, subst, arith, inl, inr, take, drop, take_all}
 use Rattle.std.proofs.lemmas.Bool.{cases_eq}
 use Rattle.std.proofs.lemmas.List.{length-set}
@@ -103,7 +103,7 @@ place_written s t x start ws out counted is = go (mbuf_head s x).cluster refl
         (sym (is ∙ ap (λ (o : Option ℕ). with_bytes s (buffer_of x o) (over (bytes_in s (buffer_of x o)) start ws)) e))
         (in_cluster s x d start ws e (counted d e))
 
--- ---- nobody else shows the bytes
+-- ---- no other mbuf refers to the bytes
 abbrev flat : List (List ℕ) → List ℕ
 flat [] = []
 flat (l ∷ ls) = l ++ flat ls
@@ -132,7 +132,7 @@ two_in f x k (y ∷ ys) ne a b =
       ]
     ]
 
--- an mbuf whose cluster has one reference shares it with none
+-- if a cluster has one reference, no other mbuf refers to it
 sole : (s : StoreView) (c x d : ℕ) → (f : Focused s c) → 0 < weigh (is_at x) f.cells → cluster_count s d ≡ 1
     → (mbuf_head s x).cluster ≡ Some d → (k : ℕ) → k ≢ x → 0 < weigh (is_at k) f.cells + weigh_all (is_at k) f.rest
     → (mbuf_head s k).cluster ≡ Some d → ⊥
@@ -202,7 +202,7 @@ written s t c start ws at pool live place unshared w store =
       };
     }
 
--- ---- the room of a write
+-- ---- the buffer has room for the write
 pub room_of : (s : StoreView) (c start n : ℕ) (at : Place) → Shown s c at
     → ((d : ℕ) → (mbuf_head s at.cell).cluster ≡ Some d → 0 < cluster_count s d)
     → head_room_low (mbuf_head s at.cell) ≤ start
@@ -229,12 +229,12 @@ write_is s p ws e =
     ap (λ (l : List ℕ). with_bytes s p.buffer (over (bytes_in s p.buffer) p.start l))
     (take_all p.len ws (omega (arith, e)))
 
--- ---- rooms as a caller sees them
+-- ---- data areas, by the entry
 pub high_seen : (s : StoreView) (c : ℕ) (at : Place) → Shown s c at
     → room_high (mbuf_head s at.cell) ≡ room_end (entry_of (chain_of (pool_of s) c) at.index)
 high_seen s c at k = ap (λ (e : Entry). cond {A = ℕ} (is_some e.cluster) 2048 128) (sym k.entry)
 
--- a write after or in front of the bytes that an mbuf shows leaves the pool
+-- a write before or after the data bytes of an mbuf leaves the view of the pool unchanged
 pub same_pool : (s t : StoreView) (c start : ℕ) (ws : List ℕ) (at : Place) → IsLive (pool_of s) c → Shown s c at
     → WritesPlace s t c at start ws → start + length ws ≤ room_high (mbuf_head s at.cell)
     → ((mbuf_head s at.cell).start + (mbuf_head s at.cell).len ≤ start)
@@ -261,7 +261,7 @@ same_pool s t c start ws at live k w fits apart =
     turn (inl a) = inr a
     turn (inr a) = inl a
 
--- what the second part of a change that writes and then shows more needs after the first
+-- a step that writes bytes and then includes them in the data: what its second part needs from the first
 pub record Grown (s t : StoreView) (c : ℕ) (at : Place) : Type 0 where
   pub live : IsLive (pool_of t) c
   pub place : IsPlace (chain_of (pool_of t) c) at
@@ -283,7 +283,7 @@ grown s t c start ws at pool live place w fits apart =
       head = w.head;
     }
 
--- the entry then: with the bytes after its own, or in front of them
+-- the entry after that: with the bytes after its own, or before them
 pub grown_back : (s t : StoreView) (c n : ℕ) (ws : List ℕ) (at : Place) → Shown s c at
     → WritesPlace s t c at ((mbuf_head s at.cell).start + (mbuf_head s at.cell).len) ws → n ≡ length ws
     → (mbuf_head s at.cell).start + (mbuf_head s at.cell).len + length ws ≤ room_high (mbuf_head s at.cell)
@@ -327,7 +327,7 @@ grown_front s t c n start ws at k w count is =
     })
     ∙ ap (λ (e : Entry). with_front e ws) (sym k.entry)
 
--- the entry with bytes written over its own
+-- the entry after a write over its bytes
 pub overwritten_is : (s : StoreView) (c offset : ℕ) (ws : List ℕ) (at : Place) → Shown s c at
     → offset + length ws ≤ (mbuf_head s at.cell).len
     → entry_over s at.cell ((mbuf_head s at.cell).start + offset) ws
@@ -343,14 +343,14 @@ overwritten_is s c offset ws at k within =
     })
     ∙ ap (λ (e : Entry). overwritten e offset ws) (sym k.entry)
 
--- both parts of a change
+-- both parts of the step
 pub grown_is : (s t u : StoreView) (c : ℕ) (at : Place) (e : Entry) (e' : Entry) → pool_of t ≡ pool_of s
     → pool_of u ≡ with_chain (pool_of t) c (with_entry (chain_of (pool_of t) c) at.index e) → e ≡ e'
     → pool_of u ≡ with_chain (pool_of s) c (with_entry (chain_of (pool_of s) c) at.index e')
 grown_is s t u c at e e' same change is =
     change ∙ (λ i. with_chain (same i) c (with_entry (chain_of (same i) c) at.index (is i)))
 
--- bytes of an entry as those of its place
+-- the bytes of an entry, as bytes of its buffer
 pub entry_bytes : (s : StoreView) (c skip n start : ℕ) (b : Buffer) (at : Place) → Shown s c at
     → b ≡ buffer_of at.cell (mbuf_head s at.cell).cluster → start ≡ (mbuf_head s at.cell).start + skip
     → skip + n ≤ length (entry_of (chain_of (pool_of s) c) at.index).bytes
@@ -372,7 +372,7 @@ counted_place : (s : StoreView) (c : ℕ) (at : Place) → IsPool s → IsLive (
     → IsPlace (chain_of (pool_of s) c) at → (d : ℕ) → (mbuf_head s at.cell).cluster ≡ Some d → 0 < cluster_count s d
 counted_place s c at pool live place d is = counted_at s c d at pool live place is
 
--- some of the bytes that an mbuf shows
+-- some of the data bytes of an mbuf
 pub source_room : (s : StoreView) (c skip n : ℕ) (at : Place) (h : Head) (b : Buffer) → IsPool s → IsLive (pool_of s) c
     → IsPlace (chain_of (pool_of s) c) at → h ≡ mbuf_head s at.cell → b ≡ buffer_of at.cell h.cluster
     → skip + n ≤ length (entry_of (chain_of (pool_of s) c) at.index).bytes → IsRoom s b (h.start + skip) n

@@ -1,4 +1,4 @@
-//! The data of an mbuf: where it is, reading it in place, and writing it if no other mbuf shares it.
+//! The data of an mbuf: its location, reading it in place, and writing it if no other mbuf shares it.
 ghost use Rattle.std.specs.Prelude.{◌≡◌, ◌+◌, ◌-◌, ◌<◌, ◌≤◌, ◌^◌, length, take, drop};
 ghost use Rattle.params.specs.declared.TheConstants.{MCLBYTES};
 ghost use Rattle.mbuf_pool.specs.Store.{IsStore, mbuf_head, with_bytes, bytes_in, IsRoom};

@@ -80,7 +80,7 @@ pub(crate) fn last(store: &Store, start: u32) -> Place
     at
 }
 
-/// Returns where the bytes of an mbuf are stored.
+/// Returns the location of an mbuf's bytes.
 #[inline(always)]
 pub(crate) fn segment(store: &Store, first: u32, at: Place) -> Segment
     requires pool { IsPool store.now }

@@ -72,7 +72,7 @@ impl<'a> Model for MbufHeads<'a> {
     ghost invariant = { λ h. IsReadable h.store.now h.at };
 }
 
-/// Returns where the bytes of an mbuf with this head are.
+/// Returns the location of the bytes of an mbuf with this head.
 fn data_of(cell: u32, head: Head) -> Part
     ensures { result ≡ data_of cell head }
 {

@@ -10,7 +10,7 @@ pub struct Place {
     pub cell: u32,
 }
 
-/// Where the bytes of an mbuf are stored.
+/// The location of an mbuf's bytes.
 #[derive(Clone, Copy, Debug, PartialEq, Eq)]
 pub struct Segment {
     /// The offset of the first byte, in the mbuf or in its cluster.

@@ -169,7 +169,7 @@ impl Pool {
         }
     }
 
-    /// Frees a chain's mbufs and their cluster references. A cluster is free again when its last reference is gone.
+    /// Frees a chain's mbufs and their cluster references. A cluster is free after its last reference is removed.
     ///
     /// For example, if the counts of the clusters along the chain are `1->2->3`, they are `0->1->2` after the call. The
     /// first is free; the others stay with the chains that share them.
@@ -282,7 +282,7 @@ impl Pool {
         links::last(&self.store, chain.first)
     }
 
-    /// Returns where the bytes of an mbuf are stored, and how many there are.
+    /// Returns the location and the number of an mbuf's bytes.
     #[inline(always)]
     pub fn segment(&self, chain: &Chain, at: Place) -> Segment
         requires live { IsLive self.now chain.now }
@@ -533,7 +533,7 @@ impl Pool {
         links::link(&mut self.store, chain.first, last, first, added)
     }
 
-    /// Links a chain of `len` bytes after the last mbuf of another, as `link` does. It takes O(1) steps, whatever the
+    /// Links a chain of `len` bytes after the last mbuf of another, like `link`. It takes O(1) steps, whatever the
     /// chain.
     pub fn link_counted(&mut self, chain: &Chain, last: Place, back: Chain, len: u32) -> Place
         requires front { IsLive self.old chain.now }

@@ -195,7 +195,7 @@ impl Train {
         })
     }
 
-    /// Returns the place after one, or `None` after the last.
+    /// Returns the place after another, or `None` after the last.
     pub fn next(&self, pool: &Pool, at: QueuedPlace) -> Option<QueuedPlace>
         requires held { IsHeld pool.now self.now }
         requires place { IsQueuedPlace pool.now self.now at }

@@ -1,4 +1,4 @@
--- Blocks of a list: what a write over the list leaves of each.
+-- Blocks of a list after a write over the list.
 use Rattle.std.proofs.Common.{◌≡◌, ℕ, ◌+◌, ◌-◌, ◌<◌, ◌≤◌, ◌⊎◌, inl, inr, List, length, take, drop, get_or, sym, ap, ◌∙◌, arith, ext_get_or, length-drop, length-take-le, get_or-drop}
 use Rattle.std.proofs.lemmas.List.{get_or-take}
 use Rattle.std.proofs.lemmas.Bool.{cases_lt}
@@ -15,7 +15,7 @@ length_block xs a n fits = length-take-le n (drop a xs) (omega (arith, length-dr
 block_at : (xs : List ℕ) (a n k : ℕ) → k < n → get_or (block xs a n) k 0 ≡ get_or xs (a + k) 0
 block_at xs a n k lt = get_or-take n (drop a xs) k 0 lt ∙ get_or-drop a xs k 0
 
--- a block that lies apart from the write
+-- a block that doesn't overlap the write
 pub block_apart : (xs : List ℕ) (at : ℕ) (ws : List ℕ) (a n : ℕ) → at + length ws ≤ length xs → a + n ≤ length xs
     → (at + length ws ≤ a) ⊎ (a + n ≤ at) → block (over xs at ws) a n ≡ block xs a n
 block_apart xs at ws a n fits inside apart =
@@ -29,7 +29,7 @@ block_apart xs at ws a n fits inside apart =
     ]
     ∙ sym (block_at xs a n k (omega arith)))
 
--- a block that the write lies in
+-- a block that contains the write
 pub block_written : (xs : List ℕ) (a n s : ℕ) (ws : List ℕ) → a + n ≤ length xs → s + length ws ≤ n
     → block (over xs (a + s) ws) a n ≡ over (block xs a n) s ws
 block_written xs a n s ws inside fits =

@@ -1,4 +1,4 @@
--- How a store is booted: all of it is handed out, and then given back.
+-- Booting a store: everything is in use at first, and is then freed.
 use Rattle.std.proofs.Common.{◌≡◌, ℕ, ◌<◌, ◌≤◌, ◌==◌, IsTrue, cond, None, is_some, List, [], length, replicate, slice_index, slice_index_or, refl, sym, ap, ◌∙◌, subst, arith, ext_get_or}
 use Rattle.std.proofs.lemmas.List.{length-replicate, get_or-replicate}
 use Rattle.raw_cells.specs.Cells.{Cells, zero_cells, zero_head}
@@ -37,7 +37,7 @@ module _ (z : Sizes) (r : Cells) (counts : List ℕ) (some : 0 < z.mbufs) (most 
     counted = λ c lt. count_at r counts [] c (omega (arith, clusters_are)) ∙ one_at c lt;
   }
 
--- the mbufs below k are still out, and each cluster is held once
+-- the mbufs below k are still in use, and each cluster has one reference
 pub record MbufsLeft (z : Sizes) (s : StoreView) (k : ℕ) : Type 0 where
   pub mbufs : length s.mbufs ≡ z.mbufs
   pub below : (i : ℕ) → i < k → IsTrue (is_out s i)
@@ -45,7 +45,7 @@ pub record MbufsLeft (z : Sizes) (s : StoreView) (k : ℕ) : Type 0 where
   pub clusters : length s.clusters ≡ z.clusters
   pub counted : (c : ℕ) → c < z.clusters → cluster_count s c ≡ 1
 
--- all mbufs are free, and the clusters below k are still held
+-- all mbufs are free, and the clusters below k still have one reference
 pub record ClustersLeft (z : Sizes) (s : StoreView) (k : ℕ) : Type 0 where
   pub mbufs : s.mbufs ≡ replicate z.mbufs None
   pub clusters : length s.clusters ≡ z.clusters

@@ -1,4 +1,4 @@
--- What a change of the region leaves of each mbuf and cluster, and what the store shows then.
+-- Each mbuf and cluster after a change of the region, and the view of the store then.
 use Rattle.std.proofs.Common.{◌≡◌, ◌≢◌, ℕ, ◌+◌, ◌*◌, ◌<◌, ◌≤◌, List, length, take, drop, refl, sym, ap, ◌∙◌, arith, inl, inr}
 use Rattle.std.proofs.lemmas.Bool.{cases_lt}
 use Rattle.std.proofs.lemmas.List.{length-set, get_or-set_same, get_or-set_other}
@@ -11,8 +11,8 @@ use Rattle.mbuf_pool.specs.Inside.Link.{link_in}
 use Rattle.mbuf_pool.specs.Inside.Fields.{mbuf_bytes, cluster_bytes, next_cluster}
 use Rattle.mbuf_pool.proofs.Blocks.{block, block_apart, block_written}
 
--- ---- two regions of which one mbuf, or one cluster, differs
--- every mbuf but i, and every cluster, is the same
+-- ---- two regions that differ in one mbuf or in one cluster
+-- every mbuf except i, and every cluster, is the same
 pub record SameButMbuf (r t : Cells) (i : ℕ) : Type 0 where
   pub count : length t.heads ≡ length r.heads
   pub clusters : t.clusters ≡ r.clusters
@@ -21,7 +21,7 @@ pub record SameButMbuf (r t : Cells) (i : ℕ) : Type 0 where
   pub all_clusters : (c : ℕ) → c < r.clusters → cluster_bytes t c ≡ cluster_bytes r c
   pub links : (c : ℕ) → c < r.clusters → next_cluster t c ≡ next_cluster r c
 
--- every mbuf, and every cluster but c, is the same
+-- every mbuf, and every cluster except c, is the same
 pub record SameButCluster (r t : Cells) (c : ℕ) : Type 0 where
   pub heads : t.heads ≡ r.heads
   pub clusters : t.clusters ≡ r.clusters

@@ -1,4 +1,4 @@
--- What each call that changes a store leaves.
+-- The store after each call that changes it.
 use Rattle.std.proofs.Common.{◌≡◌, ℕ, zero, suc, ◌+◌, ◌-◌, ◌*◌, ◌<◌, ◌≤◌, ◌==◌, IsTrue, cond, if◌then◌else◌, Option, None, Some, List, [], ◌∷◌, length, take, drop, slice_index, slice_set, slice_get, refl, sym, ap, ◌∙◌, subst, arith, take_all}
 use Rattle.std.proofs.lemmas.Bool.{eq-eqb, ne_eqb}
 use Rattle.std.proofs.lemmas.List.{length-set, length-take, get_or-set_same, set-get_or}
@@ -24,7 +24,7 @@ use Rattle.mbuf_pool.proofs.Steps.{Leaves, mbuf_step, cluster_step}
 use Rattle.mbuf_pool.proofs.Links.{length-link_bytes, link_back}
 use Rattle.mbuf_pool.proofs.Reading.{shown_as, index_is, out_here, mbuf_is, head_is, cluster_is, cluster_index_is, count_is, counts_are, read_is}
 
--- what is accounted for is a store
+-- the view after a step satisfies `IsStore`
 pub leaves_store : {r : Cells} {counts : List ℕ} {f : Option ℕ} {m : ℕ} {cf : Option ℕ} {cm : ℕ} {v : StoreView}
     → Leaves r counts f m cf cm v → IsStore (seen_in r counts f)
 leaves_store {r} {counts} {f} {m} {cf} {cm} {v} h =
@@ -32,7 +32,7 @@ leaves_store {r} {counts} {f} {m} {cf} {cm} {v} h =
     h.account in subst IsStore (sym (seen_is r counts f m cf cm a.0 a.1 a.2))
     (is_store r counts f m cf cm a.0 a.1 a.2)
 
--- the same with another name for what is free first
+-- the same for an equal first free mbuf
 pub first_is : {r : Cells} {counts : List ℕ} {f g : Option ℕ} {m : ℕ} {cf : Option ℕ} {cm : ℕ} {v : StoreView} → g ≡ f
     → Leaves r counts f m cf cm v → Leaves r counts g m cf cm v
 first_is {r} {counts} {f} {g} {m} {cf} {cm} {v} is = subst (λ (x : Option ℕ). Leaves r counts x m cf cm v) (sym is)
@@ -42,7 +42,7 @@ pub first_cluster_is : {r : Cells} {counts : List ℕ} {f : Option ℕ} {m : ℕ
 first_cluster_is {r} {counts} {f} {m} {cf} {cg} {cm} {v} is =
     subst (λ (x : Option ℕ). Leaves r counts f m x cm v) (sym is)
 
--- a new head leaves the number of mbufs
+-- a new head leaves the number of mbufs unchanged
 pub head_count : (r t : Cells) (i : ℕ) (h : Head) → cells.SetsCellHead r t i h → length t.heads ≡ length r.heads
 head_count r t i h sets = ap (λ (x : Cells). length x.heads) sets.2 ∙ length-set r.heads i h
 
@@ -51,7 +51,7 @@ seen_out : (r : Cells) (free : List ℕ) (i : ℕ) → times_listed i free ≡ 0
 seen_out r free i e =
     yes_zero (times_listed i free) (Some (record { head = cells.cell_head r i; bytes = mbuf_bytes r i })) None e
 
--- a region is as it was
+-- an unchanged region
 same_region : (r : Cells) (c : ℕ) → SameButCluster r r c
 same_region r c =
     record {
@@ -133,9 +133,9 @@ module _ (r : Cells) (counts : List ℕ) (f : Option ℕ) (m : ℕ) (cm : ℕ) (
       length_block r.bytes (128 * length r.heads + 2048 * c) 2048
       (omega (arith, ok.sized.block, ok.cluster_list.linked.1))
 
--- ---- what is in use
+-- ---- mbufs and clusters in use
 module _ (s : Inside) (v : StoreView) (a : IsInside s) (e : store_of s ≡ v) where
-  -- an mbuf is put back
+  -- an mbuf is freed
   pub put_back : (i : ℕ) (h : Head) (t : Cells) → IsTrue (is_out v i) → h.next ≡ s.first_mbuf
       → cells.SetsCellHead s.region t i h
       → Leaves t s.counts.items (Some i) (s.free_mbufs + 1) s.first_cluster s.free_clusters (with_mbuf v i None)
@@ -217,7 +217,7 @@ module _ (s : Inside) (v : StoreView) (a : IsInside s) (e : store_of s ≡ v) wh
       ((λ j. record { count = count_here j; bytes = if count_here j == 0 then [] else cluster_bytes t c })
       ∙ ap (λ (bs : List ℕ). record { count = x; bytes = bs }) (not_zero x [] (cluster_bytes t c) above)) leaves
 
-  -- one more holds a cluster
+  -- a cluster gets one more reference
   pub hold_more : (c x : ℕ) → 0 < cluster_count v c → x ≡ cluster_count v c
       → Leaves s.region (slice_set s.counts.items c (x + 1)) s.first_mbuf s.free_mbufs s.first_cluster s.free_clusters
       (with_cluster v c (held_once_more (cluster_of v c)))
@@ -230,7 +230,7 @@ module _ (s : Inside) (v : StoreView) (a : IsInside s) (e : store_of s ≡ v) wh
       })
       (counted_as c (x + 1) s.region counted (omega arith) (same_region s.region c) a.1.2.sized)
 
-  -- one less does, and it stays in use
+  -- a cluster loses a reference and stays in use
   pub hold_less : (c x : ℕ) → 0 < cluster_count v c → x + 1 ≡ cluster_count v c → 0 < x
       → Leaves s.region (slice_set s.counts.items c x) s.first_mbuf s.free_mbufs s.first_cluster s.free_clusters
       (with_cluster v c (released (cluster_of v c)))
@@ -246,7 +246,7 @@ module _ (s : Inside) (v : StoreView) (a : IsInside s) (e : store_of s ≡ v) wh
       (ne_eqb (cluster_count v c) 1 (λ q. absurd (omega arith)))))
       (counted_as c x s.region counted above (same_region s.region c) a.1.2.sized)
 
-  -- a cluster is given back
+  -- a cluster loses its last reference and is free
   pub give_back : (c : ℕ) (t : Cells) → cluster_count v c ≡ 1
       → t ≡ cells.cells_written s.region (link_part c) (link_bytes s.first_cluster)
       → Leaves t (slice_set s.counts.items c 0) s.first_mbuf s.free_mbufs (Some c) (s.free_clusters + 1)
@@ -361,7 +361,7 @@ module _ (s : Inside) (v : StoreView) (a : IsInside s) (e : store_of s ≡ v) wh
       (sym (is ∙ ap (cells.cells_written s.region q) (read_is s v a e p.buffer p.start p.len from)))
       (written q.buffer q.start q.len (stored_part v p) to)
 
-  -- ---- what is free first is taken
+  -- ---- the first free mbuf or cluster is allocated
   pub first_index : (i : ℕ) → s.first_mbuf ≡ Some i → i < length s.region.heads
   first_index i first =
       (first_free (next_mbuf s.region) (length s.region.heads) i s.free_mbufs a.1.0

@@ -6,7 +6,7 @@ use Rattle.std.proofs.lemmas.List.Sums.{sum_by-cons}
 use Rattle.std.proofs.lemmas.Option.{none-some, same_Some}
 use Rattle.mbuf_pool.specs.Inside.FreeList.{times_listed, walk_free, AreLinkedPlaces, IsFreeList}
 
--- ---- how often a place stands in a list
+-- ---- how often a place is in a list
 pub times-here : (k : ℕ) (xs : List ℕ) → times_listed k (k ∷ xs) ≡ suc (times_listed k xs)
 times-here k xs = ap (λ b. cond {A = ℕ} b 1 0 + times_listed k xs) (eq-eqb k k refl) ∙ omega arith
 
@@ -14,7 +14,7 @@ pub times-there : (k x : ℕ) (xs : List ℕ) → x ≢ k → times_listed k (x 
 times-there k x xs ne = ap (λ b. cond {A = ℕ} b 1 0 + times_listed k xs) (ne_eqb x k ne) ∙ omega arith
 
 -- ---- the links
--- the links stay where the next of each place in the list does
+-- the links stay valid if no place in the list gets another next one
 pub links_kept : (f g : ℕ → Option ℕ) (n : ℕ) (at : Option ℕ) (l : List ℕ)
     → ((k : ℕ) → k < n → 0 < times_listed k l → g k ≡ f k) → AreLinkedPlaces f n at l → AreLinkedPlaces g n at l
 links_kept f g n at [] kept h = h
@@ -26,7 +26,7 @@ links_kept f g n at (x ∷ xs) kept h =
           (links_kept f g n (f x) xs (λ k lt p. kept k lt (omega arith)) h.2),
     )
 
--- the walk along the links gives the list
+-- following the links yields the list
 pub walk_is : (next : ℕ → Option ℕ) (places n : ℕ) (at : Option ℕ) (l : List ℕ) → AreLinkedPlaces next places at l
     → length l ≤ n → walk_free next n at ≡ l
 walk_is next places n at [] h le = ap (walk_free next n) h
@@ -34,7 +34,7 @@ walk_is next places zero at (x ∷ xs) h le = absurd (omega arith)
 walk_is next places (suc n) at (x ∷ xs) h le =
     ap (walk_free next (suc n)) h.0 ∙ ap (λ (l : List ℕ). x ∷ l) (walk_is next places n (next x) xs h.2 (omega arith))
 
--- ---- how many there are
+-- ---- the length of a free list
 -- the sum of f over n places from a on
 abbrev pub over_places : ℕ → ℕ → (ℕ → ℕ) → ℕ
 over_places a zero f = 0
@@ -69,7 +69,7 @@ places_one x a (suc n) low high =
           omega (arith, places_one x (a + 1) n (omega arith) (omega arith))
     ]
 
--- a linked list is as long as the sum over all places of how often each stands in it
+-- the length of a linked list is the sum over all places of how often it contains each
 all_times : (next : ℕ → Option ℕ) (n : ℕ) (at : Option ℕ) (l : List ℕ) → AreLinkedPlaces next n at l
     → over_places 0 n (λ k. times_listed k l) ≡ length l
 all_times next n at [] h = places_zero 0 n (λ k. 0) (λ k le. refl)
@@ -84,7 +84,7 @@ counted p f a (suc n) =
     sum_by-cons (λ x. cond {A = ℕ} (p x) 1 0) (f a) (map f (range_with_len (a + 1) n))
     ∙ ap (λ m. cond {A = ℕ} (p (f a)) 1 0 + m) (counted p f (a + 1) n)
 
--- where each place is counted as often as it stands in a linked list, the count is the list's length
+-- if each place is counted as often as a linked list contains it, the count is the list's length
 pub count_free : {X : Type 0} (p : X → Bool) (f : ℕ → X) (next : ℕ → Option ℕ) (n : ℕ) (at : Option ℕ) (l : List ℕ)
     → AreLinkedPlaces next n at l
     → ((k : ℕ) → k < n → cond {A = ℕ} (p (f k)) 1 0 ≡ times_listed k l)
@@ -93,7 +93,7 @@ count_free p f next n at l linked each =
     counted p f 0 n ∙ places_same 0 n (λ k. cond (p (f k)) 1 0) (λ k. times_listed k l) (λ k lt. each k (omega arith))
     ∙ all_times next n at l linked
 
--- a linked list with no place twice is at most as long as there are places
+-- a linked list with no place twice isn't longer than the number of places
 pub few_free : (next : ℕ → Option ℕ) (n : ℕ) (at : Option ℕ) (l : List ℕ) → AreLinkedPlaces next n at l
     → ((k : ℕ) → times_listed k l ≤ 1) → length l ≤ n
 few_free next n at l linked once = omega (arith, all_times next n at l linked, small 0 n)
@@ -104,7 +104,7 @@ few_free next n at l linked once = omega (arith, all_times next n at l linked, s
 
 -- ---- steps of a free list
 module _ (next : ℕ → Option ℕ) (places : ℕ) where
-  -- what is free first
+  -- the first free place is the head of the list
   pub first_free : (k number : ℕ) (free : List ℕ) → IsFreeList next places (Some k) number free
       → (rest : List ℕ) × (free ≡ k ∷ rest) × (k < places)
   first_free k number [] h = absurd (none-some k (sym h.linked))
@@ -112,12 +112,12 @@ module _ (next : ℕ → Option ℕ) (places : ℕ) where
       let same : k ≡ x = same_Some k x h.linked.0 in
       (xs, ap (λ (y : ℕ). y ∷ xs) (sym same), subst (λ (y : ℕ). y < places) (sym same) h.linked.1)
 
-  -- where there is no first, nothing is free
+  -- if there is no first place, nothing is free
   pub none_free : (number : ℕ) (free : List ℕ) → IsFreeList next places None number free → number ≡ 0
   none_free number [] h = h.size
   none_free number (x ∷ xs) h = absurd (none-some x h.linked.0)
 
-  -- the first one is taken
+  -- the first place is removed
   pub list_taken : (g : ℕ → Option ℕ) (k number : ℕ) (rest : List ℕ) → IsFreeList next places (Some k) number (k ∷ rest)
       → ((j : ℕ) → j < places → j ≢ k → g j ≡ next j)
       → IsFreeList g places (next k) (number - 1) rest
@@ -131,7 +131,7 @@ module _ (next : ℕ → Option ℕ) (places : ℕ) where
         size = omega (arith, h.size);
       }
 
-  -- one is put in front
+  -- a place is added at the front
   pub list_put : (g : ℕ → Option ℕ) (first : Option ℕ) (k number : ℕ) (free : List ℕ)
       → IsFreeList next places first number free → k < places → times_listed k free ≡ 0 → g k ≡ first
       → ((j : ℕ) → j < places → j ≢ k → g j ≡ next j) → IsFreeList g places (Some k) (number + 1) (k ∷ free)

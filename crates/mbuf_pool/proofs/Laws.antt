@@ -12,7 +12,7 @@ use Rattle.raw_cells.proofs.Laws.{head_size_le}
 use Rattle.mbuf_pool.proofs.Reading.{some_or_none}
 use Rattle.mbuf_pool.specs.Store.{MbufView, ClusterView, StoreView, no_mbuf, free_cluster, is_out, mbuf_of, mbuf_head, cluster_of, cluster_count, free_mbufs, mbufs_out, held_once_more, released, with_mbuf, with_cluster, IsStore, TakesCluster, SetsHead}
 
--- ---- one mbuf, or one cluster, in place of another
+-- ---- another value for one mbuf, or for one cluster
 pub mbuf_here : (s : StoreView) (i : ℕ) (m : Option MbufView) → i < length s.mbufs
     → slice_index_or (with_mbuf s i m).mbufs i None ≡ m
 mbuf_here s i m lt = get_or-set_same s.mbufs i m None lt
@@ -21,7 +21,7 @@ pub cluster_here : (s : StoreView) (c : ℕ) (v : ClusterView) → c < length s.
     → cluster_of (with_cluster s c v) c ≡ v
 cluster_here s c v lt = get_or-set_same s.clusters c v free_cluster lt
 
--- ---- what is in use is there
+-- ---- an mbuf or cluster in use is one of the store's
 pub out_within : (s : StoreView) (i : ℕ) → IsTrue (is_out s i) → i < length s.mbufs
 out_within s i out = elim (cases_lt i (length s.mbufs)) [
   | inl lt ↦ lt
@@ -41,7 +41,7 @@ set_back [] c v w is = absurd (none-some w is)
 set_back (x ∷ xs) zero v w is = ap (λ (y : ClusterView). y ∷ xs) (sym (same_Some x w is))
 set_back (x ∷ xs) (suc c) v w is = ap (λ (l : List ClusterView). x ∷ l) (set_back xs c v w is)
 
--- given back, it leaves all as it was
+-- releasing it restores the store
 pub taken_back : (old new : StoreView) (c : ℕ) → TakesCluster old new c
     → with_cluster new c (released (cluster_of new c)) ≡ old
 taken_back old new c h =
@@ -72,7 +72,7 @@ count_released s c counted =
     ap (λ (v : ClusterView). v.count + 1) (cluster_here s c (released (cluster_of s c)) (counted_within s c counted))
     ∙ one_less
 
--- ---- where nothing is free
+-- ---- no mbuf, or no cluster, is free
 pub free_or_out : (s : StoreView) → free_mbufs s + mbufs_out s ≡ length s.mbufs
 free_or_out s = some_or_none s.mbufs
 
@@ -122,7 +122,7 @@ sets_head s t i h out sets =
     ∙ ap (λ (m : Option MbufView). (unwrap_or m no_mbuf).head)
     (mbuf_here s i (Some (record { head = h; bytes = over (mbuf_of s i).bytes 0 sets.0 })) (out_within s i out))
 
--- a head that takes no fewer bytes than the one before it is set as if that had not been
+-- if the second of two new heads isn't shorter, the result is the same as without the first
 pub sets_twice : (s t u : StoreView) (i : ℕ) (h g : Head) → IsTrue (is_out s i) → IsStore s → head_size h ≤ head_size g
     → SetsHead s t i h → SetsHead t u i g → SetsHead s u i g
 sets_twice s t u i h g out store more first later =

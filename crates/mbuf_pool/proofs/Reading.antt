@@ -1,4 +1,4 @@
--- What the calls that change nothing give.
+-- The results of the calls that change nothing.
 use Rattle.std.proofs.Common.{◌≡◌, ℕ, ◌+◌, ◌*◌, ◌<◌, ◌≤◌, IsTrue, cond, Option, None, Some, is_some, is_none, List, [], ◌∷◌, length, take, drop, count_by, slice_index, slice_index_or, refl, sym, ap, ◌∙◌, subst, arith}
 use Rattle.std.proofs.lemmas.Grind.{get_or_default_zero}
 use Rattle.std.proofs.lemmas.List.Sums.{sum_by-cons}
@@ -14,7 +14,7 @@ use Rattle.mbuf_pool.proofs.FreeList.{first_free, few_free}
 use Rattle.mbuf_pool.proofs.Blocks.{block_part}
 use Rattle.mbuf_pool.proofs.Shown.{seen_is, mbufs_long, clusters_long, is_store, mbufs_free, clusters_free, out_within, out_mbuf, counted_within, counted_cluster, count_at}
 
--- each is there or is not
+-- each entry is `None` or `Some`
 pub some_or_none : {X : Type 0} (xs : List (Option X)) → count_by is_none xs + count_by is_some xs ≡ length xs
 some_or_none [] = refl
 some_or_none (None ∷ xs) =
@@ -97,7 +97,7 @@ module _ (s : Inside) (v : StoreView) (a : IsInside s) (e : store_of s ≡ v) wh
       ap (λ (w : StoreView). cluster_of w c) (sym shown_as)
       ∙ counted_cluster s.region s.counts.items a.1.0 c (counted_here c h)
 
-  -- what is a part of the store is one of the region
+  -- a room of the store is a room of the region
   pub room_is : (b : Buffer) (at n : ℕ) → IsRoom v b at n → cells.IsCellRoom s.region b at n
   room_is (Mbuf i) at n h =
       let same = sym (head_is i h.0) in (
@@ -108,7 +108,7 @@ module _ (s : Inside) (v : StoreView) (a : IsInside s) (e : store_of s ≡ v) wh
       )
   room_is (Cluster c) at n h = (cluster_index_is c h.0, h.1)
 
-  -- and reads the same
+  -- it has the same bytes in both
   pub read_is : (b : Buffer) (at n : ℕ) → IsRoom v b at n
       → take n (drop (cells.origin s.region b + at) s.region.bytes) ≡ take n (drop at (bytes_in v b))
   read_is (Mbuf i) at n h =
@@ -121,7 +121,7 @@ module _ (s : Inside) (v : StoreView) (a : IsInside s) (e : store_of s ≡ v) wh
       (omega (arith, a.1.2.sized.block)) h.1)
       ∙ ap (λ (x : ClusterView). take n (drop at x.bytes)) (sym (cluster_is c h.0))
 
-  -- the count that stands for a cluster in use
+  -- a cluster in use has an entry in the list of counts
   pub counted_index : (c : ℕ) → 0 < cluster_count v c → c < length s.counts.items
   counted_index c h = omega (arith, cluster_index_is c h, a.1.2.counts_long)
 
@@ -131,7 +131,7 @@ module _ (s : Inside) (v : StoreView) (a : IsInside s) (e : store_of s ≡ v) wh
       ∙ count_is c (omega (arith, counted_index c h, counts_are))
 
 module _ (s : Inside) (a : IsInside s) where
-  -- the first free mbuf can be linked to
+  -- a link to the first free mbuf can be stored
   pub first_links : cells.IsLink s.first_mbuf
   first_links = go s.first_mbuf a.1.2.mbuf_list
     where

@@ -1,4 +1,4 @@
--- What a store shows of each mbuf and cluster.
+-- The view of each mbuf and cluster of a store.
 use Rattle.std.proofs.Common.{◌≡◌, ◌≢◌, ℕ, zero, suc, ◌+◌, ◌*◌, ◌<◌, ◌≤◌, ◌==◌, IsTrue, cond, if◌then◌else◌, Option, None, Some, is_some, is_none, List, [], ◌∷◌, length, map, slice_index, slice_index_or, slice_set, get_or, refl, sym, ap, ◌∙◌, subst, arith, inl, inr}
 use Rattle.std.specs.List.{range_with_len}
 use Rattle.std.proofs.lemmas.Bool.{cases_eq, cases_lt, eq-eqb, ne_eqb, false≢true}
@@ -12,7 +12,7 @@ use Rattle.mbuf_pool.specs.Inside.Fields.{mbuf_bytes, cluster_bytes, next_mbuf, 
 use Rattle.mbuf_pool.proofs.FreeList.{walk_is, few_free, count_free}
 use Rattle.mbuf_pool.proofs.Blocks.{length_block}
 
--- ---- lists of what is at each place
+-- ---- lists with one element for each place
 module _ {X : Type 0} (n : ℕ) (f g : ℕ → X) where
   -- one place differs
   pub places_set : (i : ℕ) (x : X) → i < n → g i ≡ x → ((k : ℕ) → k < n → k ≢ i → g k ≡ f k)
@@ -27,7 +27,7 @@ module _ {X : Type 0} (n : ℕ) (f g : ℕ → X) where
             ∙ sym (others k below ne)
       ]))
 
-  -- none does
+  -- no place differs
   pub places_same : ((k : ℕ) → k < n → g k ≡ f k) → map g (range_with_len 0 n) ≡ map f (range_with_len 0 n)
   places_same same = go 0 n (λ k lt. same k (omega arith))
     where
@@ -61,7 +61,7 @@ module _ (r : Cells) (counts free : List ℕ) where
       get_or_past (store_with r counts free).clusters c free_cluster
       (omega (arith, length-map-range_with_len (cluster_seen r counts) 0 r.clusters))
 
-  -- an mbuf that is out stands in no free list
+  -- an mbuf that isn't in the free list is in use
   pub mbuf_out : (i : ℕ) → i < length r.heads → times_listed i free ≡ 0
       → slice_index_or (store_with r counts free).mbufs i None
       ≡ Some (record { head = cells.cell_head r i; bytes = mbuf_bytes r i })
@@ -104,7 +104,7 @@ module _ (r : Cells) (counts free : List ℕ) where
     | inr ge ↦ absurd (omega (arith, ap (λ (v : ClusterView). v.count) (cluster_past c ge)))
   ]
 
-  -- a cluster that is counted shows its bytes
+  -- the count and the bytes of a cluster in use
   pub counted_cluster : (c : ℕ) → 0 < cluster_count (store_with r counts free) c
       → cluster_of (store_with r counts free) c ≡ record { count = slice_index counts c; bytes = cluster_bytes r c }
   counted_cluster c h =
@@ -116,7 +116,7 @@ module _ (r : Cells) (counts free : List ℕ) where
 -- ---- a store that is sound
 module _ (r : Cells) (counts : List ℕ) (f : Option ℕ) (m : ℕ) (cf : Option ℕ) (cm : ℕ) (free cfree : List ℕ)
     (ok : IsSound r counts f m cf cm free cfree) where
-  -- what is seen is what the lists say
+  -- the view by the links is the view by the list of free mbufs
   pub seen_is : seen_in r counts f ≡ store_with r counts free
   seen_is =
       ap (store_with r counts) (walk_is (next_mbuf r) (length r.heads) (length r.heads) f free ok.mbuf_list.linked

@@ -1,4 +1,4 @@
--- What a change does to the account of free mbufs and clusters, and to what is shown.
+-- The free lists and the view of a store after a change.
 use Rattle.std.proofs.Common.{◌≡◌, ◌≢◌, ℕ, ◌<◌, ◌==◌, cond, if◌then◌else◌, Option, None, Some, List, [], length, map, slice_index, slice_index_or, slice_set, refl, sym, ap, ◌∙◌, subst, arith, inl, inr}
 use Rattle.std.specs.List.{range_with_len}
 use Rattle.std.proofs.lemmas.Bool.{cases_eq}
@@ -12,7 +12,7 @@ use Rattle.mbuf_pool.proofs.FreeList.{list_kept}
 use Rattle.mbuf_pool.proofs.Shown.{places_set, places_same, seen_is}
 use Rattle.mbuf_pool.proofs.Changes.{SameButMbuf, SameButCluster}
 
--- what a step leaves: an account, and what is seen
+-- the state after a step: its accounts are sound, and its view is v
 pub record Leaves (t : Cells) (counts : List ℕ) (f : Option ℕ) (m : ℕ) (cf : Option ℕ) (cm : ℕ) (v : StoreView) : Type 0
   where
     pub account : IsAccount t counts f m cf cm
@@ -20,7 +20,7 @@ pub record Leaves (t : Cells) (counts : List ℕ) (f : Option ℕ) (m : ℕ) (cf
 
 module _ (r : Cells) (counts : List ℕ) (f : Option ℕ) (m : ℕ) (cf : Option ℕ) (cm : ℕ) (free cfree : List ℕ)
     (ok : IsSound r counts f m cf cm free cfree) where
-  -- one mbuf changes, or is taken or put
+  -- one mbuf changes, is allocated or is freed
   pub mbuf_step : (t : Cells) (i : ℕ) (g : Option ℕ) (n : ℕ) (new : List ℕ) (v : StoreView) → i < length r.heads
       → SameButMbuf r t i → IsSized t → IsFreeList (next_mbuf t) (length r.heads) g n new
       → ((k : ℕ) → k ≢ i → times_listed k new ≡ times_listed k free) → store_with r counts free ≡ v
@@ -58,7 +58,7 @@ module _ (r : Cells) (counts : List ℕ) (f : Option ℕ) (m : ℕ) (cf : Option
             ∙ ap (λ (w : StoreView). with_mbuf w i (mbuf_seen t new i)) is;
       }
 
-  -- one cluster changes, or is taken, counted or released
+  -- one cluster changes, is allocated, or gets another count
   pub cluster_step : (t : Cells) (c x : ℕ) (g : Option ℕ) (n : ℕ) (new : List ℕ) (v : StoreView) → c < r.clusters
       → SameButCluster r t c → IsSized t → IsFreeList (next_cluster t) r.clusters g n new
       → ((k : ℕ) → k ≢ c → times_listed k new ≡ times_listed k cfree) → times_listed c new ≡ cond (x == 0) 1 0

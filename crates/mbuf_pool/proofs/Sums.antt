@@ -1,4 +1,4 @@
--- A walk over the clusters: the sum of their counts, and the greatest, with one more.
+-- A walk over the clusters: the sum and the maximum of their counts, after one more cluster.
 use Rattle.std.proofs.Common.{◌≡◌, ℕ, zero, suc, ◌+◌, List, [], ◌∷◌, ◌++◌, ap, ◌∙◌, arith}
 use Rattle.std.specs.Prelude.{map, sum, fold, max}
 use Rattle.std.specs.List.{range_with_len}

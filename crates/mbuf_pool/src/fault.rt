@@ -9,7 +9,7 @@ pub struct NoBufs;
 /// Why a store could not be booted.
 #[derive(Clone, Copy, Debug, PartialEq, Eq, Error)]
 pub enum BootFault {
-    /// The host refused an allocation.
+    /// An allocation of host memory failed.
     #[error("no memory")]
     Memory,
     /// The sizes are out of range for a store.

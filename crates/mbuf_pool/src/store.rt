@@ -292,7 +292,7 @@ impl Store {
         self.region.change_head(index, change);
     }
 
-    /// Returns the bytes of a part, without copying. The part must lie in a cluster whose count is above 0, or after
+    /// Returns the bytes of a part, without copying. The part must be in a cluster whose count is above 0, or after
     /// the head of an mbuf that is in use and refers to no cluster.
     #[inline(always)]
     pub fn bytes(&self, part: Part) -> &[u8]

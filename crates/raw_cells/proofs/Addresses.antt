@@ -61,16 +61,16 @@ address_made 𝓛 a =
     makes_shadow 𝓛 (A.the_row.own_val a (address_val a.ptr ∷ [])) (λ vss. (tt, (tt, tt)))
     ((ptr_val a.ptr ∷ [], tt), (refl, (refl, tt)))
 
--- ---- what a block is taken as
+-- ---- the parts of an allocated block
 module _ (Z : RattleType) (g : Ghosts Z.Denot) where
-  -- its address, its bytes, and the right to give it back
+  -- its address, its bytes, and the right to free it
   abbrev pub Parts : RattleType
   Parts = Tuple (A.the_row ∷ B.the_row ∷ D.the_row Z g ∷ [])
 
   abbrev pub parts_val : Ptr → Val
   parts_val p = vstruct (vcons (address_val p) (vcons bytes_val (vcons deed_val vnil)))
 
-  -- as they are where nothing was written yet
+  -- the parts of a block to which nothing was written yet
   abbrev pub new_parts : Ptr → ℕ → Z.Denot → Parts.Denot
   new_parts p len owner = (
     record { ptr = p },
@@ -78,8 +78,8 @@ module _ (Z : RattleType) (g : Ghosts Z.Denot) where
     record { mark = record {}; alloc = owner; at = p; len = len },
   )
 
-  -- room for a block and the token by which it is given back are these parts: from the last to the first, each is put
-  -- together and set before those after it
+  -- The memory of a block and the token for freeing it make up these parts. The proof builds them from the last to the
+  -- first.
   pub parts_made : {M : Type 1} {𝓤 : Ura M} (𝓛 : Logic 𝓤) (b o len : ℕ) (owner : Z.Denot) → len < 2 ^ 63
       → ent 𝓤 (sep 𝓤 (sem 𝓛 (froom (block_type len) b o))
       (sem 𝓛 (g.dealloc_token owner (block_type len) (block_ptr b o)))) (sem 𝓛
@@ -104,7 +104,7 @@ module _ (Z : RattleType) (g : Ghosts Z.Denot) where
       ((new_parts p len owner).0, ((new_parts p len owner).1, ((new_parts p len owner).2, tt))) value)
       (address_val p ∷ [], (bytes_val ∷ [], (deed_val ∷ [], tt))) $ done !
 
--- ---- what is owned tells the machine value: the fields first, then the struct of them
+-- ---- the machine value from what is owned: the fields first, then the struct of them
 of_fields : (vs fields known : List Val) → fields ≡ known → vs ≡ vstruct (of_list (fields ++ [])) ∷ []
     → vs ≡ vstruct (of_list (known ++ [])) ∷ []
 of_fields vs fields known e is = subst (λ (ws : List Val). vs ≡ vstruct (of_list (ws ++ [])) ∷ []) e is

@@ -1,4 +1,4 @@
--- The fields that a head has or has not, as its flags tell them.
+-- The optional fields of a head, as its flags encode them.
 use Rattle.std.proofs.Common.{◌≡◌, ℕ, ◌+◌, ◌*◌, ◌/◌, ◌%◌, ◌==◌, Bool, true, false, if◌then◌else◌, Option, Some, None, is_some, unwrap_or, refl, ap, ◌∙◌}
 use Rattle.raw_cells.specs.declared.head.PacketHeader.{PacketHeader}
 
@@ -17,7 +17,7 @@ high_bit true false = refl
 high_bit false true = refl
 high_bit false false = refl
 
--- a packet header is read back
+-- decoding returns the packet header that was encoded
 pub packet_back : (o : Option PacketHeader) (k x y : ℕ) (d : PacketHeader) → k ≡ bit (is_some o)
     → x ≡ (unwrap_or o d).len → y ≡ (unwrap_or o d).arrival
     → (if k == 0 then None else Some (record { len = x; arrival = y })) ≡ o
@@ -26,7 +26,7 @@ packet_back (Some p) k x y d e ex ey =
     ap (λ j. if j == 0 then None else Some (record { len = x; arrival = y })) e
     ∙ (λ t. Some (record { len = ex t; arrival = ey t }))
 
--- a cluster's number is read back
+-- decoding returns the cluster number that was encoded
 pub cluster_back : (o : Option ℕ) (k x d : ℕ) → k ≡ bit (is_some o) → x ≡ unwrap_or o d
     → (if k == 0 then None else Some x) ≡ o
 cluster_back None k x d e ex = ap (λ j. if j == 0 then None else Some x) e

@@ -1,4 +1,4 @@
--- The heads that lie in the block.
+-- The heads that are encoded in the block.
 use Rattle.std.proofs.Common.{◌≡◌, ℕ, zero, suc, ◌+◌, ◌*◌, ◌/◌, ◌%◌, ◌==◌, ◌≤◌, ◌<◌, ◌⊎◌, inl, inr, Bool, true, false, if◌then◌else◌, Some, None, is_some, List, [], length, take, get_or, set, replicate, refl, sym, ap, ◌∙◌, subst, arith, lit≤, length-set, get_or-set_same, get_or-set_other, length-take-le}
 use Rattle.std.proofs.Math.Dec.{ltb}
 use Rattle.std.proofs.lemmas.Bool.{ltb-true, ltb-false}
@@ -62,7 +62,7 @@ if_else : {A : Type 0} (b : Bool) (z x y : A) → (b ≡ false → x ≡ y) → 
 if_else true z x y h = refl
 if_else false z x y h = h refl
 
--- what a head without the flag leaves out
+-- a head with a packet header has at least 28 bytes, one with a cluster at least 32
 size_28 : (a b : Bool) → b ≡ false → 28 ≤ (if a then (if b then 20 else 28) else 32)
 size_28 true b e = rw e (lit≤ tt)
 size_28 false b e = lit≤ tt
@@ -70,7 +70,7 @@ size_28 false b e = lit≤ tt
 size_32 : (a b : Bool) → a ≡ false → 32 ≤ (if a then (if b then 20 else 28) else 32)
 size_32 a b e = rw e (lit≤ tt)
 
--- a head is told by its own bytes
+-- two heads are equal if their own bytes are equal
 pub same_head : (xs ys : List ℕ) (o p : ℕ)
     → ((k : ℕ) → k < head_size (cell_head_in xs o) → get_or xs (o + k) 0 ≡ get_or ys (p + k) 0)
     → cell_head_in xs o ≡ cell_head_in ys p
@@ -111,7 +111,7 @@ same_head xs ys o p h =
     })
     ∙ ap (λ g. head_by ys p g) flags
 
--- a write apart from the heads leaves them
+-- a write outside all heads leaves them unchanged
 pub heads_kept : (n : ℕ) (bs : List ℕ) (at : ℕ) (ws : List ℕ) → at + length ws ≤ length bs
     → ((i k : ℕ) → i < n → k < head_size (cell_head_in bs (128 * i))
     → (128 * i + k < at) ⊎ (at + length ws ≤ 128 * i + k))
@@ -141,7 +141,7 @@ heads_new n m =
     (λ i lt. get_or-replicate n i zero_head zero_head lt ∙ sym (none_in (128 * i))
     ∙ same_head [] (replicate m 0) (128 * i) (128 * i) (λ k less. sym (zero_at m (128 * i + k)))))
 
--- by the test, which says which of the two holds
+-- a < b or b ≤ a, by the result of the test
 tested : (a b : ℕ) (is_less : Bool) → ltb a b ≡ is_less → (a < b) ⊎ (b ≤ a)
 tested a b true is = inl (ltb-true a b is)
 tested a b false is = inr (ltb-false a b is)
@@ -149,7 +149,7 @@ tested a b false is = inr (ltb-false a b is)
 pub less_or_at_least : (a b : ℕ) → (a < b) ⊎ (b ≤ a)
 less_or_at_least a b = tested a b (ltb a b) refl
 
--- two mbufs, or the room and the head of one, lie apart
+-- a head doesn't overlap the data area of any mbuf
 pub mbufs_apart : (bs : List ℕ) (n i j k s m : ℕ) → j < n → k < head_size (cell_head_in bs (128 * j))
     → head_size (cell_head_in bs (128 * i)) ≤ s → s + m ≤ 128
     → (128 * j + k < 128 * i + s) ⊎ (128 * i + s + m ≤ 128 * j + k)

@@ -1,4 +1,4 @@
--- Bytes that lie one after the other in memory, and room for more. Assumes `Logic`.
+-- Bytes that are stored one after the other in memory, and space for more. Assumes `Logic`.
 use Rattle.std.proofs.Common.{◌≡◌, ℕ, zero, suc, ◌+◌, ◌≤◌, List, [], ◌∷◌, ◌++◌, length, take, drop, refl, sym, ap, ◌∙◌, arith, w8, take-append-drop, length-take-le, length-drop}
 use Rattle.std.proofs.lemmas.List.{drop-drop}
 use seplogic.Ra.Ura.{Ura}
@@ -17,7 +17,7 @@ use denote.Plain.{uint_out}
 use denote.Steps.{nothing}
 use Rattle.raw_cells.specs.Inside.Memory.{block_type}
 
--- the bytes xs from the place o of the block b on
+-- the bytes xs, stored in block b from offset o on
 abbrev pub Lie : List ℕ → ℕ → ℕ → Fml
 Lie xs b o = cells (mem u8) xs b o
 
@@ -52,7 +52,7 @@ module _ {M : Type 1} {𝓤 : Ura M} (𝓛 : Logic 𝓤) (b : ℕ) where
       move ! (1 ∷ 0 ∷ []) $
       by ! (glue xs (x ∷ []) o at e)
 
-  -- bytes with the room after them are room
+  -- bytes and the space after them are space together
   pub as_room : (xs : List ℕ) (n o at : ℕ) → at ≡ o + length xs
       → ent 𝓤 (sep 𝓤 (sem 𝓛 (Lie xs b o)) (H.room (block_type n) b at)) (H.room (block_type (length xs + n)) b o)
   as_room [] n o at e =
@@ -74,7 +74,7 @@ module _ {M : Type 1} {𝓤 : Ura M} (𝓛 : Logic 𝓤) (b : ℕ) where
     abbrev pub run : List ℕ
     run = take n (drop from xs)
 
-    -- all but the run of n from the index from on
+    -- all bytes except the n bytes from index `from` on
     abbrev pub Around : Fml
     Around = fsep (Lie (take from xs) b o) (Lie (drop (from + n) xs) b (from + o + n))
 
@@ -121,7 +121,7 @@ module _ {M : Type 1} {𝓤 : Ura M} (𝓛 : Logic 𝓤) (b : ℕ) (κ : Lft) wh
   seen_first (suc n) [] o = id⊢ 𝓤 (sem 𝓛 (Seen [] o))
   seen_first (suc n) (x ∷ xs) o = mono_r 𝓤 (sem 𝓛 (shared_of u8 x b o κ)) (seen_first n xs (o + 1))
 
-  -- a run of bytes that are seen is seen
+  -- a run of readable bytes is readable
   pub run_seen : (xs : List ℕ) (o from n : ℕ) → from ≤ length xs
       → ent 𝓤 (sem 𝓛 (Seen xs o)) (sem 𝓛 (Seen (take n (drop from xs)) (from + o)))
   run_seen xs o from n le =

@@ -1,4 +1,4 @@
--- What a write over a list leaves of each of its places.
+-- Each element of a list after a write over it.
 use Rattle.std.proofs.Common.{◌≡◌, ℕ, ◌+◌, ◌-◌, ◌<◌, ◌≤◌, List, ◌++◌, length, take, drop, get_or, refl, ap, ◌∙◌, arith, length-append, length-drop, length-take-le, take_all, take_at, get_or-drop}
 use Rattle.std.proofs.lemmas.List.{get_or-take, get_or_append_left, get_or-append_right}
 use Rattle.raw_cells.specs.Over.{over}
@@ -14,7 +14,7 @@ module _ {X : Type 0} (xs : List X) (at : ℕ) (ws : List X) where
         length-drop (at + length ws) xs,
       )
 
-  -- a write is as long as the list
+  -- a write keeps the length of the list
   pub length_over : at ≤ length xs → length (over xs at ws) ≡ length xs
   length_over h = length-take-le (length xs) (take at xs ++ (ws ++ drop (at + length ws) xs)) (long_enough h)
 
@@ -22,7 +22,7 @@ module _ {X : Type 0} (xs : List X) (at : ℕ) (ws : List X) where
     front_long : length (take at xs) ≡ at
     front_long = length-take-le at xs (omega arith)
 
-    -- nothing is cut where all fits
+    -- nothing is cut if everything fits
     pub over_is : over xs at ws ≡ take at xs ++ (ws ++ drop (at + length ws) xs)
     over_is =
         take_all (length xs) (take at xs ++ (ws ++ drop (at + length ws) xs))

@@ -23,11 +23,11 @@ module _ (r : Inside) (is : IsRegion r) where
   within (Mbuf i) s n at = omega (arith, is.0, at.0, at.3, length-heads r.mbufs r.block)
   within (Cluster i) s n at = omega (arith, is.0, at.0, at.1, length-heads r.mbufs r.block)
 
-  -- a part lies in the block
+  -- a part is within the block
   pub part_within : (p : Part) → IsCellPart (cells_of r) p → place (cells_of r) p + p.len ≤ length r.block
   part_within p at = within p.buffer p.start p.len at
 
-  -- a room lies apart from all heads
+  -- a room doesn't overlap any head
   apart : (b : Buffer) (s n : ℕ) → IsCellRoom (cells_of r) b s n → (m : ℕ) → m ≤ n → (j k : ℕ) → j < r.mbufs
       → k < head_size (cell_head_in r.block (128 * j))
       → (128 * j + k < origin (cells_of r) b + s) ⊎ (origin (cells_of r) b + s + m ≤ 128 * j + k)
@@ -38,7 +38,7 @@ module _ (r : Inside) (is : IsRegion r) where
   apart (Cluster i) s n at m le j k lt less =
       inl (omega (arith, length-heads r.mbufs r.block, head_size_le (cell_head_in r.block (128 * j))))
 
-  -- a write to a part leaves the heads
+  -- a write to a part leaves the heads unchanged
   pub part_written : (p : Part) → IsCellPart (cells_of r) p → (ws : List ℕ)
       → cells_of (record r { block = over r.block (place (cells_of r) p) (take p.len ws) })
       ≡ cells_written (cells_of r) p ws

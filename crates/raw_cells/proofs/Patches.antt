@@ -1,4 +1,4 @@
--- A few bytes of a head written in place.
+-- Writing a few bytes of a head in place.
 use Rattle.std.proofs.Common.{◌≡◌, ℕ, ◌+◌, ◌-◌, ◌*◌, ◌/◌, ◌%◌, ◌==◌, ◌≤◌, ◌<◌, ◌⊎◌, inl, inr, Bool, true, false, if◌then◌else◌, Option, Some, None, is_some, option_map, List, length, take, drop, get_or, refl, sym, ap, ◌∙◌, subst, arith, lit≤, ext_get_or, length-take-le, length-drop, take_all, get_or-drop}
 use Rattle.std.specs.Prelude.{IsSome}
 use Rattle.std.proofs.lemmas.List.{get_or-take}
@@ -15,7 +15,7 @@ use Rattle.raw_cells.proofs.Heads.{length-heads, head_at, head_size_le, less_or_
 use Rattle.raw_cells.proofs.Parts.{region_sized}
 use Rattle.raw_cells.proofs.Laws.{sized_after_head}
 
--- the 32 bytes from o on, with w in place of those from k on
+-- the 32 bytes from offset o on, with w written over them from index k on
 abbrev pub patched : List ℕ → ℕ → ℕ → List ℕ → List ℕ
 patched bs o k w = over (take 32 (drop o bs)) k w
 
@@ -79,7 +79,7 @@ module _ (bs : List ℕ) (o k : ℕ) (w : List ℕ) (room : o + 32 ≤ length bs
       let d = in_byte (p + 3) (q + 3) (p + 3) (omega arith) (omega arith) refl in
       λ t. a t + b t * 0x100 + c t * 0x10000 + d t * 0x1000000
 
-  -- a write of the few is one of the first n, of which the others are as they were
+  -- writing only w has the same result as writing the first n patched bytes
   module _ (n : ℕ) (least : k + length w ≤ n) (most : n ≤ 32) where
     few_long : length (take n (patched bs o k w)) ≡ n
     few_long = length-take-le n (patched bs o k w) (omega (arith, patched_long))
@@ -290,7 +290,7 @@ pub packet_field : (h : Head) (f : PacketHeader → PacketHeader) (n : ℕ) → 
     → n ≤ head_size (record h { packet = option_map f h.packet })
 packet_field h f n few has = omega (arith, sized_packet h f has)
 
--- the same change by another name
+-- the same for an equal change
 pub sets_changed : (v t : Cells) (i : ℕ) (d e : Change) → d ≡ e → SetsCellHead v t i (changed (cell_head v i) e)
     → SetsCellHead v t i (changed (cell_head v i) d)
 sets_changed v t i d e is sets = subst (λ (x : Change). SetsCellHead v t i (changed (cell_head v i) x)) (sym is) sets
@@ -342,7 +342,7 @@ module _ (r : Inside) (is : IsRegion r) (v : Cells) (e : cells_of r ≡ v) (i : 
       let whole = take_all n ws (omega arith) in
       (length_over r.block at (take n ws) (omega (arith, field_room)) ∙ is.0, is.1, is.2, is.3)
 
--- the flags as they stand in the two bytes lent
+-- the flags are the same in the two bytes lent
 pub flags_read : (bs : List ℕ) (at : ℕ) (lent : List ℕ) → lent ≡ take 2 (drop at bs)
     → little_u16_at lent 0 ≡ little_u16_at bs at
 flags_read bs at lent is =

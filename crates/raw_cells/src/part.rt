@@ -9,7 +9,7 @@ pub enum Buffer {
     Cluster(u32),
 }
 
-/// A range of bytes in an mbuf or a cluster. In an mbuf it lies after the head.
+/// A range of bytes in an mbuf or a cluster. In an mbuf it is after the head.
 #[derive(Clone, Copy, Debug, PartialEq, Eq)]
 pub struct Part {
     /// The mbuf or cluster that contains the bytes.

@@ -129,7 +129,7 @@ impl Region {
         }
     }
 
-    /// Returns the bytes of a part, without copying. A part of an mbuf must lie after its head, and the mbuf must not
+    /// Returns the bytes of a part, without copying. A part of an mbuf must be after its head, and the mbuf must not
     /// refer to a cluster.
     #[inline(always)]
     pub fn bytes(&self, part: Part) -> &[u8]
@@ -157,7 +157,7 @@ impl Region {
         self.block.slice_mut(at, part.len as usize)
     }
 
-    /// Copies the bytes of `from` over those of `to`, a part of the same length, as `memmove` does: the parts may
+    /// Copies the bytes of `from` over those of `to`, a part of the same length. Like `memmove`, it allows the parts to
     /// overlap.
     pub fn copy(&mut self, from: Part, to: Part)
         requires from { IsCellPart self.old from }

@@ -1,4 +1,4 @@
--- What a join makes of weights.
+-- The weight of a chain after a join.
 use Rattle.std.proofs.Common.{◌≡◌, ℕ, suc, ◌+◌, ◌-◌, ◌*◌, ◌<◌, ◌≤◌, cond, false, List, [], ◌∷◌, ◌++◌, length, nat_eq, Option, None, Some, is_some, refl, sym, ap, subst, arith, inl, inr}
 use Rattle.std.specs.Prelude.{◌⊎◌}
 use Rattle.std.specs.List.{cons_option}
@@ -14,7 +14,7 @@ use Rattle.chain_ops.specs.Joins.{filled_up, cat}
 use Rattle.chain_ops.specs.Weights.{layout_entries, IsEntryFit, AreFit}
 use Rattle.chain_ops.proofs.Joins.{plain_with_room, fill-goes, fill-stops}
 
--- ---- how many mbufs
+-- ---- the number of mbufs
 filled_length : (e : Entry) (fs : List Entry) → length (filled_up e fs) ≤ suc (length fs)
 filled_length e [] = omega arith
 filled_length e (f ∷ fs) = go (cases_lt (length f.bytes) (trailing_space e)) (filled_length (with_back e f.bytes) fs)
@@ -30,8 +30,8 @@ cat_length [] fs = omega arith
 cat_length (e ∷ []) fs = omega (arith, filled_length e fs)
 cat_length (e ∷ f ∷ es) fs = omega (arith, cat_length (f ∷ es) fs)
 
--- ---- which clusters
--- how often a cluster stands in an entry, and in a list of them
+-- ---- the clusters
+-- how often a cluster is in an entry, and in a list of them
 one_at : ℕ → Option ℕ → ℕ
 one_at c None = 0
 one_at c (Some k) = cond (nat_eq k c) 1 0

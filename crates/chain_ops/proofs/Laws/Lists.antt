@@ -1,4 +1,4 @@
--- Laws of lists that operations on chains want.
+-- Laws of lists for operations on chains.
 use Rattle.std.proofs.Common.{◌≡◌, ℕ, zero, suc, ◌-◌, ◌≤◌, min, List, [], ◌∷◌, ◌++◌, length, take, drop, refl, sym, ap, ◌∙◌, arith, inl, inr}
 use Rattle.std.proofs.lemmas.Bool.{cases_lt}
 use Rattle.std.proofs.lemmas.List.{take_all, drop_all, length-drop, drop-append-le}
@@ -31,7 +31,7 @@ take_least m xs = elim (cases_lt m (length xs)) [
   | inr h ↦ take_all m xs h ∙ sym (take_all (min (length xs) m) xs (omega arith))
 ]
 
--- a piece of which the bytes after `skip` are copied, as many as are wanted
+-- a range that begins in a piece: its bytes in this piece, and then those in the rest
 pub piece_copied : (piece rest : List ℕ) (skip k want : ℕ) → skip ≤ length piece → k ≡ min (length piece - skip) want
     → take want (drop skip (piece ++ rest)) ≡ take k (drop skip piece) ++ take (want - k) rest
 piece_copied piece rest skip k want inside is =

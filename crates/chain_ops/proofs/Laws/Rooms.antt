@@ -1,4 +1,4 @@
--- How the rooms for bytes follow one another.
+-- The sizes of the mbufs and clusters in which bytes are stored.
 use Rattle.std.proofs.Common.{◌≡◌, ℕ, zero, suc, ◌-◌, ◌<◌, ◌≤◌, min, cond, Bool, true, false, List, [], ◌∷◌, refl, ap, ◌∙◌, arith}
 use Rattle.std.specs.Prelude.{nat_le}
 use Rattle.std.proofs.lemmas.Bool.{cond-true, cond-false, le-leb, lt-leb}
@@ -33,7 +33,7 @@ fuel (suc k) (suc j) large small (suc m) l s a b =
     (fuel k j 2048 108 (suc m - size_of (next_room large small (suc m))) (omega arith) (omega arith)
     (omega (arith, some)) (omega (arith, some)))
 
--- the rooms for what is left after a first mbuf
+-- the rooms for the bytes after those in the first mbuf
 abbrev pub rest_rooms : ℕ → List Room
 rest_rooms m = filled m 2048 108 m
 
@@ -51,7 +51,7 @@ pub rest_none : rest_rooms 0 ≡ []
 unfolding filled
 rest_none = refl
 
--- ---- bytes that one mbuf holds
+-- ---- bytes that fit into one mbuf
 
 one_room : (large n : ℕ) (room : Room) → large ≤ 56 → 0 < n → next_room (2048 - large) 100 n ≡ room → size_of room ≡ n
     → rooms_for large n ≡ room ∷ []
@@ -61,7 +61,7 @@ one_room large n room low some is size =
     ∙ (λ j. or_empty (is j ∷ rest_rooms (n - size_of (is j)))) ∙ ap (λ (k : ℕ). room ∷ rest_rooms k) none
     ∙ ap (λ (rooms : List Room). room ∷ rooms) rest_none
 
--- in its own room
+-- in a plain mbuf
 pub one_plain : (large n : ℕ) → large ≤ 56 → n ≤ 100 → rooms_for large n ≡ Plain n ∷ []
 unfolding filled
 one_plain large zero low few = refl
@@ -70,7 +70,7 @@ one_plain large (suc n) low few =
     one_room large (suc n) (Plain (suc n)) low (omega arith)
     (cond-false {A = Room} _ _ _ (lt-leb 208 (suc n) (omega (arith, few))) ∙ ap Plain all) refl
 
--- or in a cluster
+-- in a cluster
 pub one_cluster : (large n : ℕ) → large ≤ 56 → 208 ≤ n → n ≤ 2048 - large → rooms_for large n ≡ Cluster n ∷ []
 one_cluster large n low many few =
     let all : min n (2048 - large) ≡ n = omega (arith, few) in

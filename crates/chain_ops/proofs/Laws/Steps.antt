@@ -26,7 +26,7 @@ low_at_least true false = omega arith
 low_at_least false true = omega arith
 low_at_least false false = omega arith
 
--- a copy of a plain entry's bytes has room in a plain mbuf, at the front
+-- a copy of a plain entry's bytes fits at the front of a plain mbuf
 pub copy_room : (v : ChainView) (i : ℕ) (header : Bool) (skip n : ℕ) → (entry_of v i).cluster ≡ None
     → room_start v i ≤ (entry_of v i).start
     → (entry_of v i).start + length (entry_of v i).bytes ≤ room_end (entry_of v i)
@@ -55,7 +55,7 @@ copy_room v i header skip n plain low high headed within = go header headed
           cond-true {A = ℕ} (i == 0) 28 20 (eq-eqb i 0 both.1),
         )
 
--- a plain mbuf that got bytes of a plain entry is a copy
+-- a plain mbuf into which bytes of a plain entry were written is a copy
 pub copy_made : (p q r : PoolView) (c i start : ℕ) (header : Bool) (e e' : Entry) (skip n : ℕ) → e.cluster ≡ None
     → start ≡ room_low header → e' ≡ e
     → Adds p q c (one_mbuf header (empty_entry start None) c) → i ≡ 0
@@ -74,13 +74,13 @@ copy_made p q r c i start header e e' skip n plain low same a zero is =
     filled p q r c i header (empty_entry start None) (copied_entry (room_low header) e skip n) a zero
     (is ∙ ap (λ (f : Entry). with_chain q c (with_entry (chain_of q c) i f)) (shown ∙ copy))
 
--- what `segment` tells of a plain entry
+-- the result of `segment` for a plain entry
 pub plain_segment : (x : Segment) (start len : ℕ) (o : Option ℕ) (b : Bool)
     → x ≡ record { start = start; len = len; cluster = o } → b ≡ is_some x.cluster → b ≡ false → o ≡ None
 plain_segment x start len o b is test fails =
     none_of o (ap (λ (y : Segment). is_some y.cluster) (sym is) ∙ sym test ∙ fails)
 
--- ---- a new chain beside others
+-- ---- a new chain and the others
 pub place_in : (p q : PoolView) (k : ℕ) (at : Place) → chain_of q k ≡ chain_of p k → IsPlace (chain_of p k) at
     → IsPlace (chain_of q k) at
 place_in p q k at same place = subst (λ (v : ChainView). IsPlace v at) (sym same) place

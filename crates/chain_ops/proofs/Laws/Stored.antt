@@ -1,4 +1,4 @@
--- What stored bytes and bytes written over others are, whatever the layout.
+-- The bytes of a chain after storing and overwriting bytes, independent of the layout.
 use Rattle.std.proofs.Common.{◌≡◌, ℕ, true, false, List, length, count_by, arith}
 use Rattle.params.specs.declared.TheConstants.{CLUSTER_LEADING_SPACE}
 use Rattle.flat_model.specs.Amounts.Layout.{user, wire, is_cluster}
@@ -7,7 +7,7 @@ use Rattle.chain_ops.specs.Stored.{stored_first}
 use Rattle.chain_ops.proofs.Stored.{first_bytes, rooms_sum}
 pub use Rattle.chain_ops.proofs.Writes.{copied_back_bytes}
 
--- bytes to send, and a packet that arrived, are the bytes that were stored
+-- the bytes of a new chain, for a send and for a packet that arrived, are those that were stored
 pub user_bytes : (cs xs : List ℕ) → length cs ≡ count_by is_cluster (user (length xs))
     → flat_bytes (stored_first CLUSTER_LEADING_SPACE true cs (user (length xs)) xs) ≡ xs
 user_bytes cs xs e =

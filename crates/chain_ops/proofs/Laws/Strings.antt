@@ -1,4 +1,4 @@
--- What the operations make of a chain's bytes: list operations, whatever the layout.
+-- The bytes of a chain after each operation, as list operations that don't depend on the layout.
 use Rattle.std.proofs.Common.{◌≡◌, ℕ, zero, suc, ◌+◌, ◌-◌, ◌<◌, ◌≤◌, min, Bool, true, false, cond, List, [], ◌∷◌, ◌++◌, length, take, drop, refl, sym, ap, ◌∙◌, arith, inl, inr, append_assoc, append-nil}
 use Rattle.std.specs.Prelude.{◌⊎◌, ℤ, pos, negsuc, nat_le, is_some, None}
 use Rattle.std.proofs.lemmas.Bool.{cases_lt, cond-true, cond-false, eq-eqb, ne_eqb, lt-ltb, le-ltb}
@@ -24,7 +24,7 @@ pub drop_none : (n : ℕ) → drop {A = ℕ} n [] ≡ []
 drop_none zero = refl
 drop_none (suc n) = refl
 
--- a copy of all has all bytes
+-- a copy of all entries has all bytes
 pub copied_all_bytes : (room : ℕ) (es : List Entry) → flat_bytes (copied_all room es) ≡ flat_bytes es
 copied_all_bytes room [] = refl
 copied_all_bytes room (e ∷ es) = λ j. take_all (length e.bytes) e.bytes (omega arith) j ++ copied_all_bytes 20 es j
@@ -100,7 +100,7 @@ pub copied_bytes : (header : Bool) (es : List Entry) (off len : ℕ)
     → flat_bytes (copied header es off len) ≡ take len (drop off (flat_bytes es))
 copied_bytes header es off len = position_bytes (room_low header) es off len
 
--- ---- bytes taken off an end
+-- ---- bytes removed from an end
 drop_least : (n : ℕ) (xs : List ℕ) → take (length xs - min n (length xs)) (drop (min n (length xs)) xs) ≡ drop n xs
 drop_least n xs = take_rest xs (min n (length xs)) ∙ elim (cases_lt n (length xs)) [
   | inl l ↦ let same : min n (length xs) ≡ n = omega arith in ap (λ (k : ℕ). drop k xs) same
@@ -113,7 +113,7 @@ without_first_bytes n (e ∷ es) =
     (λ j. drop_least n e.bytes j ++ without_first_bytes (n - length e.bytes) es j)
     ∙ sym (drop-append n e.bytes (flat_bytes es))
 
--- all bytes stay where there are no more
+-- keeping n bytes of a chain with at most n bytes changes nothing
 pub keep_enough : (n : ℕ) (es : List Entry) → length (flat_bytes es) ≤ n → only_first n es ≡ es
 keep_enough n [] le = refl
 keep_enough n (e ∷ es) le =
@@ -140,7 +140,7 @@ pub adjusted_are : (n : ℤ) (es : List Entry) → flat_bytes (adjusted n es) �
 adjusted_are (pos n) es = without_first_bytes n es
 adjusted_are (negsuc n) es = only_first_bytes (length (flat_bytes es) - suc n) es
 
--- ---- bytes moved between mbufs: the string stays
+-- ---- moving bytes between mbufs leaves the string unchanged
 filled_up_bytes : (e : Entry) (fs : List Entry) → flat_bytes (filled_up e fs) ≡ e.bytes ++ flat_bytes fs
 filled_up_bytes e [] = refl
 filled_up_bytes e (f ∷ fs) =

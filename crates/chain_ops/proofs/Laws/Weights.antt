@@ -1,4 +1,4 @@
--- What the operations make of a chain's weight, in the words of the flat machine.
+-- The weight of a chain after each operation, in the terms of the flat machine.
 use Rattle.std.proofs.Common.{◌≡◌, ℕ, ◌+◌, ◌-◌, ◌<◌, ◌≤◌, min, max, Bool, List, [], ◌∷◌, length, map, Option, refl, sym, ap, ◌∙◌, arith, inl, inr, take}
 use Rattle.std.specs.Prelude.{◌⊎◌, filter_map}
 use Rattle.std.specs.List.{AllByRecursion, cons_option}
@@ -34,7 +34,7 @@ same_weight xs ys e =
 abbrev sized : flat.LayoutEntry → ℕ
 sized x = x.size
 
--- an entry that a range meets, and one that it doesn't
+-- an entry that shares a byte with a range, and one that doesn't
 met : (x : flat.LayoutEntry) (xs : List flat.LayoutEntry) (at a b : ℕ) → max at a < min (at + x.size) b
     → meets_from sized at (x ∷ xs) a b ≡ x ∷ meets_from sized (at + x.size) xs a b
 unfolding meets_from
@@ -76,7 +76,7 @@ later (e ∷ es) at a b some h = go (cases_lt at b) (later es (at + length e.byt
         ∙ ap (λ (fs : List Entry). clusters (layout_entries fs)) (copied_none 20 es 0)
         ∙ ap (λ (n : ℕ). clusters (layout_entries (copied_from 20 (e ∷ es) 0 n))) none'
 
--- the copies from the position_of on
+-- the copies of the entries from the position of a byte on
 from_position : (room : ℕ) (es : List Entry) (at a b off len : ℕ)
     → AllByRecursion (λ (e : Entry). 0 < length e.bytes) es → 0 < len → a ≡ at + off → b ≡ a + len
     → clusters (meets_from sized at (layout_entries es) a b)
@@ -117,14 +117,14 @@ from_position room (e ∷ es) at a b off len some l ea eb =
         ∙ ap (λ (s : Position). clusters (layout_entries (copied_from room s.entries s.skip len)))
         (sym (position-passes e es off p h))
 
--- what the copy of a range weighs: the entries that share a byte with it, where none is empty
+-- the weight of the copy of a range is that of the entries that share a byte with it, if none is empty
 pub copied_weight : (header : Bool) (es : List Entry) (off len : ℕ)
     → AllByRecursion (λ (e : Entry). 0 < length e.bytes) es → 0 < len
     → weight_of (layout_entries (copied header es off len)) ≡ weight_of (entries_met (layout_entries es) off (off + len))
 copied_weight header es off len some l =
     same_weight _ _ (sym (from_position (room_low header) es 0 off (off + len) off len some l (omega arith) refl))
 
--- a copy of all has the layout of the original
+-- a copy of all entries has the layout of the original
 pub copied_all-laid : (room : ℕ) (es : List Entry) → layout_entries (copied_all room es) ≡ layout_entries es
 copied_all-laid room [] = refl
 copied_all-laid room (e ∷ es) =

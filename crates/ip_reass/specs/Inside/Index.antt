@@ -17,7 +17,7 @@ abbrev pub upto_last : ℕ → List ℕ → ℕ → ℕ
 upto_last b bs zero = 0
 upto_last b bs (suc k) = if get_or bs k 0 == b then suc k else upto_last b bs k
 
--- what a contract sees of an index: the buckets of the rows, how many buckets there are, and how many rows fit
+-- the view of an index in contracts: the buckets of the rows, how many buckets there are, and how many rows fit
 pub record IndexView : Type 0 where
   pub buckets : List ℕ
   pub count : ℕ

@@ -1,4 +1,4 @@
--- Fragments in order of offset, without overlap, and the map that they mean (this project's own lemmas).
+-- Fragments in order of offset, without overlap, and their map (this project's own lemmas).
 use Rattle.std.proofs.Common.{◌≡◌, ℕ, zero, suc, ◌+◌, ◌-◌, ◌<◌, ◌≤◌, List, [], ◌∷◌, ◌++◌, length, get_or, take, drop, Option, None, Some, refl, sym, ap, ◌∙◌, subst, inl, inr, ◌⊎◌, arith, length-drop, get_or-drop}
 use Rattle.std.proofs.lemmas.Bool.{cases_lt, le-leb, lt-leb, lt-ltb, le-ltb, and_from, and_left, and_right, cond-true, cond-false}
 use Rattle.flat_model.specs.Fragments.Overlay.{Held}

@@ -1,5 +1,5 @@
--- The pool's accounts: what a step adds to the mbufs held and to a cluster's references, and both as sums over what the
--- owners have.
+-- The pool's accounts: what a step adds to the mbufs held and to a cluster's references, and both as sums over the
+-- owners' chains.
 use Rattle.std.proofs.Common.{◌≡◌, ◌≢◌, ℕ, zero, suc, ◌+◌, ◌<◌, ◌≤◌, Bool, cond, List, [], ◌∷◌, length, None, Some, sum_by, count_by, nat_eq, refl, sym, ap, ◌∙◌, subst, arith, inl, inr}
 use Rattle.std.specs.List.{range_with_len}
 use Rattle.std.specs.Ordering.{nat_cmp}
@@ -79,8 +79,8 @@ pub references-adds : {p q : PoolView} {c : ℕ} {v : ChainView} (cluster : ℕ)
     → references q cluster ≡ references p cluster + references_of cluster v
 references-adds {p} {q} {c} {v} cluster a = sum-adds (references_of cluster) p q c v a
 
--- ---- what owners have
--- a sum over a list that lacks c doesn't see that c is gone
+-- ---- what owners hold
+-- a sum over a list without c is the same after chain c is removed
 sum_left : (f : ChainView → ℕ) (p : PoolView) (c : ℕ) (xs : List ℕ) → times_among c xs ≡ 0
     → sum_by (λ k. f (chain_of (without p c) k)) xs ≡ sum_by (λ k. f (chain_of p k)) xs
 sum_left f p c [] h = refl
@@ -138,7 +138,7 @@ sum_owned f p (c ∷ cs) o =
       sum_by-cons (λ k. f (chain_of p k)) c cs,
     )
 
--- where the owners' lists have each chain once, the pool's counts are the sums over them
+-- if the owners' lists contain each chain once, the pool's counts are the sums over them
 pub held_by_owners : (p : PoolView) (all : List ℕ) → IsAll p all
     → held_mbufs p ≡ sum_by (λ k. mbufs_of (chain_of p k)) all
 held_by_owners p all h = sum_all mbufs_of p all h
@@ -147,11 +147,11 @@ pub references_by_owners : (p : PoolView) (all : List ℕ) (cluster : ℕ) → I
     → references p cluster ≡ sum_by (λ k. references_of cluster (chain_of p k)) all
 references_by_owners p all cluster h = sum_all (references_of cluster) p all h
 
--- an owner has no more than the pool holds
+-- an owner holds at most the mbufs that the pool holds
 pub owned_held : (p : PoolView) (xs : List ℕ) → IsOwned p xs → sum_by (λ k. mbufs_of (chain_of p k)) xs ≤ held_mbufs p
 owned_held p xs o = sum_owned mbufs_of p xs o
 
--- ---- what an owner's step makes of the pool's counts: the difference of its own chains
+-- ---- an owner's step changes the pool's counts by those of its own chains
 -- the pool without the chains of a list
 abbrev pub without_all : PoolView → List ℕ → PoolView
 without_all p [] = p
@@ -188,7 +188,7 @@ rest_gone p (x ∷ xs) k h = elim (cases_eq (times_among k xs) 0) [
   ]
 ]
 
--- what there is besides the owner's chains is the same before and after
+-- the chains of other owners are the same before and after
 rest_same : {p q : PoolView} {xs ys : List ℕ} → Moves p xs q ys → IsOwned p xs
     → (without_all p xs).chains ≡ (without_all q ys).chains
 rest_same {p} {q} {xs} {ys} m o =
@@ -223,7 +223,7 @@ pub held_moves : {p q : PoolView} {xs ys : List ℕ} → Moves p xs q ys → IsO
     → held_mbufs q + sum_by (λ k. mbufs_of (chain_of p k)) xs ≡ held_mbufs p + sum_by (λ k. mbufs_of (chain_of q k)) ys
 held_moves m o = sum_moves mbufs_of m o
 
--- nobody else refers to the cluster that a new chain was given
+-- only the new chain refers to the cluster that it was given
 pub unshared_new : (p q : PoolView) (c d i : ℕ) (header : Bool) (start : ℕ)
     → Adds p q c (one_mbuf header (empty_entry start (Some d)) c) → references p d ≡ 0 → i ≡ 0
     → IsUnshared q (entry_of (chain_of q c) i)
@@ -239,7 +239,7 @@ unshared_new p q c d i header start a none first =
     subst (IsUnshared q) (sym (new_entry p q c i header (empty_entry start (Some d)) a first))
     (λ k is. subst (λ (j : ℕ). references q j ≡ 1) (same_Some d k is) one)
 
--- owned chains are at most as many as the pool has mbufs
+-- an owner has at most one chain for each mbuf of the pool
 some_each : (p : PoolView) (xs : List ℕ) → ((c : ℕ) → IsLive p c → 0 < mbufs_of (chain_of p c))
     → ((k : ℕ) → 0 < times_among k xs → IsLive p k) → length xs ≤ sum_by (λ k. mbufs_of (chain_of p k)) xs
 some_each p [] h l = omega arith
@@ -297,12 +297,12 @@ free_is : (p : PoolView) → free_clusters p ≡ free_in (references p) 0 p.clus
 unfolding free_in
 free_is p = refl
 
--- where the references are as they were, as many clusters are free
+-- if the references are the same, the number of free clusters is the same
 pub free-same : (p q : PoolView) → q.clusters ≡ p.clusters → ((c : ℕ) → references q c ≡ references p c)
     → free_clusters q ≡ free_clusters p
 free-same p q e h = λ i. count_by (λ c. nat_eq (h c i) 0) (range_with_len 0 (e i))
 
--- one cluster is referred to for the first time, or for the last the other way round
+-- one cluster gets its first reference, or loses its last (read from q to p)
 pub free-taken : (p q : PoolView) (c : ℕ) → q.clusters ≡ p.clusters → c < p.clusters → references p c ≡ 0
     → 0 < references q c → ((k : ℕ) → k ≢ c → references q k ≡ references p k) → free_clusters q + 1 ≡ free_clusters p
 free-taken p q c e l none some h =

@@ -8,6 +8,6 @@ concat_of : (es : List Entry) → concat (pieces_of es) ≡ flat_bytes es
 concat_of [] = refl
 concat_of (e ∷ es) = ap (λ (xs : List ℕ). e.bytes ++ xs) (concat_of es)
 
--- the bytes of all mbufs, one after another, are the chain's
+-- the concatenated bytes of all mbufs are the chain's bytes
 pub concat_pieces : (v : ChainView) → concat (chain_pieces v) ≡ string v
 concat_pieces v = concat_of v.entries

@@ -1,4 +1,4 @@
--- Laws for owners of chains, for callers: what a step leaves, and how steps go together.
+-- Laws for owners of chains, for callers: what a step leaves unchanged, and the composition of steps.
 use Rattle.std.proofs.Common.{◌≡◌, ◌≢◌, ℕ, zero, suc, ◌+◌, ◌<◌, ◌≤◌, cond, List, [], ◌∷◌, ◌++◌, Option, Some, None, is_some, unwrap_or, refl, sym, ap, ◌∙◌, subst, arith, inl, inr}
 use Rattle.std.specs.FinMap as finmap
 use Rattle.std.proofs.lemmas.Bool.{cases_eq, cond-false, ne_eqb}
@@ -59,7 +59,7 @@ live_first p c xs o = live_owned p (c ∷ xs) c o (omega (arith, times_same c xs
 pub apart_first : (p : PoolView) (c : ℕ) (xs : List ℕ) → IsOwned p (c ∷ xs) → times_among c xs ≡ 0
 apart_first p c xs o = omega (arith, o c, times_same c xs, live_at_most p c)
 
--- a live chain that an owner hasn't comes to the others
+-- a live chain that the owner doesn't have yet is added to its chains
 pub owned_more : (p : PoolView) (c : ℕ) (xs : List ℕ) → IsOwned p xs → IsLive p c → times_among c xs ≡ 0
     → IsOwned p (c ∷ xs)
 owned_more p c xs o l apart = λ k. elim (cases_eq k c) [
@@ -68,7 +68,7 @@ owned_more p c xs o l apart = λ k. elim (cases_eq k c) [
   | inr ne ↦ omega (arith, o k, times_other k c xs ne)
 ]
 
--- ---- what a chain shows after a step
+-- ---- the value of a chain after a step
 pub chain_here : (p : PoolView) (c : ℕ) (v : ChainView) → chain_of (with_chain p c v) c ≡ v
 chain_here p c v = ap (λ o. unwrap_or o no_chain) (get_here p.chains c v)
 
@@ -79,7 +79,7 @@ pub live_here : (p : PoolView) (c : ℕ) (v : ChainView) → IsLive (with_chain 
 live_here p c v =
     live_from (with_chain p c v) c (omega (arith, live_some (with_chain p c v) c v (get_here p.chains c v)))
 
--- the same, by the equation of the step
+-- the same, from the equation of the step
 pub shown_with : (p q : PoolView) (c : ℕ) (v : ChainView) → q ≡ with_chain p c v → chain_of q c ≡ v
 shown_with p q c v e = ap (λ (r : PoolView). chain_of r c) e ∙ chain_here p c v
 
@@ -97,7 +97,7 @@ live_with p q c v k e l = subst (λ (r : PoolView). IsLive r k) (sym e) (elim (c
 pub chain_left : (p : PoolView) (c k : ℕ) → k ≢ c → chain_of (without p c) k ≡ chain_of p k
 chain_left p c k ne = ap (λ o. unwrap_or o no_chain) (get_left p.chains c k ne)
 
--- ---- steps one after another, and beside what they don't touch
+-- ---- two steps in a row, and steps with chains that they don't change
 pub moves_none : (p : PoolView) (xs : List ℕ) → Moves p xs p xs
 moves_none p xs = record { mbufs = refl; clusters = refl; others = λ k l h. refl; owned = λ k. refl }
 
@@ -112,7 +112,7 @@ moves_trans {p} {q} {r} {xs} {ys} {zs} m n = record {
   owned = λ k. omega (arith, m.owned k, n.owned k);
 }
 
--- the owner has other chains beside those of the step
+-- the owner has other chains besides those of the step
 pub moves_beside : {p q : PoolView} {xs ys : List ℕ} (us vs zs : List ℕ) → Moves p xs q ys
     → ((k : ℕ) → times_among k us ≡ times_among k zs + times_among k xs)
     → ((k : ℕ) → times_among k vs ≡ times_among k zs + times_among k ys)
@@ -124,7 +124,7 @@ moves_beside us vs zs m a b = record {
   owned = λ k. omega (arith, m.owned k, a k, b k);
 }
 
--- they stand in front, or after
+-- the other chains come first in the list, or last
 pub moves_after : {p q : PoolView} {xs ys : List ℕ} (zs : List ℕ) → Moves p xs q ys → Moves p (zs ++ xs) q (zs ++ ys)
 moves_after {p} {q} {xs} {ys} zs m =
     moves_beside (zs ++ xs) (zs ++ ys) zs m (λ k. times-append k zs xs) (λ k. times-append k zs ys)
@@ -134,7 +134,7 @@ moves_before {p} {q} {xs} {ys} zs m =
     moves_beside (xs ++ zs) (ys ++ zs) zs m (λ k. omega (arith, times-append k xs zs))
     (λ k. omega (arith, times-append k ys zs))
 
--- the order of an owner's list says nothing
+-- the order of an owner's list doesn't matter
 pub moves_reordered : {p q : PoolView} {xs ys : List ℕ} (us vs : List ℕ) → Moves p xs q ys
     → ((k : ℕ) → times_among k us ≡ times_among k xs) → ((k : ℕ) → times_among k vs ≡ times_among k ys)
     → Moves p us q vs
@@ -143,18 +143,18 @@ moves_reordered us vs m a b = moves_beside us vs [] m (λ k. omega (arith, a k))
 pub owned_after : {p q : PoolView} {xs ys : List ℕ} → Moves p xs q ys → IsOwned p xs → IsOwned q ys
 owned_after m o = λ k. omega (arith, m.owned k, o k)
 
--- what else is owned beside stays owned
+-- an owner's other chains stay its own
 pub owned_beside : {p q : PoolView} {xs ys : List ℕ} (zs : List ℕ) → Moves p xs q ys → IsOwned p (zs ++ xs)
     → IsOwned q (zs ++ ys)
 owned_beside {p} {q} {xs} {ys} zs m o = λ k. omega (arith, m.owned k, o k, times-append k zs xs, times-append k zs ys)
 
--- a step leaves the chains of an owner who has none of its own
+-- chains that aren't among those of a step are unchanged
 pub same_beside : {p q : PoolView} {xs ys : List ℕ} (zs : List ℕ) → Moves p xs q ys → IsOwned p zs
     → ((k : ℕ) → 0 < times_among k zs → times_among k xs ≡ 0) → SameAt p q zs
 same_beside {p} {q} {xs} {ys} zs m o h =
     record { mbufs = m.mbufs; same = λ k l. m.others k (live_owned p zs k o l) (h k l) }
 
--- the same, where both are owned together
+-- the same, if one owner has both these and the step's chains
 pub same_after : {p q : PoolView} {xs ys : List ℕ} (zs : List ℕ) → Moves p xs q ys → IsOwned p (zs ++ xs)
     → SameAt p q zs
 same_after {p} {q} {xs} {ys} zs m o =
@@ -236,12 +236,12 @@ moves_within p q c v xs l h e = subst (λ (r : PoolView). Moves p xs r xs) (sym 
   ];
 })
 
--- a new chain's number is none of an owner's
+-- a new chain's number differs from those of an owner's chains
 pub apart_new : {p q : PoolView} {c : ℕ} {v : ChainView} (xs : List ℕ) → Adds p q c v → IsOwned p xs
     → times_among c xs ≡ 0
 apart_new {p} {q} {c} {v} xs a o = omega (arith, o c, live_none p c a.fresh)
 
--- and it leaves them
+-- adding the new chain leaves them unchanged
 pub same_adds : {p q : PoolView} {c : ℕ} {v : ChainView} (xs : List ℕ) → Adds p q c v → IsOwned p xs → SameAt p q xs
 same_adds xs a o = same_beside xs (moves_adds a) o (λ k h. refl)
 
@@ -263,7 +263,7 @@ pub then_adds : {p q r : PoolView} {xs ys : List ℕ} {c : ℕ} {v : ChainView} 
 then_adds {p} {q} {r} {xs} {ys} {c} {v} m a =
     moves_trans m (moves_beside ys (c ∷ ys) ys (moves_adds a) (λ k. omega arith) (λ k. omega arith))
 
--- what a new chain is
+-- the new chain is live, and has the value that was added
 pub live_adds : {p q : PoolView} {c : ℕ} {v : ChainView} → Adds p q c v → IsLive q c
 live_adds {p} {q} {c} {v} a = subst (λ (r : PoolView). IsLive r c) (sym a.pool) (live_here p c v)
 
@@ -288,7 +288,7 @@ same_without p q c xs h e = subst (λ (r : PoolView). SameAt p r xs) (sym e)
           (λ is. absurd (omega (arith, ap (λ (j : ℕ). times_among j xs) is)));
     })
 
--- ---- an owner of nothing changes nothing
+-- ---- a step from no chains to no chains leaves the pool unchanged
 pub moves_nothing : {p q : PoolView} → Moves p [] q [] → q ≡ p
 moves_nothing {p} {q} m =
     let chains : q.chains ≡ p.chains = same q.chains p.chains (λ k. at k (live_at p k) refl) in

@@ -17,11 +17,11 @@ use Rattle.mbuf_chain.proofs.Laws.Owners.{live_here, live_with, shown_with, show
 pub live_shown : (p q : PoolView) (c : ℕ) (v : ChainView) → q ≡ with_chain p c v → IsLive q c
 live_shown p q c v is = subst (λ (r : PoolView). IsLive r c) (sym is) (live_here p c v)
 
--- what was live is live beside a new chain
+-- a live chain is live after a new chain is added
 pub live_beside : (p q : PoolView) (c : ℕ) (v : ChainView) → Adds p q c v → (k : ℕ) → IsLive p k → IsLive q k
 live_beside p q c v a k live = live_with p q c v k a.pool live
 
--- a new chain's number is nobody's
+-- no live chain has a new chain's number
 pub apart : (p q : PoolView) (c : ℕ) (v : ChainView) → Adds p q c v → (k : ℕ) → IsLive p k → k ≢ c
 apart p q c v a k live e = none-some (chain_of p k) (sym a.fresh ∙ ap (finmap.get p.chains) (sym e) ∙ live)
 
@@ -32,7 +32,7 @@ pub live_without : (p q : PoolView) (c : ℕ) → q ≡ without p c → (k : ℕ
 live_without p q c is k ne live =
     live_is q k (chain_of p k) (ap (λ (r : PoolView). finmap.get r.chains k) is ∙ get_left p.chains c k ne ∙ live)
 
--- how many mbufs a chain has with another after it
+-- the number of mbufs of a chain after another is linked to it
 pub count_joined : (p q r : PoolView) (c d : ℕ) (w : ChainView) → Adds p q d w
     → r ≡ with_chain (without q d) c (joined (chain_of q c) (chain_of q d)) → c ≢ d
     → length (chain_of r c).entries ≡ length (chain_of p c).entries + length w.entries
@@ -44,18 +44,18 @@ count_joined p q r c d w a is ne =
     ∙ length-append (chain_of q c).entries (chain_of q d).entries
     ∙ (λ i. length (front i).entries + length (shown_with p q d w a.pool i).entries)
 
--- a place stays one where an entry is changed
+-- a place stays valid if an entry is replaced
 pub place_kept : (v : ChainView) (i : ℕ) (e : Entry) (at : Place) → IsPlace v at → IsPlace (with_entry v i e) at
 place_kept v i e at is = record { within = omega (arith, is.within, length-set v.entries i e); cell = is.cell }
 
--- the place in a chain after its entry was changed, and every live chain
+-- a place in a chain is one after its entry was replaced
 pub place_after : (p q : PoolView) (c i : ℕ) (e : Entry) (at : Place)
     → q ≡ with_chain p c (with_entry (chain_of p c) i e) → IsPlace (chain_of p c) at → IsPlace (chain_of q c) at
 place_after p q c i e at is place =
     subst (λ (v : ChainView). IsPlace v at) (sym (shown_with p q c (with_entry (chain_of p c) i e) is))
     (place_kept (chain_of p c) i e at place)
 
--- the chain that a call made, where the call can't have been refused
+-- the chain that a call made, if the call succeeded
 pub made : {E : Type 0} (p q : PoolView) (r : Result ℕ E) (d : ℕ) (w : ℕ → ChainView) → r ≡ Ok d
     → IfOk r (λ c. Adds p q c (w c)) → Adds p q d (w d)
 made p q r d w is a = subst (λ x. IfOk x (λ c. Adds p q c (w c))) is a
@@ -65,7 +65,7 @@ pub place_beside : (p q : PoolView) (c k : ℕ) (v : ChainView) (at : Place) →
 place_beside p q c k v at a live place =
     subst (λ (w : ChainView). IsPlace w at) (sym (kept_with p q c v k a.pool (apart p q c v a k live))) place
 
--- ---- what stands beside a step
+-- ---- the chains that a step doesn't change
 pub kept_adds : {p q : PoolView} {d : ℕ} {w : ChainView} (k : ℕ) → Adds p q d w → IsLive p k
     → finmap.get q.chains k ≡ finmap.get p.chains k
 kept_adds {p} {q} {d} {w} k a live =
@@ -78,7 +78,7 @@ kept_link p q r k c d v w a is live ne =
     ap (λ (s : PoolView). finmap.get s.chains k) is ∙ get_there (finmap.remove q.chains d) c v k ne
     ∙ get_left q.chains d k (apart p q d w a k live) ∙ kept_adds k a live
 
--- what the map has at a number, a chain shows
+-- two pools with the same map entry at a number have the same chain there
 pub kept_chain : (p r : PoolView) (k : ℕ) → finmap.get r.chains k ≡ finmap.get p.chains k → chain_of r k ≡ chain_of p k
 kept_chain p r k is = ap (λ (o : Option ChainView). unwrap_or o no_chain) is
 
@@ -100,7 +100,7 @@ new_entry p q c i header e a zero =
     ap (λ (v : ChainView). entry_of v i) (shown_with p q c (one_mbuf header e c) a.pool)
     ∙ ap (entry_of (one_mbuf header e c)) zero
 
--- a chain that was made, and then changed, was made as it is now
+-- a new chain that is then changed is a new chain with its last value
 pub adds_then : {p q : PoolView} {c : ℕ} {v : ChainView} (r : PoolView) (w : ChainView) → Adds p q c v
     → r ≡ with_chain q c w → Adds p r c w
 adds_then {p} {q} {c} {v} r w a is = record {
@@ -110,7 +110,7 @@ adds_then {p} {q} {c} {v} r w a is = record {
       ∙ (λ i. record { mbufs = p.mbufs; clusters = p.clusters; chains = insert-insert p.chains c v w i });
 }
 
--- and where its only entry was changed
+-- the same if its only entry was replaced
 pub filled : (p q r : PoolView) (c i : ℕ) (header : Bool) (old new : Entry) → Adds p q c (one_mbuf header old c) → i ≡ 0
     → r ≡ with_chain q c (with_entry (chain_of q c) i new) → Adds p r c (one_mbuf header new c)
 filled p q r c i header old new a zero is =
@@ -119,13 +119,13 @@ filled p q r c i header old new a zero is =
     (shown_with p q c (one_mbuf header old c) a.pool)
     ∙ ap (λ (j : ℕ). with_entry (one_mbuf header old c) j new) zero))
 
--- a chain that was made and freed leaves the pool as it was
+-- a chain that was made and freed leaves the pool unchanged
 pub adds_undone : {p q : PoolView} {c : ℕ} {v : ChainView} (r : PoolView) → Adds p q c v → r ≡ without q c → r ≡ p
 adds_undone {p} {q} {c} {v} r a is =
     is ∙ ap (λ (s : PoolView). without s c) a.pool
     ∙ (λ i. record { mbufs = p.mbufs; clusters = p.clusters; chains = remove-insert p.chains c v a.fresh i })
 
--- ---- one chain in the place of another: c is gone, and a chain under its number or a new one came
+-- ---- chain c is replaced: c is removed, and a chain with the same or a new number is added
 removed-insert : {X : Type 0} (m : FinMap nat_cmp X) (c : ℕ) (v : X)
     → finmap.insert m c v ≡ finmap.insert (finmap.remove m c) c v
 removed-insert m c v = same _ _ (λ q. elim (cases_eq q c) [
@@ -134,7 +134,7 @@ removed-insert m c v = same _ _ (λ q. elim (cases_eq q c) [
   | inr ne ↦ get_there m c v q ne ∙ sym (get_there _ c v q ne ∙ get_left m c q ne)
 ])
 
--- it was changed and kept its number
+-- the chain was changed and kept its number
 pub adds_in_place : (p q : PoolView) (c : ℕ) (w : ChainView) → q ≡ with_chain p c w → Adds (without p c) q c w
 adds_in_place p q c w is = record {
   fresh = get_gone p.chains c;
@@ -149,7 +149,7 @@ linked_new p q r c d w live a is =
     is ∙ (λ i. with_chain (adds_undone (without q d) a (λ _. without q d) i) c
     (joined (kept_with p q d w c a.pool (apart p q d w a c live) i) (shown_adds a i)))
 
--- it was linked after a new chain
+-- the chain was linked after a new one
 replaced : {X : Type 0} (m : FinMap nat_cmp X) (c d : ℕ) (w u : X)
     → finmap.insert (finmap.remove (finmap.insert m d w) c) d u ≡ finmap.insert (finmap.remove m c) d u
 replaced m c d w u = same _ _ (λ q. elim (cases_eq q d) [
@@ -193,7 +193,7 @@ cut_left m c d v w ne = same _ _ (λ q. elim (cases_eq q c) [
   ]
 ])
 
--- what there is beside a chain and the rest that was cut off it, and beside a chain and a new one
+-- the other chains of the pool, after a chain was cut in two, and after a new chain was added
 pub base_cut : (p q : PoolView) (c d : ℕ) (v w : ChainView) → Adds (with_chain p c v) q d w
     → without (without q d) c ≡ without p c
 base_cut p q c d v w a =

@@ -1,4 +1,4 @@
--- A held train beside the steps of its owner and of others, for callers.
+-- A held train during the steps of its owner and of others, for callers.
 pub use Rattle.mbuf_chain.proofs.Trains.{
   numbers_same,
   queued_packets_same,

@@ -1,4 +1,4 @@
--- Two chains in hand, for callers: over the pool without them, steps of one or the other leave all else as it was.
+-- A caller that holds two chains: steps on one or the other leave the rest of the pool unchanged.
 use Rattle.std.proofs.Common.{◌≡◌, ◌≢◌, ℕ, None, refl, sym, ap, ◌∙◌, subst, inl, inr}
 use Rattle.std.specs.FinMap as finmap
 use Rattle.std.proofs.lemmas.Bool.{cases_eq}
@@ -56,7 +56,7 @@ two_second {b} {p} {c} {d} q v h is = record {
   others = λ k nc nd. ap (λ (s : PoolView). finmap.get s.chains k) is ∙ get_there p.chains d v k nd ∙ h.others k nc nd;
 }
 
--- the second one was put in another's place
+-- the second chain was replaced by another one
 pub two_next : {b p : PoolView} {c d : ℕ} {w : ChainView} (q : PoolView) (e : ℕ) → HasTwo b p c d
     → Adds (without p d) q e w → HasTwo b q c e
 two_next {b} {p} {c} {d} {w} q e h a =
@@ -82,14 +82,14 @@ two_next {b} {p} {c} {d} {w} q e h a =
           ];
     }
 
--- what the first one is after that
+-- the first chain is unchanged after that
 pub kept_next : {b p : PoolView} {c d : ℕ} {w : ChainView} (q : PoolView) (e : ℕ) → HasTwo b p c d
     → Adds (without p d) q e w → chain_of q c ≡ chain_of p c
 kept_next {b} {p} {c} {d} {w} q e h a =
     let left : IsLive (without p d) c = live_without p (without p d) d refl c h.apart h.live_first in
     kept_with (without p d) q e w c a.pool (apart (without p d) q e w a c left) ∙ chain_left p d c h.apart
 
--- ---- what the two make of the pool in the end
+-- ---- the pool with one of the two chains left
 one_left : (b q : PoolView) (c : ℕ) → q.mbufs ≡ b.mbufs → q.clusters ≡ b.clusters → finmap.get b.chains c ≡ None
     → IsLive q c → ((k : ℕ) → k ≢ c → finmap.get q.chains k ≡ finmap.get b.chains k)
     → Adds b q c (chain_of q c)
@@ -112,7 +112,7 @@ two_freed {b} {p} {c} {d} q h is =
       | inr nd ↦ get_left p.chains d k nd ∙ h.others k nc nd
     ])
 
--- it was linked after the first one, which is v then
+-- the second chain was linked after the first one, whose value is then v
 pub two_linked : {b p : PoolView} {c d : ℕ} (q : PoolView) (v : ChainView) → HasTwo b p c d
     → q ≡ with_chain (without p d) c v → Adds b q c (chain_of q c)
 two_linked {b} {p} {c} {d} q v h is =
@@ -125,7 +125,7 @@ two_linked {b} {p} {c} {d} q v h is =
       | inr nd ↦ get_left p.chains d k nd ∙ h.others k nc nd
     ])
 
--- a new chain beside one
+-- a new chain was added to a live one
 pub two_new : {p q : PoolView} {d : ℕ} {w : ChainView} (c : ℕ) → IsLive p c → Adds p q d w → HasTwo (without p c) q c d
 two_new {p} {q} {d} {w} c live a =
     let ne : c ≢ d = apart p q d w a c live in
@@ -142,7 +142,7 @@ two_new {p} {q} {d} {w} c live a =
           ∙ sym (get_left p.chains c k nc);
     }
 
--- the first one was cut, and its back linked after the second one
+-- the first chain was cut, and its second part linked after the second chain
 pub two_moved : {b p : PoolView} {c d : ℕ} (q r : PoolView) (e : ℕ) (v w x : ChainView) → HasTwo b p c d
     → Adds (with_chain p c v) q e w → r ≡ with_chain (without q e) d x → HasTwo b r c d
 two_moved {b} {p} {c} {d} q r e v w x h a is =
@@ -169,7 +169,7 @@ two_moved {b} {p} {c} {d} q r e v w x h a is =
           ];
     }
 
--- both stay
+-- both chains stay
 pub two_parts : (p q : PoolView) (c d : ℕ) → HasTwo (without p c) q c d
     → Adds (with_chain p c (chain_of q c)) q d (chain_of q d)
 two_parts p q c d h =

@@ -9,7 +9,7 @@ use Rattle.mbuf_chain.proofs.Laws.Two.{two_new, two_first, two_linked}
 use Rattle.chain_ops.proofs.Writes.{in_plain-none, in_plain_bytes, plain_counts, copied_back_bytes}
 use Rattle.chain_ops.proofs.copyback.m_copyback.Goals as goal
 
--- nothing lies after the end
+-- if the range is within the chain, there is no tail
 inside : (n off : ℕ) (xs : List ℕ) → off + length xs ≤ n → length (tail_of n off xs) ≡ 0
 inside n off xs h =
     omega (

@@ -14,7 +14,7 @@ on_err : {T E P : Type 0} (r : Result T E) → P → OnErr r P
 on_err (Ok x) h = tt
 on_err (Err y) h = h
 
--- so many bytes are left
+-- the number of bytes that are left
 size : (z : ℕ) (xs : List ℕ) → length (replicate z 0 ++ xs) ≡ z + length xs
 size z xs = omega (arith, length-append (replicate z 0) xs, length-replicate {A = ℕ} z 0)
 
@@ -29,7 +29,7 @@ some z xs h =
           (in_plain-some (replicate z 0 ++ xs) (omega (arith, h, size z xs))),
     )
 
--- one mbuf more was made
+-- one more mbuf was made
 step : (done now : List Entry) (z z' n : ℕ) (xs later : List ℕ) → 0 < z + length xs → z' ≡ z - 108 → n ≡ 108 - z
     → later ≡ drop n xs → now ≡ done ++ (first_entry (replicate z 0 ++ xs) ∷ [])
     → now ++ in_plain (replicate z' 0 ++ later) ≡ done ++ in_plain (replicate z 0 ++ xs)

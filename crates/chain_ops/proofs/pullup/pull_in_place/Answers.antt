@@ -12,7 +12,7 @@ use Rattle.chain_ops.proofs.Trims.{changed_none}
 use Rattle.chain_ops.proofs.Joins.{first_entry, first_split, room_plain, room_back, moved-none, first_bytes}
 use Rattle.chain_ops.proofs.pullup.pull_in_place.Goals as goal
 
--- what the chain is once it was cut after its first mbuf
+-- the chain after it was cut after its first mbuf
 here : (p q : PoolView) (k d : ℕ) (w : ChainView) → Adds (with_chain p k (first_part 1 (chain_of p k))) q d w
     → chain_of q k ≡ first_part 1 (chain_of p k)
 here p q k d w a =

@@ -3,7 +3,7 @@ use Rattle.mbuf_chain.specs.Chain.{ChainView, chain_of, entry_of, string}
 use Rattle.ip_out.proofs.Firsts.{first_bytes}
 use Rattle.ip_out.proofs.head.read_head.Goals as goal
 
--- the bytes that are read where they lie
+-- the bytes that are read in place
 in_place : (c : goal.After-head_or_fault)
     → c.in-Some.bytes.now ≡ take 20 (string (chain_of c.args.pool.now c.args.chain.now))
 in_place c =

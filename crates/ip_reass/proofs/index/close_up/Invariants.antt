@@ -4,7 +4,7 @@ use Rattle.ip_reass.specs.Inside.Index.{AreLinked, buckets_in}
 use Rattle.ip_reass.specs.declared.index.Row.{Row}
 use Rattle.ip_reass.proofs.index.close_up.Given as goal
 
--- the rows up to k are in place, and those after it are as they were
+-- the rows up to k are in place, and those after it are unchanged
 abbrev pub invariant-rows : goal.invariant-rows
 invariant-rows l = record {
   linked : AreLinked l.lasts l.rows l.k;

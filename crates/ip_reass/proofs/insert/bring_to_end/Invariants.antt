@@ -2,7 +2,7 @@ use Rattle.std.proofs.Common.{◌≡◌, ◌≤◌, ◌<◌, ◌-◌, length, ge
 use Rattle.ip_reass.specs.declared.datagram.Datagram.{Datagram}
 use Rattle.ip_reass.proofs.insert.bring_to_end.Given as goal
 
--- the row stands at k, and the others in their order
+-- the row to remove is at k, and the others are in order
 abbrev pub invariant-rows : goal.invariant-rows
 invariant-rows l = record {
   place : l.i ≤ l.k;

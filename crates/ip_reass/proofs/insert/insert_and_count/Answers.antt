@@ -6,7 +6,7 @@ use Rattle.ip_reass.proofs.Settled.{Lent, lent_table, lent_kept, lent_whole, len
 use Rattle.ip_reass.proofs.Queues.{covered_layout}
 use Rattle.ip_reass.proofs.insert.insert_and_count.Goals as goal
 
--- the table after the fragment was laid
+-- the table after the fragment was inserted
 kept : (c : goal.In-Waits) → Lent c.args.pool.now c.args.table.now.items c.args.i c.args.fragment.chain
     (arrived c.args.pool.now c.args.fragment.chain c.args.fragment.head.offset c.args.fragment.head.more)
     c.insert_in.new.pool c.insert_in.new.table

@@ -5,7 +5,7 @@ use Rattle.ip_reass.proofs.Edits.{last_same}
 use Rattle.ip_reass.proofs.insert.take_row.Goals as goal
 use Rattle.ip_reass.proofs.insert.take_row.Goals.{In-Some}
 
--- what is popped is the row that was brought to the end
+-- the popped row is the one that was moved to the end
 taken : (c : In-Some) → (c.pop.new.self.items ≡ remove c.args.table.now.items c.args.i)
     × (c.in-Some.row ≡ get_or c.args.table.now.items c.args.i c.in-Some.row)
 taken c =

@@ -10,7 +10,7 @@ use Rattle.ip_reass.proofs.Counted.{held_between}
 use Rattle.ip_reass.proofs.Lays.{Waits, waits, Settled, settled}
 use Rattle.ip_reass.proofs.queue.insert_trimmed.Goals as goal
 
--- the chain trimmed: what clear needs
+-- the trimmed chain, as `clear` needs it
 change : (c : goal.After-clear-arg-2-1)
     → Changed c.args.pool.now c.args.train.now c.args.chain
     (record (chain_of c.args.pool.now c.args.chain) {
@@ -101,7 +101,7 @@ counted c =
     ((all c).queue_is ∙ ap (λ (n : ℕ). take i were ++ cut c.saturating_sub-skip.result here
     ∷ cut_to (c.args.span.offset + n) (drop i were)) (sym c.len.ensures))
 
--- the fragments held weren't touched when the chain was trimmed
+-- trimming the chain didn't change the fragments of the train
 kept : (c : goal.After-clear-arg-2-1)
     → bytes_held (fragments c.trim_front.new.pool c.args.train.now)
     ≡ bytes_held (fragments c.args.pool.now c.args.train.now)

@@ -33,7 +33,7 @@ unwrap-rest-requires c =
     (cut_place c.args.first c.requires.pool c.requires.live c.requires.some c.requires.within
     c.end_of-last.ensures.cell).some c.head-head.result c.head-head.ensures.value
 
--- both chains, once the first one's last mbuf is its end
+-- both chains, after the link of the first one's last mbuf is removed
 made : (c : goal.After-set_total-arg-1)
     → IsCut c.args.store.now c.change_head.new.self c.args.first c.unwrap-rest.result c.args.keep c.end_of-last.result.1
     c.packet_len-whole.result

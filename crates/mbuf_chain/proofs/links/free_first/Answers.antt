@@ -16,7 +16,7 @@ unwrap-requires c =
     subst (λ (n : Option ℕ). IsSome n) (sym c.free_mbuf.ensures.next)
     (next_some c.args.store.now c.args.first c.requires.pool c.requires.live c.requires.several)
 
--- what is left of the chain
+-- the rest of the chain
 left : (c : goal.After-unwrap) → Dropped c.args.store.now c.free_mbuf.new.store c.args.first c.unwrap.result
 left c =
     dropped c.args.store.now c.free_mbuf.new.store c.args.first c.unwrap.result c.requires.pool c.requires.live

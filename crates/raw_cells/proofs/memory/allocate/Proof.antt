@@ -1,4 +1,4 @@
--- `allocate` takes a block in which nothing was written, and keeps the right to give it back. Assumes `Logic`.
+-- `allocate` returns a block to which nothing was written, and the right to free it. Assumes `Logic`.
 use Rattle.std.proofs.Common.{◌*◌, ◌<◌, ◌^◌, List, [], ◌∷◌, ◌++◌, refl, ◌∙◌, arith, lit<, w64, Ok, Err, true, false}
 use mir.Syntax.{Ty, Fn, Args, a_type, dcons, dnil}
 use mir.Val.{Val, vint, vptr, vstruct, vcons, vnil}

@@ -1,4 +1,4 @@
--- `deallocate` makes one room of the block again, and gives it back with the right to do so. Assumes `Logic`.
+-- `deallocate` joins the parts of the block to one piece of memory, and frees it. Assumes `Logic`.
 use Rattle.std.proofs.Common.{◌≡◌, ℕ, ◌+◌, ◌*◌, List, [], ◌∷◌, ◌++◌, length, refl, sym, ap, ◌∙◌, subst, arith, lit<, w64}
 use lib.Dec.{T}
 use mir.Syntax.{Ty, Fn, Args, a_type, dcons, dnil, ty_unit}

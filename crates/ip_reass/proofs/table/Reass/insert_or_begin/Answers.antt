@@ -23,7 +23,7 @@ place_of-requires-clause-few c =
     room c.args.pool.now c.args.self.now.datagrams c.args.chain c.laws.ensures c.requires.ready.table
     c.requires.ready.fragments c.requires.owned
 
--- ---- no mbuf was to be had for the key
+-- ---- no mbuf was free for the key
 lacks : (c : goal.After-count_ended) → Lacks c.args.pool.now c.args.self.now c.args.counters.now (key_in c.args.head)
     c.args.chain c.free_chain.new.self c.place_of.new.self c.place_of.new.counters
 lacks c =
@@ -53,7 +53,7 @@ returns-in_default-clause-ready c = (lacks c).ready
 pub returns-in_default-clause-moves : goal.returns-in_default-clause-moves
 returns-in_default-clause-moves c = (lacks c).moves
 
--- ---- it's laid at its place
+-- ---- it's put at its place
 there : (c : goal.After-insert_and_count-arg-3-1)
     → Placed c.args.pool.now c.args.self.now c.args.counters.now (key_in c.args.head) c.args.chain c.in-Some.i
     c.place_of.new.pool (record { datagrams = c.self.inside.datagrams.items; room = c.self.inside.index.room })

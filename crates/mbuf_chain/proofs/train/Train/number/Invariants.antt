@@ -3,6 +3,6 @@ use Rattle.mbuf_chain.specs.Train.{numbers}
 use Rattle.mbuf_chain.proofs.Runs.{IsRun}
 use Rattle.mbuf_chain.proofs.train.Train.number.Given as goal
 
--- from here on stand the chains that aren't passed
+-- the chains that the loop hasn't passed are linked from here on
 abbrev pub invariant-chains : goal.invariant-chains
 invariant-chains l = IsRun l.pool (Some l.at) (drop l._passed (numbers l.pool l.self))

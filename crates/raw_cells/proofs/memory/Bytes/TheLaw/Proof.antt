@@ -1,4 +1,4 @@
--- A `&` to a block's bytes lends each byte that was written, and what was not written lends nothing. Assumes `Logic`.
+-- A `&` to a block's bytes lends each byte that was written, and none that wasn't. Assumes `Logic`.
 use Rattle.std.proofs.Common.{◌≡◌, ℕ, ◌+◌, ◌^◌, List, [], ◌∷◌, length, refl, ap, subst}
 use seplogic.Ra.Ura.{Ura}
 use base.Fraction.{full_share}

@@ -8,7 +8,7 @@ use Rattle.raw_cells.proofs.Parts.{part_written, part_within, region_sized}
 use Rattle.raw_cells.proofs.Laws.{sized_written}
 use Rattle.raw_cells.proofs.region.Region.copy.Goals as goal
 
--- a copy is a write
+-- copying within a list is a write over it
 copied : (bs : List ℕ) (a d n l : ℕ) → l ≡ length bs → a + n ≤ length bs → d + n ≤ length bs
     → over bs 0 (take l (copy_within (take l bs) a (a + n) d)) ≡ over bs d (take n (take n (drop a bs)))
 copied bs a d n l e from to =
