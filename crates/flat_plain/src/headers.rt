@@ -141,7 +141,7 @@ pub fn packet(alloc: Global, head: Head, carried: &[u8]) -> Result<Vec<u8>, Allo
 }
 
 /// Builds what the UDP checksum covers in addition to the UDP datagram.
-fn pseudo_header(source: u32, destination: u32, n: u16) -> [u8; 12]
+pub fn pseudo_header(source: u32, destination: u32, n: u16) -> [u8; 12]
     ensures { result ≡ Header.pseudo_header source destination n }
 {
     let mut bytes = [0; 12];
