@@ -35,7 +35,7 @@ pub fn u16_at(bytes: &[u8], at: usize) -> u16
 }
 
 /// Returns the big-endian number in the four bytes from offset `at`.
-fn u32_at(bytes: &[u8], at: usize) -> u32
+pub fn u32_at(bytes: &[u8], at: usize) -> u32
     requires { at + 4 ≤ length bytes.now }
     ensures { result ≡ Header.u32_at at bytes.now }
 {

@@ -1,12 +1,11 @@
 //! The checksums that would be right.
-ghost use Rattle.std.specs.Prelude.{◌≡◌, ◌+◌, ◌≤◌, length, take, drop};
+ghost use Rattle.std.specs.Prelude.{◌≡◌, ◌≤◌, length, take, drop};
 ghost use Rattle.params.specs.declared.TheConstants.{IP_HEADER, UDP_HEADER};
 ghost use Rattle.flat_model.specs.Packets.Header as header;
 ghost use Rattle.play_why.specs.Values as texts;
 
-use byteorder::{BigEndian, ByteOrder};
 use flat_model::fold;
-use flat_plain::{checksum, pseudo_header, u16_at};
+use flat_plain::{checksum, pseudo_header, u16_at, u32_at};
 use script_loop::Buffer;
 
 /// The most bytes that a checksum covers.
@@ -23,14 +22,6 @@ pub fn right_header_sum(packet: &[u8], covered: &mut Buffer<COVERED>) -> u16
     covered.append(&[0, 0]);
     covered.append(&packet[12..20]);
     checksum(covered.as_slice())
-}
-
-/// Returns the big-endian number in the four bytes at an offset.
-pub fn u32_at(bytes: &[u8], at: usize) -> u32
-    requires { at + 4 ≤ length bytes.now }
-    ensures { result ≡ header.u32_at at bytes.now }
-{
-    BigEndian::read_u32(&bytes[at..])
 }
 
 /// Returns the pseudo header of a datagram in a packet.
