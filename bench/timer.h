@@ -168,6 +168,13 @@ static inline int bench_main(int argc, char **argv, const Table *table)
     return 0;
 }
 
+/* The bytes that the benchmarks sum, copy and send. */
+static inline void fill_bytes(uint8_t *bytes, size_t len)
+{
+    for (size_t at = 0; at < len; at++)
+        bytes[at] = (uint8_t)(at * 7 + at / 256 + 3);
+}
+
 #define COUNT_OF(array) ((int)(sizeof(array) / sizeof *(array)))
 
 #endif

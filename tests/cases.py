@@ -44,6 +44,11 @@ def dialog(name: str, words: Sequence[str], rows: Sequence[tuple[str, str]]) -> 
     return Case(name, words, script, replies, by_rt=False)
 
 
+def counted(**counters: int) -> tuple[str, str]:
+    """Returns `stat` and its reply. An underscore here is a dot in the counter's name."""
+    return "stat", " ".join(["stat", *(f"{name.replace('_', '.')}={n}" for name, n in counters.items())])
+
+
 def of_folder(folder: str, command: str) -> Iterator[Case]:
     """Yields the scripts NAME.txt in a folder, with their options in NAME.txt.args and their replies in
     NAME.txt.stdout."""

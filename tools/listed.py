@@ -73,6 +73,11 @@ def read(path: str) -> str:
     return (TOP / path).read_text(encoding="utf-8")
 
 
+def cells_of(line: str) -> list[str]:
+    """Returns the cells of a row of a Markdown table."""
+    return [cell.strip() for cell in line.strip().removeprefix("|").removesuffix("|").split("|")]
+
+
 def pieces(path: str, pattern: str, text: str | None = None) -> list[Any]:
     """Returns all that the pattern finds in a file, or in a part of it. Fails if it finds nothing."""
     found = re.findall(pattern, read(path) if text is None else text)

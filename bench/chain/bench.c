@@ -37,7 +37,6 @@ static const Table TABLE = {"a chain of bytes", 1, COLUMNS, COUNT_OF(COLUMNS), R
 
 int main(int argc, char **argv)
 {
-    for (size_t at = 0; at < LEN; at++)
-        bytes[at] = (uint8_t)(at * 7 + at / 256 + 3);
+    fill_bytes(bytes, LEN);
     return bench_main(argc, argv, &TABLE);
 }

@@ -190,8 +190,7 @@ int main(int argc, char **argv)
     Table table = {"a sum of bytes", 1, COLUMNS, COUNT_OF(COLUMNS), ROWS, COUNT_OF(ROWS)};
     if (!has_avx2())
         table.row_count--;
-    for (size_t at = 0; at < MOST; at++)
-        bytes[at] = (uint8_t)(at * 7 + at / 256 + 3);
+    fill_bytes(bytes, MOST);
     for (size_t len = 0; argc == 1 && len <= 3000; len++)
         if (!agree(len))
             return 1;

@@ -44,9 +44,8 @@ static const Table TABLE = {"digits of bytes", 1, COLUMNS, COUNT_OF(COLUMNS), RO
 
 int main(int argc, char **argv)
 {
-    for (size_t at = 0; at < MOST; at++) {
-        bytes[at] = (uint8_t)(at * 7 + at / 256 + 3);
+    fill_bytes(bytes, MOST);
+    for (size_t at = 0; at < MOST; at++)
         snprintf((char *)digits + 2 * at, 3, "%02x", bytes[at]);
-    }
     return bench_main(argc, argv, &TABLE);
 }

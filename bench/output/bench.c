@@ -88,8 +88,7 @@ static bool agree(size_t len)
 
 int main(int argc, char **argv)
 {
-    for (int at = 0; at < MOST; at++)
-        bytes[at] = (uint8_t)(at * 7 + at / 256 + 3);
+    fill_bytes(bytes, MOST);
     for (size_t len = 0; argc == 1 && len <= 3000; len++)
         if (!agree(len))
             return 1;

@@ -171,7 +171,6 @@ static const Table TABLE = {"a packet or a send", 1, COLUMNS, COUNT_OF(COLUMNS),
 
 int main(int argc, char **argv)
 {
-    for (size_t at = 0; at < MOST; at++)
-        bytes[at] = (uint8_t)(at * 7 + at / 256 + 3);
+    fill_bytes(bytes, MOST);
     return bench_main(argc, argv, &TABLE);
 }

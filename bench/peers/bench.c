@@ -86,8 +86,7 @@ static bool sum_is_right(void)
 
 int main(int argc, char **argv)
 {
-    for (size_t at = 0; at < MOST; at++)
-        bytes[at] = (uint8_t)(at * 7 + at / 256 + 3);
+    fill_bytes(bytes, MOST);
     if (!sum_is_right()) {
         fprintf(stderr, "peers_sum of bench/peers/sum.c: a sum is wrong\n");
         return 1;

@@ -32,7 +32,6 @@ static const Table TABLE = {"a datagram", 1, COLUMNS, COUNT_OF(COLUMNS), ROWS, C
 
 int main(int argc, char **argv)
 {
-    for (size_t at = 0; at < MOST; at++)
-        bytes[at] = (uint8_t)(at * 7 + at / 256 + 3);
+    fill_bytes(bytes, MOST);
     return bench_main(argc, argv, &TABLE);
 }

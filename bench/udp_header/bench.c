@@ -86,8 +86,7 @@ static const Table TABLE = {"a header, and data of bytes", 1, COLUMNS, COUNT_OF(
 
 int main(int argc, char **argv)
 {
-    for (size_t at = 0; at < LEN; at++)
-        data[at] = (uint8_t)(at * 7 + at / 256 + 3);
+    fill_bytes(data, LEN);
     c_build(0, 1);
     if (argc == 1 && (!build(0, 1) || memcmp(built, datagram, HEADER + LEN))) {
         fprintf(stderr, "the datagrams differ\n");

@@ -11,6 +11,7 @@ from typing import FrozenSet, List, Optional, Sequence
 
 from ._addresses import address
 from ._case import ABILITIES, Answer, Case, Event, Got, Out, Refused, Wait
+from .kit import bytes_of
 
 TIMEOUT_S = 30.0
 MOST_BYTES = 64 << 20
@@ -190,7 +191,3 @@ def read_event(case: Case, word: str, words: List[str]) -> Event:
     if word == "refused":
         return Refused(step)
     raise ValueError
-
-
-def bytes_of(text: str) -> bytes:
-    return b"" if text == "-" else bytes.fromhex(text)

@@ -8,13 +8,9 @@ from typing import Dict, FrozenSet, List, Optional, Tuple, Union
 from ._addresses import text_of
 from ._packets import USER_PORT
 from ._read import Header, read
+from .kit import hex_of
 
 SLOW_MS = 1000
-
-
-def hex_of(data: bytes) -> str:
-    """Bytes as lines have them: `-` for none."""
-    return data.hex() or "-"
 
 
 @dataclass(frozen=True)

@@ -57,11 +57,11 @@ class Adapter:
 
     def got(self, address: str, port: int, data: bytes, socket: int = 0) -> None:
         """Reports that a socket received a datagram. The address may be "*" if it can't be known."""
-        print(f"got {self.step} {address} {port} {data.hex() or '-'}" + (f" {socket}" if socket else ""))
+        print(f"got {self.step} {address} {port} {hex_of(data)}" + (f" {socket}" if socket else ""))
 
     def out(self, packet: bytes) -> None:
         """Reports that the stack sent a packet."""
-        print(f"out {self.step} {packet.hex() or '-'}")
+        print(f"out {self.step} {hex_of(packet)}")
 
     def play(self, lines: Iterable[str]) -> None:
         """The lines of a case."""
@@ -85,6 +85,11 @@ class Adapter:
 def bytes_of(text: str) -> bytes:
     """The bytes of a line: `-` means no bytes."""
     return b"" if text == "-" else bytes.fromhex(text)
+
+
+def hex_of(data: bytes) -> str:
+    """Bytes as lines have them: `-` for none."""
+    return data.hex() or "-"
 
 
 def forked(play: Callable[[], None]) -> None:

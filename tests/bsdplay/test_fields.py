@@ -6,7 +6,7 @@ import struct
 import pytest
 
 from tests.bsdplay.runs import of_lines, run, same
-from tests.packets import HERE, PEER
+from tests.packets import HERE, PEER, hexed
 from tests.pcaps import records
 
 PORTS = (5000, 7)
@@ -92,7 +92,7 @@ def packet(chance):
         words.append("badsum")
     chance.shuffle(words)
     ends = f"{PEER}:{PORTS[0]} > {HERE}:{PORTS[1]}" if is_udp else f"{PEER} > {HERE}"
-    line = f"rx {'udp' if is_udp else 'raw'} {ends} {sent.hex() or '-'} {' '.join(words)}"
+    line = f"rx {'udp' if is_udp else 'raw'} {ends} {hexed(sent)} {' '.join(words)}"
     return line, by_scapy(fields, flags, carried)
 
 

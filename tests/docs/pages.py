@@ -9,6 +9,8 @@ from typing import Iterable, Iterator, NamedTuple, NoReturn, Sequence
 
 import pytest
 
+from tools.listed import cells_of, number, read
+
 TOP = pathlib.Path(__file__).resolve().parent.parent.parent
 SHOWN = 30
 
@@ -33,11 +35,6 @@ def none_of(faults: Iterable[Fault]) -> None:
         found[SHOWN:] = [f".. and {len(found) - SHOWN} more"]
     if found:
         pytest.fail("\n".join(found), pytrace=False)
-
-
-@functools.lru_cache(maxsize=None)
-def read(path: str) -> str:
-    return (TOP / path).read_text(encoding="utf-8")
 
 
 def lines(path: str) -> Iterator[tuple[str, str]]:
@@ -131,10 +128,6 @@ def unread(place: str, about: str) -> NoReturn:
     pytest.fail(f"{place}: {about}. If it has moved, change the test, too", pytrace=False)
 
 
-def cells_of(line: str) -> list[str]:
-    return [cell.strip() for cell in line.strip().removeprefix("|").removesuffix("|").split("|")]
-
-
 def table(path: str, section: str, *heads: str) -> tuple[str, list[Row]]:
     """Returns the place of the table with these heads in the section whose heading begins with `section`, and its
     rows."""
@@ -163,10 +156,6 @@ def cell_of(path: str, section: str, heads: Iterable[str], first: str, column: i
         if row.cells[0] == first:
             return number(row.cells[column])
     unread(f"{path}:1", f"the table of the section '{section}' has no row '{first}'")
-
-
-def number(text: str) -> int:
-    return int(text.replace("_", "").replace(",", ""), 0)
 
 
 def pieces(path: str, pattern: str, text: str | None = None) -> list:

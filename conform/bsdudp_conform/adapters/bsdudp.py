@@ -8,7 +8,7 @@ import argparse
 import subprocess
 from typing import Callable, Dict, List, Optional, Set, Tuple
 
-from ..kit import Adapter, bytes_of, serve
+from ..kit import Adapter, bytes_of, hex_of, serve
 
 TICK_MS, TICKS_KEPT, QUEUE = 500, 60, 50
 FIRST_DESCRIPTOR = 3
@@ -68,7 +68,7 @@ class Bsdudp(Adapter):
         self.open(0, 7)
 
     def rx(self, packet: bytes) -> None:
-        self.program.later(f"rx {packet.hex() or '-'}")
+        self.program.later(f"rx {hex_of(packet)}")
         self.fragments = self.fragments or packet[6:8] not in (b"\0\0", b"\x40\0")
         for socket in reversed(range(self.count)):
             self.program.later(f"recvfrom {FIRST_DESCRIPTOR + socket} 65535", self.received(socket))
@@ -114,7 +114,7 @@ class Bsdudp(Adapter):
         descriptor, replies = FIRST_DESCRIPTOR + socket, []  # type: int, List[str]
         there = "" if socket in self.connected else f"{address} {port} "
         self.program.later(
-            f"{'send' if socket in self.connected else 'sendto'} {descriptor} {there}{data.hex() or '-'}",
+            f"{'send' if socket in self.connected else 'sendto'} {descriptor} {there}{hex_of(data)}",
             replies.append,
         )
         for _ in range(QUEUE + 1):

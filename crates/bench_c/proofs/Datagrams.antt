@@ -10,6 +10,7 @@ use Rattle.chain_ops.specs.Weights.{layout_entries}
 use Rattle.ip_out.specs.Packets.{IsDatagramChain}
 use Rattle.ip_out.proofs.Laws.{datagram_sent}
 
+-- `Stores` and `SentLayout` are as in proofs/Making of sock_calls, which this crate doesn't use.
 abbrev pub Stores : PoolView → List ℕ → PoolView → ℕ → Type 0
 Stores p bytes q d =
     (cs : List ℕ) × AreFree p cs × (length cs ≡ count_by is_cluster (user (length bytes)))

@@ -9,10 +9,7 @@ use Rattle.capture.specs.Blocks.{Part, block_bytes, size}
 use Rattle.capture.specs.declared.pcapng.fault.Fault.{Fault}
 use Rattle.capture.specs.Packets.{IsFirst}
 use Rattle.capture.specs.Steps.{IsBlockRead}
-
-past_both : (o : Order) (m n : ℕ) (x : List ℕ) → drop 8 (number o w32 m ++ (number o w32 n ++ x)) ≡ x
-past_both Little m n x = refl
-past_both Big m n x = refl
+use Rattle.capture.proofs.Spelled.{past_both}
 
 pub number_len : (o : Order) (n : ℕ) → length (number o w32 n) ≡ 4
 number_len Little n = refl

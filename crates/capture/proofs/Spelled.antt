@@ -33,7 +33,7 @@ past_number : (o : Order) (n : ℕ) (x : List ℕ) → drop 4 (number o w32 n ++
 past_number Little n x = refl
 past_number Big n x = refl
 
-past_both : (o : Order) (m n : ℕ) (x : List ℕ) → drop 8 (number o w32 m ++ (number o w32 n ++ x)) ≡ x
+pub past_both : (o : Order) (m n : ℕ) (x : List ℕ) → drop 8 (number o w32 m ++ (number o w32 n ++ x)) ≡ x
 past_both Little m n x = refl
 past_both Big m n x = refl
 

@@ -9,10 +9,11 @@ use Rattle.std.proofs.lemmas.List.Sums.{sum_by-cons}
 use Rattle.mbuf_chain.specs.declared.place.Place.{Place}
 use Rattle.mbuf_chain.specs.Chain.{Entry, ChainView, PoolView, IsLive, IsPlace, IsUnshared, chain_of, entry_of, no_entry, flat_bytes, references, refers, with_chain, without}
 use Rattle.mbuf_chain.specs.Steps.{overwritten, with_entry}
+use Rattle.mbuf_chain.proofs.Laws.Lists.{take_over, drop_over}
 use Rattle.mbuf_chain.proofs.Laws.Accounts.{references-with, references-without, references-adds}
 use Rattle.chain_ops.specs.Makes.{Makes}
 use Rattle.chain_ops.specs.Writes.{is_shared, is_writable, overlaid, plain_pieces, in_plain, tail_of, copied_back, written_bytes}
-use Rattle.chain_ops.proofs.Laws.Lists.{take_over, take_least, drop_over, drop-append}
+use Rattle.chain_ops.proofs.Laws.Lists.{take_least, drop-append}
 use Rattle.chain_ops.proofs.Laws.Strings.{take_none, drop_none}
 use Rattle.chain_ops.proofs.Lists.{at_entry, flat-append, walk_set}
 use Rattle.chain_ops.proofs.Trims.{entries_now}

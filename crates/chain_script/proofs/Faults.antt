@@ -4,7 +4,8 @@ use Rattle.chain_script.specs.Lines.{Request}
 use Rattle.chain_script.specs.Machines.{Machine, has_slots, is_in_range, hits_shared, is_too_long, is_too_short, lacks_buffers}
 use Rattle.chain_script.specs.Steps.{ChainReply, Wrong_chain, Wrong_range, Shared, Too_long, Too_short, No_buffers, first_true, request_fault, DoesRequest, DoesUnless, ChainStep}
 
-abbrev first_of : Bool → Bool → Bool → Bool → Bool → Bool → Option ChainReply
+-- the fault of a request by its six tests, in their order
+abbrev pub first_of : Bool → Bool → Bool → Bool → Bool → Bool → Option ChainReply
 first_of slots range shared long short lacks = first_true (
     (not slots, Wrong_chain)
     ∷ (not range, Wrong_range)

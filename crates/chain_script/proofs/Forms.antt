@@ -1,4 +1,5 @@
--- From the words after a keyword to what they ask for: each keyword has one form.
+-- From the words after a keyword to what they ask for: each keyword has one form. `place` and `index` have the form of
+-- those in proofs/KeywordLemmas of request, but number other words and another type, so neither serves both.
 use Rattle.std.proofs.Common.{◌≡◌, ℕ, ◌≤◌, List, ◌∷◌, length, if◌then◌else◌, codes, bytes_eq, Option, Some, None, sym, ap, ◌∙◌, subst, arith}
 use Rattle.std.specs.Prelude.{MatchOption, IfSome}
 use Rattle.flat_model.specs.Scripts.Grammar.{words}

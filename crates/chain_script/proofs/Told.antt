@@ -17,8 +17,9 @@ use Rattle.chain_ops.proofs.Laws.Stored.{user_bytes, wire_bytes, copied_back_byt
 use Rattle.script_loop.specs.Printed.{Prints}
 use Rattle.chain_script.specs.Lines.{Request, User, Wire, Copy, Prepend, Pull_up, Adjust, Split, Join, Write_over, Read_out, Show, Free, Ask_usage}
 use Rattle.chain_script.specs.Machines.{Machine, Slot, booted, slot_at, is_held, entries_in, entries_at, header_at, view_at, length_at, with_slot, emptied, times_referred, slots_usage, has_slots, is_in_range, is_range, hits_shared, is_too_long, is_too_short, lacks_buffers}
-use Rattle.chain_script.specs.Steps.{ChainReply, Wrong_chain, Wrong_range, Shared, Too_long, Too_short, No_buffers, first_true, DoesRequest, DoesUnless, ChainStep, Says, shapes_of}
+use Rattle.chain_script.specs.Steps.{ChainReply, Wrong_chain, Wrong_range, Too_long, Too_short, first_true, DoesRequest, DoesUnless, ChainStep, Says, shapes_of}
 use Rattle.chain_script.specs.Strings.{string_in, strings_of, string_at, bytes_at, has_string, has_strings, is_in_strings, is_string_short, string_fault, strings_after, TellsDone, TellsUnless, StringStep, StringSays}
+use Rattle.chain_script.proofs.Faults.{first_of}
 
 -- ---- one slot
 at_string : (b : Machine) (i : ℕ) → string_at (strings_of b) i ≡ string_in (slot_at b i)
@@ -190,26 +191,16 @@ told b new (Show slot) reply s h = (
 told b new (Free slot) reply s h = (h.0, ap strings_of h.1 ∙ strings-emptied b slot)
 told b new Ask_usage reply s h = ((slots_usage b, h.0), ap strings_of h.1)
 
--- ---- the tests in their order, by strings and by the machine
+-- ---- the tests in their order: those of the strings; `first_of` has those of the machine
 abbrev by_strings : Bool → Bool → Bool → Bool → Option ChainReply
 by_strings slots range long short =
     first_true ((not slots, Wrong_chain) ∷ (not range, Wrong_range) ∷ (long, Too_long) ∷ (short, Too_short) ∷ [])
-
-abbrev by_machine : Bool → Bool → Bool → Bool → Bool → Bool → Option ChainReply
-by_machine slots range shared long short lacks = first_true (
-    (not slots, Wrong_chain)
-    ∷ (not range, Wrong_range)
-    ∷ (shared, Shared)
-    ∷ (long, Too_long)
-    ∷ (short, Too_short)
-    ∷ (lacks, No_buffers)
-    ∷ [])
 
 step_by : (b new : Machine) (r : Request) (reply : ChainReply) (s g h l t k : Bool)
     → (h ≡ true → (l ≡ false) × (t ≡ false))
     → (s ≡ true → DoesRequest b r reply new
     → TellsDone (strings_of b) r reply × (strings_of new ≡ strings_after (strings_of b) r))
-    → DoesUnless (by_machine s g h l t k) b r reply new
+    → DoesUnless (first_of s g h l t k) b r reply new
     → TellsUnless (by_strings s g l t) (strings_of b) r reply (strings_of new)
 step_by b new r reply false g h l t k e d u = (u.0, ap strings_of u.1)
 step_by b new r reply true false h l t k e d u = (u.0, ap strings_of u.1)

@@ -101,36 +101,42 @@ slots_usage b = record {
 abbrev pub is_held : Machine → ℕ → Bool
 is_held b i = is_some (slot_at b i)
 
--- the slots are as the request needs them
+-- the slots are as the request needs them, if `held` says which of them have a chain
+abbrev pub slots_fit : (ℕ → Bool) → Request → Bool
+slots_fit held (User slot bytes) = not (held slot)
+slots_fit held (Wire slot bytes) = not (held slot)
+slots_fit held (Copy to slot extent) = held slot && not (held to)
+slots_fit held (Prepend slot bytes) = held slot
+slots_fit held (Pull_up slot n) = held slot
+slots_fit held (Adjust slot n) = held slot
+slots_fit held (Split to slot at) = held slot && not (held to)
+slots_fit held (Join slot other) = held slot && (held other && not (slot == other))
+slots_fit held (Write_over slot off bytes) = held slot
+slots_fit held (Read_out slot off len) = held slot
+slots_fit held (Show slot) = held slot
+slots_fit held (Free slot) = held slot
+slots_fit held Ask_usage = true
+
 abbrev pub has_slots : Machine → Request → Bool
-has_slots b (User slot bytes) = not (is_held b slot)
-has_slots b (Wire slot bytes) = not (is_held b slot)
-has_slots b (Copy to slot extent) = is_held b slot && not (is_held b to)
-has_slots b (Prepend slot bytes) = is_held b slot
-has_slots b (Pull_up slot n) = is_held b slot
-has_slots b (Adjust slot n) = is_held b slot
-has_slots b (Split to slot at) = is_held b slot && not (is_held b to)
-has_slots b (Join slot other) = is_held b slot && (is_held b other && not (slot == other))
-has_slots b (Write_over slot off bytes) = is_held b slot
-has_slots b (Read_out slot off len) = is_held b slot
-has_slots b (Show slot) = is_held b slot
-has_slots b (Free slot) = is_held b slot
-has_slots b Ask_usage = true
+has_slots b request = slots_fit (is_held b) request
 
 abbrev pub is_range : Extent → ℕ → Bool
 is_range All n = true
 is_range (Part off len) n = nat_lt 0 len && nat_le (off + len) n
 
--- the condition of the request holds
+-- the condition of the request holds, if `size` says how many bytes are in each slot
+abbrev pub lengths_fit : (ℕ → ℕ) → Request → Bool
+lengths_fit size (Copy to slot extent) = is_range extent (size slot)
+lengths_fit size (Prepend slot bytes) =
+    nat_lt 0 (length bytes) && (nat_le (length bytes) MHLEN && nat_le (length bytes + size slot) IP_MAX_PACKET)
+lengths_fit size (Split to slot at) = nat_lt at (size slot)
+lengths_fit size (Join slot other) = nat_le (size slot + size other) IP_MAX_PACKET
+lengths_fit size (Write_over slot off bytes) = nat_le (off + length bytes) IP_MAX_PACKET
+lengths_fit size (Read_out slot off len) = nat_le (off + len) (size slot)
+lengths_fit size request = true
+
 abbrev pub is_in_range : Machine → Request → Bool
-is_in_range b (Copy to slot extent) = is_range extent (length_at b slot)
-is_in_range b (Prepend slot bytes) =
-    nat_lt 0 (length bytes) && (nat_le (length bytes) MHLEN && nat_le (length bytes + length_at b slot) IP_MAX_PACKET)
-is_in_range b (Split to slot at) = nat_lt at (length_at b slot)
-is_in_range b (Join slot other) = nat_le (length_at b slot + length_at b other) IP_MAX_PACKET
-is_in_range b (Write_over slot off bytes) = nat_le (off + length bytes) IP_MAX_PACKET
-is_in_range b (Read_out slot off len) = nat_le (off + len) (length_at b slot)
-is_in_range b request = true
+is_in_range b request = lengths_fit (length_at b) request
 
 abbrev pub hits_shared : Machine → Request → Bool
 hits_shared b (Write_over slot off bytes) = not (is_writable (times_referred b) (entries_at b slot) off (length bytes))

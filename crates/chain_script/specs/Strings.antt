@@ -1,14 +1,13 @@
 -- The machine of the chain script reduced to the strings of its slots (this project's own): what its replies say about
 -- bytes, whatever the layouts are.
-use Rattle.std.specs.Prelude.{◌≡◌, ℕ, ◌+◌, ◌==◌, ◌⊎◌, Bool, true, false, not, ◌&&◌, nat_lt, nat_le, List, [], ◌∷◌, ◌++◌, length, take, drop, map, is_some, unwrap_or, Option, Some, None, slice_set, slice_index_or}
-use Rattle.params.specs.declared.TheConstants.{MHLEN, IP_MAX_PACKET}
+use Rattle.std.specs.Prelude.{◌≡◌, ℕ, ◌⊎◌, Bool, false, not, nat_lt, List, [], ◌∷◌, ◌++◌, length, take, drop, map, is_some, unwrap_or, Option, Some, None, slice_set, slice_index_or}
 use Rattle.flat_model.specs.declared.usage.Mbstat.{Mbstat}
 use Rattle.mbuf_chain.specs.Chain.{flat_bytes}
 use Rattle.chain_ops.specs.Extents.{extent_bytes}
 use Rattle.chain_ops.specs.Trims.{adjusted_bytes}
 use Rattle.chain_ops.specs.Writes.{written_bytes}
 use Rattle.chain_script.specs.Lines.{Request, IsRequest, User, Wire, Copy, Prepend, Pull_up, Adjust, Split, Join, Write_over, Read_out, Show, Free, Ask_usage}
-use Rattle.chain_script.specs.Machines.{Machine, Slot, is_range, is_too_long}
+use Rattle.chain_script.specs.Machines.{Machine, Slot, slots_fit, lengths_fit, is_too_long}
 use Rattle.chain_script.specs.Steps.{Shape, ChainReply, Ready, Held, Laid, Shown, Wrong_chain, Wrong_range, Shared, Too_long, Too_short, No_buffers, first_true, chain_answer_text}
 
 -- ---- the strings of a machine
@@ -31,30 +30,10 @@ has_string ss i = is_some (string_at ss i)
 
 -- ---- the faults that the strings determine, in order
 abbrev pub has_strings : List (Option (List ℕ)) → Request → Bool
-has_strings ss (User slot bytes) = not (has_string ss slot)
-has_strings ss (Wire slot bytes) = not (has_string ss slot)
-has_strings ss (Copy to slot extent) = has_string ss slot && not (has_string ss to)
-has_strings ss (Prepend slot bytes) = has_string ss slot
-has_strings ss (Pull_up slot n) = has_string ss slot
-has_strings ss (Adjust slot n) = has_string ss slot
-has_strings ss (Split to slot at) = has_string ss slot && not (has_string ss to)
-has_strings ss (Join slot other) = has_string ss slot && (has_string ss other && not (slot == other))
-has_strings ss (Write_over slot off bytes) = has_string ss slot
-has_strings ss (Read_out slot off len) = has_string ss slot
-has_strings ss (Show slot) = has_string ss slot
-has_strings ss (Free slot) = has_string ss slot
-has_strings ss Ask_usage = true
+has_strings ss request = slots_fit (has_string ss) request
 
 abbrev pub is_in_strings : List (Option (List ℕ)) → Request → Bool
-is_in_strings ss (Copy to slot extent) = is_range extent (length (bytes_at ss slot))
-is_in_strings ss (Prepend slot bytes) =
-    nat_lt 0 (length bytes) && (nat_le (length bytes) MHLEN
-    && nat_le (length bytes + length (bytes_at ss slot)) IP_MAX_PACKET)
-is_in_strings ss (Split to slot at) = nat_lt at (length (bytes_at ss slot))
-is_in_strings ss (Join slot other) = nat_le (length (bytes_at ss slot) + length (bytes_at ss other)) IP_MAX_PACKET
-is_in_strings ss (Write_over slot off bytes) = nat_le (off + length bytes) IP_MAX_PACKET
-is_in_strings ss (Read_out slot off len) = nat_le (off + len) (length (bytes_at ss slot))
-is_in_strings ss request = true
+is_in_strings ss request = lengths_fit (λ slot. length (bytes_at ss slot)) request
 
 abbrev pub is_string_short : List (Option (List ℕ)) → Request → Bool
 is_string_short ss (Pull_up slot n) = nat_lt (length (bytes_at ss slot)) n

@@ -29,6 +29,9 @@ use Rattle.flat_wire.specs.Wire.{given, packet_out}
 use Rattle.flat_ether.specs.Laws.{IsOwn}
 
 -- ---- what an arrival doesn't change
+--
+-- The lemmas are those of proofs/Closed in flat_wire, for one predicate. They can't be cited here: flat_wire has no
+-- Laws.
 
 module _ (c : Config) (out : List Item) where
   abbrev As : State → Type 0

@@ -256,7 +256,8 @@ IsUnforged address sent f =
 
 -- Two hosts of any number on one Ethernet. Each frame that arrived at the second one is one that a host gave, in any
 -- order and any number of times, or has no UDP packet with the first one's address; and the program itself passed the
--- second one no such packet. The first one sent fewer than 65,536 times, and no other host has its address.
+-- second one no such packet. The first one sent fewer than 65,536 times, and no other host has its address. The first
+-- seven members are those of `AreOnEthernet`: written out, they can be read without it.
 pub record AreAmongHosts (c d : Config) (l m : Link) (sent came : List HostAct) (s t : Host) : Type 0 where
   pub first_boots : IsConfig c
   pub second_boots : IsConfig d

@@ -35,7 +35,7 @@ pub fn u16_at(bytes: &[u8], at: usize) -> u16
 }
 
 /// Returns the big-endian number in the four bytes from offset `at`.
-fn u32_at(bytes: &[u8], at: usize) -> u32
+pub fn u32_at(bytes: &[u8], at: usize) -> u32
     requires { at + 4 ≤ length bytes.now }
     ensures { result ≡ Header.u32_at at bytes.now }
 {
@@ -141,7 +141,7 @@ pub fn packet(alloc: Global, head: Head, carried: &[u8]) -> Result<Vec<u8>, Allo
 }
 
 /// Builds what the UDP checksum covers in addition to the UDP datagram.
-fn pseudo_header(source: u32, destination: u32, n: u16) -> [u8; 12]
+pub fn pseudo_header(source: u32, destination: u32, n: u16) -> [u8; 12]
     ensures { result ≡ Header.pseudo_header source destination n }
 {
     let mut bytes = [0; 12];

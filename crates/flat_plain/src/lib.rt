@@ -17,7 +17,9 @@ mod rooms;
 mod sums;
 mod weights;
 
-pub use headers::{Head, head_fault, head_of, packet, u16_at, udp, udp_fault};
+pub use headers::{
+    Head, head_fault, head_of, packet, pseudo_header, u16_at, u32_at, udp, udp_fault,
+};
 pub use lookup::{Pcb, best, exact, matches, receivers, score};
 pub use maps::{Cell, Fragment, is_covered, overlay, whole};
 pub use needs::{Buffers, need, need_bcast};

@@ -1,24 +1,9 @@
 -- Ranges of bytes across pieces.
-use Rattle.std.proofs.Common.{◌≡◌, ℕ, zero, suc, ◌+◌, ◌-◌, ◌≤◌, min, List, [], ◌∷◌, ◌++◌, length, slice_index_or, take, drop, refl, sym, ap, ◌∙◌, arith, inl, inr, take_all}
+use Rattle.std.proofs.Common.{◌≡◌, ℕ, ◌+◌, ◌-◌, ◌≤◌, min, List, [], ◌∷◌, ◌++◌, length, slice_index_or, take, drop, refl, sym, ap, ◌∙◌, arith, inl, inr, take_all}
 use Rattle.std.proofs.lemmas.List.{length-drop, drop-append-le, take-append-le}
 use Rattle.std.proofs.lemmas.Bool.{cases_lt}
+use Rattle.mbuf_chain.proofs.Laws.Lists.{take_over}
 use Rattle.mbuf_chain.specs.Chain.{ChainView, Entry, entry_of, flat_bytes, no_entry, string}
-
-take_over : (m : ℕ) (xs ys : List ℕ) → take m (xs ++ ys) ≡ take m xs ++ take (m - length xs) ys
-take_over zero [] ys = refl
-take_over (suc m) [] ys = let same : suc m ≡ suc m - 0 = omega arith in ap (λ (k : ℕ). take k ys) same
-take_over zero (x ∷ xs) ys = let none : 0 ≡ 0 - suc (length xs) = omega arith in ap (λ (k : ℕ). take k ys) none
-take_over (suc m) (x ∷ xs) ys =
-    let same : m - length xs ≡ suc m - suc (length xs) = omega arith in
-    ap (λ (zs : List ℕ). x ∷ zs) (take_over m xs ys) ∙ ap (λ (k : ℕ). (x ∷ take m xs) ++ take k ys) same
-
--- a piece that ends before the range
-pub drop_over : (m : ℕ) (xs ys : List ℕ) → length xs ≤ m → drop m (xs ++ ys) ≡ drop (m - length xs) ys
-drop_over m [] ys h = let same : m ≡ m - 0 = omega arith in ap (λ (k : ℕ). drop k ys) same
-drop_over zero (x ∷ xs) ys h = absurd (omega arith)
-drop_over (suc m) (x ∷ xs) ys h =
-    let same : m - length xs ≡ suc m - suc (length xs) = omega arith in
-    drop_over m xs ys (omega arith) ∙ ap (λ (k : ℕ). drop k ys) same
 
 take_least : (m : ℕ) (xs : List ℕ) → take m xs ≡ take (min m (length xs)) xs
 take_least m xs = elim (cases_lt m (length xs)) [
@@ -26,7 +11,8 @@ take_least m xs = elim (cases_lt m (length xs)) [
   | inr h ↦ take_all m xs h ∙ sym (take_all (min m (length xs)) xs (omega arith))
 ]
 
--- a piece in which the range begins or continues
+-- A piece in which the range begins or continues. `piece_copied` of chain_ops is the same with the arguments of `min`
+-- exchanged, as in the code that it's for; neither crate depends on the other.
 pub piece_taken : (piece rest : List ℕ) (skip k want : ℕ) → skip ≤ length piece → k ≡ min want (length piece - skip)
     → take want (drop skip (piece ++ rest)) ≡ take k (drop skip piece) ++ take (want - k) rest
 piece_taken piece rest skip k want inside is =

@@ -4,7 +4,7 @@ use Rattle.std.specs.List.{insert, cons_option}
 use Rattle.std.specs.Prelude.{slice_set, slice_index_or, sum_by}
 use Rattle.std.proofs.lemmas.List.Sums.{sum_by-cons}
 use Rattle.std.proofs.lemmas.Bool.{le-ltb}
-use Rattle.std.proofs.lemmas.List.{length-take, length-append, append_assoc, take-append-le, map-append}
+use Rattle.std.proofs.lemmas.List.{length-take, length-append, append_assoc, map-append}
 use Rattle.std.proofs.lemmas.List.Edits.{insert_end}
 use Rattle.flat_model.specs.Amounts.Weight.{Item}
 use Rattle.flat_model.specs.Fragments.Cuts.{Part, part, cuts}
@@ -311,13 +311,3 @@ held_packets {p} {z} t c n size k mtu h m live is_cut len is =
       length-laid v.entries,
       ap (λ (ps : List Part). sum_by (part_need v) (drop 1 ps)) parts,
     )
-
--- the first bytes of a chain whose first mbuf contains them
-pub first_bytes : (n : ℕ) (v : ChainView) → n ≤ length (entry_of v 0).bytes
-    → take n (entry_of v 0).bytes ≡ take n (string v)
-first_bytes n v long = go v.entries long
-  where
-    go : (es : List Entry) → n ≤ length (slice_index_or es 0 no_entry).bytes
-        → take n (slice_index_or es 0 no_entry).bytes ≡ take n (flat_bytes es)
-    go [] long = refl
-    go (e ∷ es) long = sym (take-append-le n e.bytes (flat_bytes es) long)

@@ -1,6 +1,6 @@
 -- The accounts after an owner's step, by `Moves` only: other chains are unchanged, so the counts change by those of the
 -- owner's chains.
-use Rattle.std.proofs.Common.{◌≡◌, ◌≢◌, ℕ, zero, suc, ◌+◌, ◌<◌, ◌≤◌, List, [], ◌∷◌, None, sum_by, refl, sym, ap, ◌∙◌, subst, arith, inl, inr}
+use Rattle.std.proofs.Common.{◌≡◌, ◌≢◌, ℕ, zero, suc, ◌+◌, ◌<◌, List, [], ◌∷◌, None, sum_by, refl, sym, ap, ◌∙◌, subst, arith, inl, inr}
 use Rattle.std.specs.FinMap as finmap
 use Rattle.std.proofs.lemmas.Bool.{cases_eq}
 use Rattle.std.proofs.lemmas.List.Sums.{sum_by-cons}
@@ -9,9 +9,9 @@ use Rattle.flat_model.specs.Machine.State.{State}
 use Rattle.flat_model.specs.declared.config.Config.{Config}
 use Rattle.mbuf_chain.specs.Chain.{ChainView, PoolView, IsLive, chain_of, without, mbufs_of, references_of, held_mbufs, references}
 use Rattle.mbuf_chain.specs.Owners.{times_among, live_at, IsOwned, Moves}
-use Rattle.mbuf_chain.proofs.Laws.Owners.{times_same, times_other, live_same, live_from, live_first, live_at_most, none_from, apart_first, chain_left}
+use Rattle.mbuf_chain.proofs.Laws.Owners.{times_same, times_other, live_from, live_first, live_at_most, none_from, apart_first, chain_left}
 use Rattle.mbuf_chain.proofs.Laws.Maps.{same, get_gone, get_left}
-use Rattle.mbuf_chain.proofs.Laws.Accounts.{held-without, references-without}
+use Rattle.mbuf_chain.proofs.Laws.Accounts.{owned_left, held-without, references-without}
 use Rattle.ledger.specs.Accounts.{weight_owned, IsAccounted, Shifts}
 use Rattle.ledger.proofs.Weights.{owned_mbufs, owned_bag}
 
@@ -98,14 +98,6 @@ module _ (F : PoolView → ℕ) (f : ChainView → ℕ)
         ap f (chain_left p c x ne),
         sum_left p c xs (omega arith),
       )
-
-  owned_left : (p : PoolView) (c : ℕ) (xs : List ℕ) → IsOwned p (c ∷ xs) → IsOwned (without p c) xs
-  owned_left p c xs o =
-      let gone : times_among c xs ≡ 0 = apart_first p c xs o in
-      λ k. elim (cases_eq k c) [
-        | inl e ↦ subst (λ (j : ℕ). times_among j xs ≤ live_at (without p c) j) (sym e) (omega (arith, gone))
-        | inr ne ↦ omega (arith, o k, times_other k c xs ne, live_same p (without p c) k (get_left p.chains c k ne))
-      ]
 
   falls_left : (p : PoolView) (xs : List ℕ) → IsOwned p xs → F (left p xs) + sum_by (λ k. f (chain_of p k)) xs ≡ F p
   unfolding left

@@ -5,4 +5,5 @@ pub mod Accounts
 pub mod Trains
 pub mod Iterators
 pub mod Maps
+pub mod Lists
 pub mod Two

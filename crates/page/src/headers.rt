@@ -4,10 +4,10 @@ ghost use Rattle.params.specs.declared.TheConstants.{IP_HEADER, IP_UDP_HEADERS};
 ghost use Rattle.page.specs.Headed.{Headed, header_struct, ip_struct, no_header, udp_struct};
 
 use crate::handed::number_of;
-use flat_plain::u16_at;
+use flat_plain::{u16_at, u32_at};
 use link_script::RunFault;
 use params::{FRAGMENT_UNIT, IP_HEADER, IP_UDP_HEADERS};
-use play_why::{COVERED, pseudo_sum, right_header_sum, right_udp_sum, u32_at};
+use play_why::{COVERED, pseudo_sum, right_header_sum, right_udp_sum};
 use script_loop::Buffer;
 use std::alloc::Global;
 

@@ -5,7 +5,8 @@ ghost use Rattle.page.specs.Served.{machine_config, sizes_of};
 use chain_script::Sizes;
 use link_script::Config;
 
-/// The machine of a script of socket calls: `struct page_machine`, of 20 bytes. Its fields are those of `Config`.
+/// The machine of a script of socket calls: `struct page_machine`, of 20 bytes. Its fields are those of `Config`, in
+/// C's layout. `CConfig` of libbsdudp is another library's struct, so that each can change by itself.
 #[repr(C)]
 pub struct PageMachine {
     /// The address of the one interface.

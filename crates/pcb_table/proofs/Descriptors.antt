@@ -8,7 +8,7 @@ use Rattle.flat_model.specs.Amounts.Weight.{times}
 use Rattle.flat_model.specs.Sockets.Lookup.{up_to_first}
 use Rattle.pcb_table.specs.declared.block.Block.{Block}
 use Rattle.pcb_table.specs.Apart.{has_fd}
-use Rattle.pcb_table.proofs.Searching.{counted-cons}
+use Rattle.flat_model.proofs.Laws.{count_cons}
 
 abbrev pub fds_of : List Block → List ℕ
 fds_of bs = map (λ b. b.fd) bs
@@ -18,7 +18,7 @@ fds_of bs = map (λ b. b.fd) bs
 pub named_times : (fd : ℕ) (bs : List Block) → times fd (fds_of bs) ≡ count_by (has_fd fd) bs
 named_times fd [] = refl
 named_times fd (b ∷ bs) =
-    omega (arith, named_times fd bs, counted-cons (has_fd fd) b bs, counted-cons (λ k. k == fd) b.fd (fds_of bs))
+    omega (arith, named_times fd bs, count_cons (has_fd fd) b bs, count_cons (λ k. k == fd) b.fd (fds_of bs))
 
 pub up_to_few : (fd : ℕ) (p : Block → Bool) (bs : List Block)
     → count_by (has_fd fd) (up_to_first p bs) ≤ count_by (has_fd fd) bs
@@ -27,8 +27,8 @@ up_to_few fd p (b ∷ bs) = go (up_to_few fd p bs) (p b)
   where
     go : count_by (has_fd fd) (up_to_first p bs) ≤ count_by (has_fd fd) bs → (t : Bool)
         → count_by (has_fd fd) (cond t (b ∷ []) (b ∷ up_to_first p bs)) ≤ count_by (has_fd fd) (b ∷ bs)
-    go later true = omega (arith, counted-cons (has_fd fd) b bs, counted-cons (has_fd fd) b [])
-    go later false = omega (arith, later, counted-cons (has_fd fd) b bs, counted-cons (has_fd fd) b (up_to_first p bs))
+    go later true = omega (arith, count_cons (has_fd fd) b bs, count_cons (has_fd fd) b [])
+    go later false = omega (arith, later, count_cons (has_fd fd) b bs, count_cons (has_fd fd) b (up_to_first p bs))
 
 pub filter_few : (fd : ℕ) (p : Block → Bool) (bs : List Block)
     → count_by (has_fd fd) (filter p bs) ≤ count_by (has_fd fd) bs
@@ -37,8 +37,8 @@ filter_few fd p (b ∷ bs) = go (filter_few fd p bs) (p b)
   where
     go : count_by (has_fd fd) (filter p bs) ≤ count_by (has_fd fd) bs → (t : Bool)
         → count_by (has_fd fd) (cond t (b ∷ filter p bs) (filter p bs)) ≤ count_by (has_fd fd) (b ∷ bs)
-    go later true = omega (arith, later, counted-cons (has_fd fd) b bs, counted-cons (has_fd fd) b (filter p bs))
-    go later false = omega (arith, later, counted-cons (has_fd fd) b bs)
+    go later true = omega (arith, later, count_cons (has_fd fd) b bs, count_cons (has_fd fd) b (filter p bs))
+    go later false = omega (arith, later, count_cons (has_fd fd) b bs)
 
 -- ---- sums over a list, and over all numbers of a range that has its elements
 
@@ -102,14 +102,14 @@ shares : (f : ℕ → ℕ) (at n : ℕ) (xs : List ℕ) → ((k : ℕ) → 0 < t
     → ((k : ℕ) → 0 < times k xs → k < at + n) → sum_by (share f xs) (range_with_len at n) ≡ sum_by f xs
 shares f at n [] low high = sum_by-zero (range_with_len at n)
 shares f at n (x ∷ xs) low high =
-    let some : 0 < times x (x ∷ xs) = omega (arith, counted-cons (λ k. k == x) x xs, only_here x 1 x refl) in
+    let some : 0 < times x (x ∷ xs) = omega (arith, count_cons (λ k. k == x) x xs, only_here x 1 x refl) in
     omega (
       arith,
       ap (λ (g : ℕ → ℕ). sum_by g (range_with_len at n)) (λ i k. sum_by-cons (λ y. only_at y (f y) k) x xs i),
       sum_by-add (only_at x (f x)) (share f xs) (range_with_len at n),
       sum_only x (f x) at n (low x some) (high x some),
-      shares f at n xs (λ k s. low k (omega (arith, s, counted-cons (λ y. y == k) x xs)))
-          (λ k s. high k (omega (arith, s, counted-cons (λ y. y == k) x xs))),
+      shares f at n xs (λ k s. low k (omega (arith, s, count_cons (λ y. y == k) x xs)))
+          (λ k s. high k (omega (arith, s, count_cons (λ y. y == k) x xs))),
       sum_by-cons f x xs,
     )
 
@@ -118,14 +118,14 @@ share_none f [] k none = refl
 share_none f (x ∷ xs) k none = go (share_none f xs k) (x == k) refl
   where
     go : (times k xs ≡ 0 → share f xs k ≡ 0) → (t : Bool) → (x == k) ≡ t → share f (x ∷ xs) k ≡ 0
-    go later true e = absurd (omega (arith, none, counted-cons (λ y. y == k) x xs, only_here x 1 k (eqb-true x k e)))
+    go later true e = absurd (omega (arith, none, count_cons (λ y. y == k) x xs, only_here x 1 k (eqb-true x k e)))
     go later false e =
         let ne : x ≡ k → ⊥ = eqb-false x k e in
         omega (
           arith,
           sum_by-cons (λ y. only_at y (f y) k) x xs,
           only_elsewhere x (f x) k ne,
-          later (omega (arith, none, counted-cons (λ y. y == k) x xs)),
+          later (omega (arith, none, count_cons (λ y. y == k) x xs)),
         )
 
 share_one : (f : ℕ → ℕ) (xs : List ℕ) (k : ℕ) → times k xs ≡ 1 → share f xs k ≡ f k
@@ -140,7 +140,7 @@ share_one f (x ∷ xs) k one = go (share_one f xs k) (x == k) refl
           sum_by-cons (λ y. only_at y (f y) k) x xs,
           only_here x (f x) k same,
           ap f same,
-          share_none f xs k (omega (arith, one, counted-cons (λ y. y == k) x xs, only_here x 1 k same)),
+          share_none f xs k (omega (arith, one, count_cons (λ y. y == k) x xs, only_here x 1 k same)),
         )
     go later false e =
         let ne : x ≡ k → ⊥ = eqb-false x k e in
@@ -148,7 +148,7 @@ share_one f (x ∷ xs) k one = go (share_one f xs k) (x == k) refl
           arith,
           sum_by-cons (λ y. only_at y (f y) k) x xs,
           only_elsewhere x (f x) k ne,
-          later (omega (arith, one, counted-cons (λ y. y == k) x xs, only_elsewhere x 1 k ne)),
+          later (omega (arith, one, count_cons (λ y. y == k) x xs, only_elsewhere x 1 k ne)),
         )
 
 -- If no number occurs twice in the list, and f is 0 for each number that isn't in it, the sums are the same.

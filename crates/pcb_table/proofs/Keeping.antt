@@ -18,7 +18,8 @@ use Rattle.pcb_table.specs.Inside.Search.{youngest_block, best_block, key_port, 
 use Rattle.pcb_table.specs.Apart.{does_match, has_score, plain, has_fd, four, has_four, lacks_port, AreApart}
 use Rattle.pcb_table.specs.Inside.Fields.{is_connected_as, IsLocated, IsCached, IsLowestUnused}
 use Rattle.pcb_table.specs.Inside.Changed.{unbound_block, block_with_option, bound_block, connected_block, disconnected_block, forgotten, connection_by, connection_of}
-use Rattle.pcb_table.proofs.Searching.{counted-cons, one_sided-most}
+use Rattle.flat_model.proofs.Laws.{count_cons}
+use Rattle.pcb_table.proofs.Searching.{one_sided-most}
 use Rattle.pcb_table.proofs.Places.{one_if, one_if-most, counted-set, counted-remove, counts_at, none_counted, find_gives, find_only, best_found_as}
 
 -- the four values of the new block are those of the old one, or no other block has them
@@ -248,28 +249,28 @@ apart_open bs fd apart lowest most = record {
   fds = λ k. elim (cases_eq fd k) [
     | inl e ↦ omega (
       arith,
-      counted-cons (has_fd k) (unbound_block fd) bs,
+      count_cons (has_fd k) (unbound_block fd) bs,
       one_if-most (fd == k),
       none_counted (has_fd fd) bs lowest.free,
       ap (λ n. count_by (has_fd n) bs) e,
     )
-    | inr ne ↦ omega (arith, counted-cons (has_fd k) (unbound_block fd) bs, ap one_if (ne_eqb fd k ne), apart.fds k)
+    | inr ne ↦ omega (arith, count_cons (has_fd k) (unbound_block fd) bs, ap one_if (ne_eqb fd k ne), apart.fds k)
   ];
   least = λ k some. elim (cases_eq fd k) [
     | inl e ↦ omega (arith, lowest.least, e)
     | inr ne ↦ apart.least k (omega
-        (arith, counted-cons (has_fd k) (unbound_block fd) bs, ap one_if (ne_eqb fd k ne), some))
+        (arith, count_cons (has_fd k) (unbound_block fd) bs, ap one_if (ne_eqb fd k ne), some))
   ];
   most = λ k some. elim (cases_eq fd k) [
     | inl e ↦ omega arith
     | inr ne ↦ apart.most k (omega
-        (arith, counted-cons (has_fd k) (unbound_block fd) bs, ap one_if (ne_eqb fd k ne), some))
+        (arith, count_cons (has_fd k) (unbound_block fd) bs, ap one_if (ne_eqb fd k ne), some))
   ];
-  ports = omega (arith, counted-cons lacks_port (unbound_block fd) bs, apart.ports);
+  ports = omega (arith, count_cons lacks_port (unbound_block fd) bs, apart.ports);
   fours =
       λ local port peer. omega (
         arith,
-        counted-cons (has_four local port peer) (unbound_block fd) bs,
+        count_cons (has_four local port peer) (unbound_block fd) bs,
         apart.fours local port peer,
       );
 }
@@ -277,7 +278,7 @@ apart_open bs fd apart lowest most = record {
 pub cached_open : (bs : List Block) (b : Block) (cache : Option Connection) → IsCached bs cache
     → IsCached (b ∷ bs) cache
 cached_open bs b None h = tt
-cached_open bs b (Some k) h = omega (arith, counted-cons (is_connected_as k) b bs, h)
+cached_open bs b (Some k) h = omega (arith, count_cons (is_connected_as k) b bs, h)
 
 -- ---- how each call changes the block of its descriptor
 
@@ -318,8 +319,8 @@ counted_le p r follows (b ∷ bs) = go (counted_le p r follows bs) (p b) refl
   where
     go : count_by p bs ≤ count_by r bs → (t : Bool) → p b ≡ t → count_by p (b ∷ bs) ≤ count_by r (b ∷ bs)
     go rest true met =
-        omega (arith, counted-cons p b bs, counted-cons r b bs, ap one_if met, ap one_if (follows b met), rest)
-    go rest false missed = omega (arith, counted-cons p b bs, counted-cons r b bs, ap one_if missed, rest)
+        omega (arith, count_cons p b bs, count_cons r b bs, ap one_if met, ap one_if (follows b met), rest)
+    go rest false missed = omega (arith, count_cons p b bs, count_cons r b bs, ap one_if missed, rest)
 
 -- if no block is the best match, none matches
 no_best_counts : (q : LookupKey) (bs : List Block) → is_some (best_block q bs) ≡ false → count_by (does_match q) bs ≡ 0

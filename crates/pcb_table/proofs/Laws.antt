@@ -12,7 +12,7 @@ use Rattle.flat_model.specs.declared.errno.Errno.TheVariants.{BadDescriptor}
 use Rattle.pcb_table.specs.declared.block.Block.{Block}
 use Rattle.pcb_table.specs.Table.{Table, Queues, KeepsOpen, OpensOnly, ClosesOnly, IsOpen, block_at, descriptors, machine, socket_with, sockets_with}
 use Rattle.pcb_table.specs.Apart.{AreApart, has_fd}
-use Rattle.pcb_table.proofs.Searching.{counted-cons}
+use Rattle.flat_model.proofs.Laws.{count_cons}
 use Rattle.pcb_table.proofs.Descriptors.{named_times, sum_in_range}
 use Rattle.pcb_table.proofs.Lifted.{sockets-find}
 use Rattle.pcb_table.proofs.Opened.{is_some-find}
@@ -33,7 +33,7 @@ opened old new fd opens =
     ∙ lt-ltb 0 (times fd (fd ∷ descriptors old))
     (omega (
       arith,
-      counted-cons (λ k. k == fd) fd (descriptors old),
+      count_cons (λ k. k == fd) fd (descriptors old),
       ap (λ t. cond {A = ℕ} t 1 0) (eq-eqb fd fd refl),
     ))
 
@@ -45,7 +45,7 @@ opened_others old new fd k opens ne =
     ≡ times k (descriptors old) =
     omega (
       arith,
-      counted-cons (λ j. j == k) fd (descriptors old),
+      count_cons (λ j. j == k) fd (descriptors old),
       ap (λ t. cond {A = ℕ} t 1 0) (ne_eqb fd k (λ e. ne (sym e))),
     ) in e)
     ∙ sym (open_times k old)
@@ -72,7 +72,7 @@ times_filtered k fd (x ∷ xs) = go (x == fd) refl (k == fd) refl (times_filtere
         omega (
           arith,
           later,
-          counted-cons (λ j. j == k) x xs,
+          count_cons (λ j. j == k) x xs,
           ap (λ t. cond {A = ℕ} t 1 0) (ne_eqb x k (λ same. k_not (sym same ∙ x_is))),
         )
     go false e true f later =
@@ -81,10 +81,10 @@ times_filtered k fd (x ∷ xs) = go (x == fd) refl (k == fd) refl (times_filtere
         omega (
           arith,
           later,
-          counted-cons (λ j. j == k) x rest,
+          count_cons (λ j. j == k) x rest,
           ap (λ t. cond {A = ℕ} t 1 0) (ne_eqb x k (λ same. x_not (same ∙ k_is))),
         )
-    go false e false f later = omega (arith, later, counted-cons (λ j. j == k) x rest, counted-cons (λ j. j == k) x xs)
+    go false e false f later = omega (arith, later, count_cons (λ j. j == k) x rest, count_cons (λ j. j == k) x xs)
 
 pub closed : (old new : Table) (fd : ℕ) → ClosesOnly old fd new → IsNone (block_at fd new)
 closed old new fd closes =

@@ -8,7 +8,7 @@ use Rattle.pcb_table.specs.Table.{KeepsOpen, OpensOnly, ClosesOnly}
 use Rattle.pcb_table.specs.Apart.{AreApart}
 use Rattle.pcb_table.specs.Inside.Fields.{IsLocated, IsLowestUnused}
 use Rattle.pcb_table.specs.Inside.Changed.{unbound_block}
-use Rattle.pcb_table.proofs.Searching.{counted-cons}
+use Rattle.flat_model.proofs.Laws.{count_cons}
 use Rattle.pcb_table.proofs.Descriptors.{fds_of}
 use Rattle.pcb_table.proofs.Lifted.{filter-map}
 use Rattle.pcb_table.proofs.Places.{one_if, located_found, located_remove}
@@ -20,10 +20,10 @@ is_some-find p (b ∷ bs) = go (is_some-find p bs) (p b) refl
   where
     go : is_some (find p bs) ≡ nat_lt 0 (count_by p bs) → (t : Bool) → p b ≡ t
         → is_some (cond t (Some b) (find p bs)) ≡ nat_lt 0 (count_by p (b ∷ bs))
-    go rest true met = sym (lt-ltb 0 (count_by p (b ∷ bs)) (omega (arith, counted-cons p b bs, ap one_if met)))
+    go rest true met = sym (lt-ltb 0 (count_by p (b ∷ bs)) (omega (arith, count_cons p b bs, ap one_if met)))
     go rest false missed =
         rest ∙ ap (nat_lt 0) (let e : count_by p bs
-        ≡ count_by p (b ∷ bs) = omega (arith, counted-cons p b bs, ap one_if missed) in e)
+        ≡ count_by p (b ∷ bs) = omega (arith, count_cons p b bs, ap one_if missed) in e)
 
 fds_set : (bs : List Block) (i : ℕ) (y d : Block) → i < length bs → y.fd ≡ (get_or bs i d).fd
     → fds_of (set bs i y) ≡ fds_of bs

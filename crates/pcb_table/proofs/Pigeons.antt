@@ -1,7 +1,7 @@
 -- Where each of n tests is passed by a block, and no block passes two of them, there are n blocks at least.
 use Rattle.std.proofs.Common.{◌≡◌, ℕ, zero, suc, ◌+◌, ◌<◌, ◌≤◌, Bool, true, false, cond, List, [], ◌∷◌, length, count_by, refl, ap, ◌∙◌, arith}
 use Rattle.pcb_table.specs.declared.block.Block.{Block}
-use Rattle.pcb_table.proofs.Searching.{counted-cons}
+use Rattle.flat_model.proofs.Laws.{count_cons}
 
 module _ (t : ℕ → Block → Bool) where
   -- how many of the first n tests the block passes
@@ -18,7 +18,7 @@ module _ (t : ℕ → Block → Bool) where
   passes-cons zero b bs = refl
   passes-cons (suc n) b bs =
       joined (passes n (b ∷ bs)) (passed n b) (cond (t n b) 1 0) (passes n bs) (count_by (t n) bs)
-      (count_by (t n) (b ∷ bs)) (passes-cons n b bs) (counted-cons (t n) b bs)
+      (count_by (t n) (b ∷ bs)) (passes-cons n b bs) (count_cons (t n) b bs)
     where
       joined : (x a c y z w : ℕ) → x ≡ a + y → w ≡ c + z → x + w ≡ (a + c) + (y + z)
       joined x a c y z w e f = omega arith

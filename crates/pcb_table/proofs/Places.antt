@@ -14,7 +14,7 @@ use Rattle.pcb_table.specs.Table.{IsDescriptor}
 use Rattle.pcb_table.specs.Inside.Search.{youngest_block, best_block, receiving_blocks}
 use Rattle.pcb_table.specs.Apart.{does_match, has_score, has_fd, AreApart}
 use Rattle.pcb_table.specs.Inside.Fields.{IsLocated}
-use Rattle.pcb_table.proofs.Searching.{counted-cons}
+use Rattle.flat_model.proofs.Laws.{count_cons}
 
 -- ---- counts
 
@@ -45,7 +45,7 @@ module _ (p : Block → Bool) where
       go : (find p bs ≡ None → count_by p bs ≡ 0) → (t : Bool) → p b ≡ t → cond t (Some b) (find p bs) ≡ None
           → count_by p (b ∷ bs) ≡ 0
       go rest true met e = absurd (none-some b (sym e))
-      go rest false missed e = omega (arith, counted-cons p b bs, ap one_if missed, rest e)
+      go rest false missed e = omega (arith, count_cons p b bs, ap one_if missed, rest e)
 
   -- ---- the only block that passes
 
@@ -56,21 +56,21 @@ module _ (p : Block → Bool) where
       where
         go : (count_by p bs ≡ 0 → bs ≡ map (λ c. cond (p c) (f c) c) bs) → (t : Bool) → p b ≡ t
             → b ∷ bs ≡ cond t (f b) b ∷ map (λ c. cond (p c) (f c) c) bs
-        go rest true met = absurd (omega (arith, counted-cons p b bs, ap one_if met))
-        go rest false missed = ap (λ cs. b ∷ cs) (rest (omega (arith, counted-cons p b bs)))
+        go rest true met = absurd (omega (arith, count_cons p b bs, ap one_if met))
+        go rest false missed = ap (λ cs. b ∷ cs) (rest (omega (arith, count_cons p b bs)))
 
     pub set_changes : (bs : List Block) (i : ℕ) (d : Block) → i < length bs → p (get_or bs i d) ≡ true
         → count_by p bs ≤ 1 → set bs i (f (get_or bs i d)) ≡ map (λ b. cond (p b) (f b) b) bs
     set_changes [] i d lt met once = absurd (omega arith)
     set_changes (b ∷ bs) zero d lt met once =
-        λ i. cond (sym met i) (f b) b ∷ changed_none bs (omega (arith, counted-cons p b bs, ap one_if met)) i
+        λ i. cond (sym met i) (f b) b ∷ changed_none bs (omega (arith, count_cons p b bs, ap one_if met)) i
     set_changes (b ∷ bs) (suc k) d lt met once = go (set_changes bs k d (omega arith) met) (p b) refl
       where
         go : (count_by p bs ≤ 1 → set bs k (f (get_or bs k d)) ≡ map (λ c. cond (p c) (f c) c) bs) → (t : Bool)
             → p b ≡ t → b ∷ set bs k (f (get_or bs k d)) ≡ cond t (f b) b ∷ map (λ c. cond (p c) (f c) c) bs
         go rest true first =
-            absurd (omega (arith, counted-cons p b bs, ap one_if first, counts_at bs k d (omega arith) met))
-        go rest false other = ap (λ cs. b ∷ cs) (rest (omega (arith, counted-cons p b bs)))
+            absurd (omega (arith, count_cons p b bs, ap one_if first, counts_at bs k d (omega arith) met))
+        go rest false other = ap (λ cs. b ∷ cs) (rest (omega (arith, count_cons p b bs)))
 
     -- a change that keeps this block the same
     pub only_changes : (bs : List Block) (d : Block) → f d ≡ d → find p bs ≡ Some d → count_by p bs ≤ 1
@@ -83,8 +83,8 @@ module _ (p : Block → Bool) where
         go rest true met e =
             let is : b ≡ d = same_Some b d e in
             let kept : b ≡ f b = is ∙ sym same ∙ ap f (sym is) in
-            λ i. kept i ∷ changed_none bs (omega (arith, once, counted-cons p b bs, ap one_if met)) i
-        go rest false missed e = ap (λ cs. b ∷ cs) (rest e (omega (arith, once, counted-cons p b bs)))
+            λ i. kept i ∷ changed_none bs (omega (arith, once, count_cons p b bs, ap one_if met)) i
+        go rest false missed e = ap (λ cs. b ∷ cs) (rest e (omega (arith, once, count_cons p b bs)))
 
   kept_all : (bs : List Block) → count_by p bs ≡ 0 → bs ≡ filter (λ b. not (p b)) bs
   kept_all [] e = refl
@@ -92,22 +92,22 @@ module _ (p : Block → Bool) where
     where
       go : (count_by p bs ≡ 0 → bs ≡ filter (λ c. not (p c)) bs) → (t : Bool) → p b ≡ t
           → b ∷ bs ≡ cond (not t) (b ∷ filter (λ c. not (p c)) bs) (filter (λ c. not (p c)) bs)
-      go rest true met = absurd (omega (arith, counted-cons p b bs, ap one_if met))
-      go rest false missed = ap (λ cs. b ∷ cs) (rest (omega (arith, counted-cons p b bs)))
+      go rest true met = absurd (omega (arith, count_cons p b bs, ap one_if met))
+      go rest false missed = ap (λ cs. b ∷ cs) (rest (omega (arith, count_cons p b bs)))
 
   pub remove_filters : (bs : List Block) (i : ℕ) (d : Block) → i < length bs → p (get_or bs i d) ≡ true
       → count_by p bs ≤ 1 → remove bs i ≡ filter (λ b. not (p b)) bs
   remove_filters [] i d lt met once = absurd (omega arith)
   remove_filters (b ∷ bs) zero d lt met once =
-      kept_all bs (omega (arith, counted-cons p b bs, ap one_if met))
+      kept_all bs (omega (arith, count_cons p b bs, ap one_if met))
       ∙ (λ i. cond (not (sym met i)) (b ∷ filter (λ c. not (p c)) bs) (filter (λ c. not (p c)) bs))
   remove_filters (b ∷ bs) (suc k) d lt met once = go (remove_filters bs k d (omega arith) met) (p b) refl
     where
       go : (count_by p bs ≤ 1 → remove bs k ≡ filter (λ c. not (p c)) bs) → (t : Bool) → p b ≡ t
           → b ∷ remove bs k ≡ cond (not t) (b ∷ filter (λ c. not (p c)) bs) (filter (λ c. not (p c)) bs)
       go rest true first =
-          absurd (omega (arith, counted-cons p b bs, ap one_if first, counts_at bs k d (omega arith) met))
-      go rest false other = ap (λ cs. b ∷ cs) (rest (omega (arith, counted-cons p b bs)))
+          absurd (omega (arith, count_cons p b bs, ap one_if first, counts_at bs k d (omega arith) met))
+      go rest false other = ap (λ cs. b ∷ cs) (rest (omega (arith, count_cons p b bs)))
 
   pub find_only : (bs : List Block) (i : ℕ) (d : Block) → i < length bs → p (get_or bs i d) ≡ true → count_by p bs ≤ 1
       → find p bs ≡ Some (get_or bs i d)
@@ -118,8 +118,8 @@ module _ (p : Block → Bool) where
       go : (count_by p bs ≤ 1 → find p bs ≡ Some (get_or bs k d)) → (t : Bool) → p b ≡ t
           → cond t (Some b) (find p bs) ≡ Some (get_or bs k d)
       go rest true first =
-          absurd (omega (arith, counted-cons p b bs, ap one_if first, counts_at bs k d (omega arith) met))
-      go rest false other = rest (omega (arith, counted-cons p b bs))
+          absurd (omega (arith, count_cons p b bs, ap one_if first, counts_at bs k d (omega arith) met))
+      go rest false other = rest (omega (arith, count_cons p b bs))
 
   -- ---- a block that a search found is in the list
 

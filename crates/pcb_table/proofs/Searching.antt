@@ -1,11 +1,11 @@
 -- The youngest and the best block of a list, after one more block.
-use Rattle.std.proofs.Common.{◌≡◌, ◌≢◌, ℕ, zero, suc, ◌+◌, ◌<◌, ◌≤◌, Bool, true, false, ◌&&◌, ◌==◌, cond, List, [], ◌∷◌, ◌++◌, take, take_all, ◌-◌, drop, length, get_or, Option, Some, None, is_some, find, count_by, refl, sym, ap, ◌∙◌, subst, arith, ◌⊎◌, inl, inr, append_assoc, append-nil}
+use Rattle.std.proofs.Common.{◌≡◌, ◌≢◌, ℕ, zero, suc, ◌<◌, ◌≤◌, Bool, true, false, ◌&&◌, ◌==◌, cond, List, [], ◌∷◌, ◌++◌, take, take_all, ◌-◌, drop, length, get_or, Option, Some, None, is_some, find, count_by, refl, sym, ap, ◌∙◌, subst, arith, ◌⊎◌, inl, inr, append_assoc, append-nil}
 use Rattle.std.specs.Option.{option_or}
 use Rattle.std.proofs.lemmas.List.Folds.{find-append}
-use Rattle.std.proofs.lemmas.List.Sums.{sum_by-cons}
 use Rattle.std.proofs.lemmas.Bool.{and_parts, false≢true}
 use Rattle.flat_model.specs.declared.lookup_key.LookupKey.{LookupKey}
 use Rattle.flat_model.specs.Sockets.Lookup.{agree, are_same, is_addr, wildcards, one_sided}
+use Rattle.flat_model.proofs.Laws.{count_cons}
 use Rattle.pcb_table.specs.declared.block.Block.{Block}
 use Rattle.pcb_table.specs.Inside.Search.{does_agree, from_port, has_port, youngest_block, best_block}
 use Rattle.pcb_table.specs.Apart.{plain, does_match, has_score}
@@ -326,10 +326,6 @@ none_best q xs is =
 
 -- ---- a block that is found is there
 
-pub counted-cons : {X : Type 0} (p : X → Bool) (x : X) (xs : List X)
-    → count_by p (x ∷ xs) ≡ cond (p x) 1 0 + count_by p xs
-counted-cons p x xs = sum_by-cons (λ y. cond (p y) 1 0) x xs
-
 -- if p implies r and p finds an element, r passes at least once
 pub found_counts : {X : Type 0} (p r : X → Bool) → ((x : X) → p x ≡ true → r x ≡ true) → (xs : List X)
     → is_some (find p xs) ≡ true → 1 ≤ count_by r xs
@@ -338,8 +334,8 @@ found_counts p r follows (x ∷ xs) e = go (found_counts p r follows xs) (p x) r
   where
     go : (is_some (find p xs) ≡ true → 1 ≤ count_by r xs) → (b : Bool) → p x ≡ b
         → is_some (cond b (Some x) (find p xs)) ≡ true → 1 ≤ count_by r (x ∷ xs)
-    go rest true met e = omega (arith, counted-cons r x xs, ap (λ t. cond {A = ℕ} t 1 0) (follows x met))
-    go rest false missed e = omega (arith, counted-cons r x xs, rest e)
+    go rest true met e = omega (arith, count_cons r x xs, ap (λ t. cond {A = ℕ} t 1 0) (follows x met))
+    go rest false missed e = omega (arith, count_cons r x xs, rest e)
 
 pub best_counts : (q : LookupKey) (bs : List Block) → is_some (best_block q bs) ≡ true → 1 ≤ count_by (does_match q) bs
 best_counts q bs e = go (youngest_block 0 q bs) (youngest_block 1 q bs) refl refl e

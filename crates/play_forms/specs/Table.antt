@@ -79,7 +79,8 @@ host_commands =
     ∷ command.Show
     ∷ []
 
--- the commands for one host of many: those of a machine, and those for hosts on an Ethernet only
+-- The commands for one host of many: those of a machine, and those for hosts on an Ethernet only. It is written out as
+-- the array in src/hosted.rt is, so that both are equal row by row.
 abbrev pub hosted_commands : List Command
 hosted_commands =
     command.Socket

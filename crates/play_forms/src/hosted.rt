@@ -8,6 +8,7 @@ use crate::command::Command;
 pub fn hosted_commands() -> [Command; 16]
     ensures { result ≡ table.hosted_commands }
 {
+    // The first 13 are those of `host_commands`. Arrays can't be joined without a copy, so both are written out.
     [
         Command::Socket,
         Command::Bind,

@@ -1,7 +1,6 @@
 //! Descriptions of frames.
 ghost use Rattle.std.specs.Prelude.{◌≡◌, ◌+◌, ◌≤◌, ◌++◌, length};
 ghost use Rattle.params.specs.declared.TheConstants.{IP_MAX_PACKET};
-ghost use Rattle.flat_model.specs.Packets.Header as numbers;
 ghost use Rattle.flat_ether.specs.Frames as frames;
 ghost use Rattle.flat_ether.specs.declared.sizes.TheConstants.{ARP_BYTES, ETHER_HEADER};
 ghost use Rattle.play_text.specs.Frames as texts;
@@ -12,7 +11,7 @@ use crate::piece::put;
 use flat_ether::{
     ARP_BYTES, ARP_REPLY, ARP_REQUEST, Arp, ETHER_HEADER, ETHER_TYPE_ARP, ETHER_TYPE_IP, Mac,
 };
-use flat_plain::u16_at;
+use flat_plain::{u16_at, u32_at};
 use script_loop::Buffer;
 
 /// Hardware type 1, Ethernet (RFC 826).
@@ -20,14 +19,6 @@ const HARDWARE_ETHERNET: u16 = 1;
 
 /// The lengths of both kinds of address, 6 and 4 bytes.
 const LENGTHS: u16 = 0x0604;
-
-/// Returns the number in the four bytes from offset `at`.
-fn u32_at(bytes: &[u8], at: usize) -> u32
-    requires { at + 4 ≤ length bytes.now }
-    ensures { result ≡ numbers.u32_at at bytes.now }
-{
-    65_536 * u32::from(u16_at(bytes, at)) + u32::from(u16_at(bytes, at + 2))
-}
 
 /// Returns the hardware address in the six bytes from offset `at`.
 fn mac_at(bytes: &[u8], at: usize) -> Mac

@@ -2,7 +2,7 @@
 ghost use Rattle.std.specs.Prelude.{◌≡◌, [], IfOk, None};
 ghost use Rattle.play_why.specs.Shares as shares;
 
-use crate::sums::u32_at;
+use flat_plain::u32_at;
 use params::{FIRST_MULTICAST, IP_HEADER, PROTOCOL_UDP};
 use std::alloc::{AllocError, Global};
 

@@ -3,9 +3,8 @@ ghost use Rattle.std.specs.Prelude.{◌≡◌, ◌≤◌, length, IfSome};
 ghost use Rattle.params.specs.declared.TheConstants.{IP_HEADER};
 ghost use Rattle.play_why.specs.Keys as keys;
 
-use crate::sums::u32_at;
 use flat_model::FragmentKey;
-use flat_plain::u16_at;
+use flat_plain::{u16_at, u32_at};
 use params::IP_HEADER;
 
 /// Returns whether two fragments belong to one datagram.

@@ -32,7 +32,7 @@ pub use judge::{Arrival, Judge};
 pub use layout::Layout;
 pub use parts::Loss;
 pub use ports::MOST_PORTS;
-pub use sums::{COVERED, pseudo_sum, right_header_sum, right_udp_sum, u32_at};
+pub use sums::{COVERED, pseudo_sum, right_header_sum, right_udp_sum};
 pub use values::Value;
 pub use verdict::Verdict;
 

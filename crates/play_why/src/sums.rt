@@ -1,13 +1,11 @@
 //! The checksums that would be right.
-ghost use Rattle.std.specs.Prelude.{◌≡◌, ◌+◌, ◌≤◌, ◌<◌, ◌++◌, length, take, drop};
+ghost use Rattle.std.specs.Prelude.{◌≡◌, ◌≤◌, length, take, drop};
 ghost use Rattle.params.specs.declared.TheConstants.{IP_HEADER, UDP_HEADER};
 ghost use Rattle.flat_model.specs.Packets.Header as header;
 ghost use Rattle.play_why.specs.Values as texts;
 
-use byteorder::{BigEndian, ByteOrder};
 use flat_model::fold;
-use flat_plain::{checksum, u16_at};
-use params::PROTOCOL_UDP;
+use flat_plain::{checksum, pseudo_header, u16_at, u32_at};
 use script_loop::Buffer;
 
 /// The most bytes that a checksum covers.
@@ -24,42 +22,6 @@ pub fn right_header_sum(packet: &[u8], covered: &mut Buffer<COVERED>) -> u16
     covered.append(&[0, 0]);
     covered.append(&packet[12..20]);
     checksum(covered.as_slice())
-}
-
-/// Writes a number of 32 bits at an offset.
-fn put_u32(bytes: &mut [u8], at: usize, n: u32)
-    requires { at + 4 ≤ length bytes.old }
-    ensures { bytes.new ≡ take at bytes.old ++ (header.four_bytes n ++ drop (at + 4) bytes.old) }
-{
-    BigEndian::write_u32(&mut bytes[at..at + 4], n);
-}
-
-/// Writes a number of 16 bits at an offset.
-fn put_u16(bytes: &mut [u8], at: usize, n: u16)
-    requires { at + 2 ≤ length bytes.old }
-    ensures { bytes.new ≡ take at bytes.old ++ (header.two_bytes n ++ drop (at + 2) bytes.old) }
-{
-    BigEndian::write_u16(&mut bytes[at..at + 2], n);
-}
-
-/// Returns the pseudo header of a datagram with `n` bytes.
-fn pseudo_header(source: u32, destination: u32, n: u16) -> [u8; 12]
-    ensures { result ≡ header.pseudo_header source destination n }
-{
-    let mut bytes = [0; 12];
-    put_u32(&mut bytes, 0, source);
-    put_u32(&mut bytes, 4, destination);
-    bytes[9] = PROTOCOL_UDP;
-    put_u16(&mut bytes, 10, n);
-    bytes
-}
-
-/// Returns the big-endian number in the four bytes at an offset.
-pub fn u32_at(bytes: &[u8], at: usize) -> u32
-    requires { at + 4 ≤ length bytes.now }
-    ensures { result ≡ header.u32_at at bytes.now }
-{
-    BigEndian::read_u32(&bytes[at..])
 }
 
 /// Returns the pseudo header of a datagram in a packet.

@@ -6,9 +6,9 @@ ghost use Rattle.play_why.specs.Values as values;
 
 use crate::blame::datagram_of;
 use crate::seen::Seen;
-use crate::sums::{COVERED, right_header_sum, right_udp_sum, u32_at};
+use crate::sums::{COVERED, right_header_sum, right_udp_sum};
 use flat_model::Why;
-use flat_plain::{head_of, u16_at};
+use flat_plain::{head_of, u16_at, u32_at};
 use params::{IP_HEADER, UDP_HEADER};
 use script_loop::Buffer;
 

@@ -67,7 +67,8 @@ host_by_stack place plain v v' w came (others, same) (acts, did) =
 
 -- ---- what a line asks for
 
--- what a command and the words after it ask for, the line asks for
+-- What a command and the words after it ask for, the line asks for. This and `asks_none` have the form of those in
+-- WireLemmas. One lemma for both would take the list of commands, both relations and the type of the request.
 pub asks_as : (plain word : List ℕ) (c : Command) (args : List (List ℕ)) (asked : Option Asked)
     → words plain ≡ word ∷ args → find (has_name word) hosted_commands ≡ Some c → ReadsOfLink c args asked
     → AsksLink plain (link_asks asked)

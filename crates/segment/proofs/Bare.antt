@@ -30,7 +30,7 @@ no_step place R old new step none =
     ap (λ (v : SegmentView). length v.links) (sym step.is) ∙ ap length none in
     absurd (omega (arith, some, len, same))
 
-aged_length : (links : List LinkState) (place : ℕ) (o : Option LinkState)
+pub aged_length : (links : List LinkState) (place : ℕ) (o : Option LinkState)
     → length (aged_in links place o) ≡ length links
 aged_length links place None = refl
 aged_length links place (Some l) = length-set links place (ticks l)

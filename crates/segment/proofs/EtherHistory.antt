@@ -24,6 +24,7 @@ use Rattle.segment.specs.Frames.{FrameComes, ReceiveEach, IsEtherJoined, IsHostS
 use Rattle.segment.specs.Law.{Act, Ether, Joins, Calls, Collects, Delivers, Impairs, Seeds, Loses, Repeats, Swaps, AreActs, IsAct, IsHostCalled, JoinsEther, CollectsFrames, DeliversFrames, ReceivesFrame, QueriesError, AgesLink}
 use Rattle.segment.specs.Segment.{SegmentView, AreBoth, AtEach, leaving}
 use Rattle.segment.specs.declared.links.TheConstants.{FRAMES}
+use Rattle.segment.proofs.Bare.{aged_length}
 use Rattle.segment.proofs.History.{get_within, length-last}
 use Rattle.segment.proofs.Walking.{get_set_same, get_set_other}
 
@@ -363,10 +364,6 @@ module _ (k : ℕ) (c : Config) (t : Host) where
           (link_set old.stacks old.links place (ticks l)) (within (Some l) e)
 
 -- ---- the number of links is the number of configurations
-
-aged_length : (links : List LinkState) (place : ℕ) (o : Option LinkState) → length (aged_in links place o) ≡ length links
-aged_length links place None = refl
-aged_length links place (Some l) = length-set links place (ticks l)
 
 pub even_on : (act : Act) (old new : SegmentView) → GoesByFrames act → IsAct old act new
     → length old.configs ≡ length old.links → length new.configs ≡ length new.links

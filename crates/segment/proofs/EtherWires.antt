@@ -1,5 +1,5 @@
 -- The frames that arrive at a host of an Ethernet segment are those that its hosts gave, or came from outside.
-use Rattle.std.proofs.Common.{◌≡◌, ℕ, ◌+◌, List, [], ◌∷◌, ◌++◌, length, zero, suc, Bool, true, false, Option, None, Some, refl, sym, ap, ◌∙◌, subst, arith, append_assoc}
+use Rattle.std.proofs.Common.{◌≡◌, ℕ, List, [], ◌∷◌, ◌++◌, length, zero, suc, Bool, true, false, Option, None, Some, refl, sym, ap, ◌∙◌, subst, arith, append_assoc}
 use Rattle.std.specs.Prelude.{slice_get, ◌==◌, ◌&&◌, nat_lt, if◌then◌else◌, Contains}
 use Rattle.std.specs.List.{AllByRecursion as Each, cons_option}
 use Rattle.flat_model.proofs.Laws.{each-append, each-map_to, each-take, each-weaker}
@@ -14,6 +14,7 @@ use Rattle.segment.specs.Segment.{SegmentView, leaving}
 use Rattle.segment.specs.declared.links.TheConstants.{FRAMES}
 use Rattle.segment.proofs.Choosing.{each_entering, each_leaving, each_lost, each_repeated, each_stay, each_swapped}
 use Rattle.segment.proofs.EtherHistory.{hosts_get, taking_out}
+use Rattle.segment.proofs.Wires.{contains_after}
 
 -- ---- lists of acts
 
@@ -52,10 +53,6 @@ contains_front (y ∷ xs) ys x (zero, less, e) = (0, omega arith, e)
 contains_front (y ∷ xs) ys x (suc n, less, e) =
     let r = contains_front xs ys x (n, omega (arith, less), e) in
     (suc r.0, omega (arith, r.1), r.2)
-
-contains_after : {X : Type 0} (xs ys : List X) (x : X) → Contains ys x → Contains (xs ++ ys) x
-contains_after [] ys x h = h
-contains_after (y ∷ xs) ys x h = let r = contains_after xs ys x h in (suc r.0, omega (arith, r.1), r.2)
 
 contains_each : {X : Type 0} (xs : List X) → Each (λ x. Contains xs x) xs
 contains_each [] = tt

@@ -183,7 +183,8 @@ pub hear_not : (place : ℕ) (mac : Mac) (f : Flying) (h k : Host) → frame_goe
 hear_not place mac f h k is same =
     subst (λ (b : Bool). ReceiveEach (cons_option (if b then Some f.packet else None) []) h k) (sym is) same
 
--- how many frames come, with one more looked at
+-- How many frames come, with one more looked at. `counted_next` in Taking has the same form for packets: frames go by a
+-- hardware address, packets by a configuration, so one lemma would take both tests as arguments.
 pub heard_counted : (place : ℕ) (mac : Mac) (i : ℕ) (frames : List Frame) (frame : Frame) (n m : ℕ) (goes : Bool)
     → i < length frames → frame ≡ get_or frames i frame
     → n ≡ length (frames_to place mac (map flying (take i frames))) → goes ≡ frame_goes_to place mac (flying frame)

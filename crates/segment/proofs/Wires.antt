@@ -25,7 +25,7 @@ abbrev into : List Turn → List (List ℕ)
 into turns = filter_map packet_in turns
 
 -- in the later of two lists, or in the front one
-contains_after : {X : Type 0} (xs ys : List X) (x : X) → Contains ys x → Contains (xs ++ ys) x
+pub contains_after : {X : Type 0} (xs ys : List X) (x : X) → Contains ys x → Contains (xs ++ ys) x
 contains_after [] ys x h = h
 contains_after (y ∷ xs) ys x h = let r = contains_after xs ys x h in (suc r.0, omega (arith, r.1), r.2)
 

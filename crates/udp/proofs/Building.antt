@@ -17,16 +17,6 @@ long_string v n long = go v.entries long
     go [] long = omega arith
     go (e ∷ es) long = omega (arith, length-append e.bytes (flat_bytes es))
 
--- the first bytes of a chain, if its first mbuf has them all
-pub first_bytes : (n : ℕ) (v : ChainView) → n ≤ length (entry_of v 0).bytes
-    → take n (entry_of v 0).bytes ≡ take n (string v)
-first_bytes n v long = go v.entries long
-  where
-    go : (es : List Entry) → n ≤ length (slice_index_or es 0 no_entry).bytes
-        → take n (slice_index_or es 0 no_entry).bytes ≡ take n (flat_bytes es)
-    go [] long = refl
-    go (e ∷ es) long = sym (take-append-le n e.bytes (flat_bytes es) long)
-
 module _ (src dst sport dport : ℕ) where
   pub written : (s : List ℕ) (len sum computed : ℕ) → len ≡ 8 + length s → sum ≡ not_zero computed
       → computed ≡ checksum (pseudo_header src dst len

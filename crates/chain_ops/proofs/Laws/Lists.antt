@@ -1,22 +1,8 @@
 -- Laws of lists for operations on chains.
-use Rattle.std.proofs.Common.{◌≡◌, ℕ, zero, suc, ◌-◌, ◌≤◌, min, List, [], ◌∷◌, ◌++◌, length, take, drop, refl, sym, ap, ◌∙◌, arith, inl, inr}
+use Rattle.std.proofs.Common.{◌≡◌, ℕ, ◌-◌, ◌≤◌, min, List, ◌++◌, length, take, drop, sym, ap, ◌∙◌, arith, inl, inr}
 use Rattle.std.proofs.lemmas.Bool.{cases_lt}
 use Rattle.std.proofs.lemmas.List.{take_all, drop_all, length-drop, drop-append-le}
-
-pub take_over : (m : ℕ) (xs ys : List ℕ) → take m (xs ++ ys) ≡ take m xs ++ take (m - length xs) ys
-take_over zero [] ys = refl
-take_over (suc m) [] ys = let same : suc m ≡ suc m - 0 = omega arith in ap (λ (k : ℕ). take k ys) same
-take_over zero (x ∷ xs) ys = let none : 0 ≡ 0 - suc (length xs) = omega arith in ap (λ (k : ℕ). take k ys) none
-take_over (suc m) (x ∷ xs) ys =
-    let same : m - length xs ≡ suc m - suc (length xs) = omega arith in
-    ap (λ (zs : List ℕ). x ∷ zs) (take_over m xs ys) ∙ ap (λ (k : ℕ). (x ∷ take m xs) ++ take k ys) same
-
-pub drop_over : (m : ℕ) (xs ys : List ℕ) → length xs ≤ m → drop m (xs ++ ys) ≡ drop (m - length xs) ys
-drop_over m [] ys h = let same : m ≡ m - 0 = omega arith in ap (λ (k : ℕ). drop k ys) same
-drop_over zero (x ∷ xs) ys h = absurd (omega arith)
-drop_over (suc m) (x ∷ xs) ys h =
-    let same : m - length xs ≡ suc m - suc (length xs) = omega arith in
-    drop_over m xs ys (omega arith) ∙ ap (λ (k : ℕ). drop k ys) same
+use Rattle.mbuf_chain.proofs.Laws.Lists.{take_over, drop_over}
 
 pub drop-append : (n : ℕ) (xs ys : List ℕ) → drop n (xs ++ ys) ≡ drop n xs ++ drop (n - length xs) ys
 drop-append n xs ys = elim (cases_lt n (length xs)) [

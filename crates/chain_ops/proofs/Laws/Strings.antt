@@ -5,6 +5,7 @@ use Rattle.std.proofs.lemmas.Bool.{cases_lt, cond-true, cond-false, eq-eqb, ne_e
 use Rattle.std.proofs.lemmas.List.{length-append, take_all, drop_all, take_rest, take-append-drop, drop-append-le}
 use Rattle.mbuf_chain.specs.Chain.{Entry, ChainView, entry_of, no_entry, flat_bytes, string, trailing_space}
 use Rattle.mbuf_chain.specs.Steps.{with_back, with_front, narrowed, empty_entry}
+use Rattle.mbuf_chain.proofs.Laws.Lists.{take_over, drop_over}
 use Rattle.chain_ops.specs.Rooms.{room_low, end_entry}
 use Rattle.chain_ops.specs.Copies.{Position, position_of, copied_entry, copied_from, copied, copied_all}
 use Rattle.chain_ops.specs.Trims.{without_first, only_first, adjusted, adjusted_bytes}
@@ -12,7 +13,7 @@ use Rattle.chain_ops.specs.Joins.{filled_up, cat}
 use Rattle.chain_ops.specs.Pulls.{moved, has_room, pulled_len, entries_pulled}
 use Rattle.chain_ops.specs.Prepends.{has_front, prepended}
 use Rattle.chain_ops.specs.Splits.{rest_of, split_front, split_back}
-use Rattle.chain_ops.proofs.Laws.Lists.{take_over, take_least, drop_over, drop-append, piece_copied}
+use Rattle.chain_ops.proofs.Laws.Lists.{take_least, drop-append, piece_copied}
 use Rattle.chain_ops.proofs.Lists.{flat-append, position-stays, position-passes, copied_none}
 use Rattle.chain_ops.proofs.Joins.{fill-goes, fill-stops, moved-none, moved-goes, moved-part}
 

@@ -11,6 +11,11 @@ unfoldable pub total : (ℕ → ℕ) → ℕ → ℕ → ℕ
 total g at zero = 0
 total g at (suc n) = g at + total g (at + 1) n
 
+pub zeros : (at n : ℕ) → total (λ k. 0) at n ≡ 0
+unfolding total
+zeros at zero = refl
+zeros at (suc n) = let rest = zeros (at + 1) n in omega arith
+
 pub total_le : (g h : ℕ → ℕ) (at n : ℕ) → ((k : ℕ) → at ≤ k → k < at + n → g k ≤ h k) → total g at n ≤ total h at n
 unfolding total
 total_le g h at zero le = omega arith

@@ -8,7 +8,7 @@ use Rattle.flat_model.specs.Amounts.Weight.{times, nothing}
 use Rattle.flat_model.specs.Machine.State.{State}
 use Rattle.flat_model.specs.Machine.Ledger.{weight_of_state, count_of, free_mbufs, free_clusters, usage_of}
 use Rattle.flat_model.specs.Runs.Consistent.{IsConsistent}
-use Rattle.flat_model.proofs.Lists.Totals.{total, total_le, total_add, total_spike, spike, count_cons, count-append}
+use Rattle.flat_model.proofs.Lists.Totals.{total, zeros, total_le, total_add, total_spike, spike, count_cons, count-append}
 
 sum_total : (g : ℕ → ℕ) (at n : ℕ) → sum (map g (range_with_len at n)) ≡ total g at n
 unfolding total
@@ -21,11 +21,6 @@ total_same g h at n e =
     let low = total_le g h at n (λ k l m. let same = e k in omega arith) in
     let high = total_le h g at n (λ k l m. let same = e k in omega arith) in
     omega arith
-
-zeros : (at n : ℕ) → total (λ k. 0) at n ≡ 0
-unfolding total
-zeros at zero = refl
-zeros at (suc n) = let rest = zeros (at + 1) n in omega arith
 
 -- the counts of all clusters are the references
 counts_are : (bag : List ℕ) (n : ℕ) → Each (λ k. k < n) bag → total (λ k. times k bag) 0 n ≡ length bag

@@ -19,16 +19,11 @@ use Rattle.flat_model.specs.Runs.Consistent.{IsQueued, IsSocket, IsPeer}
 use Rattle.flat_model.specs.declared.address.Addr.{Addr}
 use Rattle.flat_model.specs.declared.config.Config.{Config}
 use Rattle.flat_model.proofs.Lists.Each.{by_choice, by_case, each-map, each-filter, each-find, none_passed}
-use Rattle.flat_model.proofs.Lists.Totals.{total, total_le, total_add, spike, total_spike_most, count_cons}
+use Rattle.flat_model.proofs.Lists.Totals.{total, zeros, total_le, total_add, spike, total_spike_most, count_cons}
 use Rattle.flat_model.proofs.Machine.Kept.{Good, weight_of_socket}
 use Rattle.flat_model.proofs.Machine.KeptLists.{count-map, count-filter, none_found, mbufs-replaced, mbufs-filter, mbufs-map}
 
 -- ---- sixty-four sockets have the descriptors 3 to 66
-
-zeros : (at n : ℕ) → total (λ k. 0) at n ≡ 0
-unfolding total
-zeros at zero = refl
-zeros at (suc n) = let rest = zeros (at + 1) n in omega arith
 
 ones : (at n : ℕ) → total (λ k. 1) at n ≡ n
 unfolding total

@@ -1,5 +1,6 @@
 -- A send up to the arrival of the packets that come back (this project's own). Together with that arrival it is `Goes`,
--- by `put_goes` of proofs/Laws.
+-- by `put_goes` of proofs/Laws. `Goes` isn't defined by `Puts`, because the machine's own definitions don't use words
+-- that only contracts of the code need.
 use Rattle.std.specs.Prelude.{◌≡◌, ℕ, if◌then◌else◌, List, length}
 use Rattle.flat_model.specs.Amounts.Weight.{Item}
 use Rattle.flat_model.specs.Machine.Event.{Reply, Sent, Refused}

@@ -103,7 +103,8 @@ all_left p c xs h =
       | inr ne ↦ omega (arith, h k, times_other k c xs ne, live_same p (without p c) k (get_left p.chains c k ne))
     ]
 
-owned_left : (p : PoolView) (c : ℕ) (xs : List ℕ) → IsOwned p (c ∷ xs) → IsOwned (without p c) xs
+-- what an owner has left without its first chain
+pub owned_left : (p : PoolView) (c : ℕ) (xs : List ℕ) → IsOwned p (c ∷ xs) → IsOwned (without p c) xs
 owned_left p c xs o =
     let gone : times_among c xs ≡ 0 = apart_first p c xs o in
     λ k. elim (cases_eq k c) [

@@ -2,7 +2,8 @@ use Rattle.std.proofs.Common.{◌≡◌, ℕ, min, ◌+◌, ◌-◌, ◌++◌, L
 use Rattle.std.specs.List.{concat}
 use Rattle.std.proofs.lemmas.List.{length-append, length-take, length-drop}
 use Rattle.std.proofs.lemmas.Slice.{take-put_mid}
-use Rattle.chain_ops.proofs.Laws.Lists.{piece_copied, drop_over}
+use Rattle.mbuf_chain.proofs.Laws.Lists.{drop_over}
+use Rattle.chain_ops.proofs.Laws.Lists.{piece_copied}
 use Rattle.chain_ops.proofs.copydata.copy_pieces.Goals as goal
 
 pub mbufs-preserved-then-skip-piece : goal.mbufs-preserved-then-skip-piece

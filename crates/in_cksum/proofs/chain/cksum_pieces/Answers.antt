@@ -2,8 +2,9 @@ use Rattle.std.proofs.Common.{◌≡◌, ℕ, ◌+◌, ◌-◌, ◌++◌, List, 
 use Rattle.std.specs.List.{concat}
 use Rattle.mbuf_chain.specs.Chain.{chain_of}
 use Rattle.mbuf_chain.proofs.Laws.Iterators.{concat_pieces}
+use Rattle.mbuf_chain.proofs.Laws.Lists.{drop_over}
 use Rattle.in_cksum.specs.Partial.{sum_of}
-use Rattle.in_cksum.proofs.Ranges.{drop_over, piece_taken}
+use Rattle.in_cksum.proofs.Ranges.{piece_taken}
 use Rattle.in_cksum.proofs.chain.cksum_pieces.Goals as goal
 
 pub mbufs-init : goal.mbufs-init

@@ -1,6 +1,6 @@
 use Rattle.std.proofs.Common.{◌≡◌, ℕ, ◌≤◌, length, take, arith, ap, sym, ◌∙◌}
 use Rattle.mbuf_chain.specs.Chain.{ChainView, chain_of, entry_of, string}
-use Rattle.ip_out.proofs.Firsts.{first_bytes}
+use Rattle.mbuf_chain.proofs.Laws.Lists.{first_bytes}
 use Rattle.ip_out.proofs.head.read_head.Goals as goal
 
 -- the bytes that are read in place

@@ -1,6 +1,6 @@
 use Rattle.std.proofs.Common.{◌≡◌, ℕ, ◌≤◌, length, take, arith, ap, ◌∙◌}
 use Rattle.mbuf_chain.specs.Chain.{ChainView, chain_of, entry_of, string}
-use Rattle.udp.proofs.Building.{first_bytes}
+use Rattle.mbuf_chain.proofs.Laws.Lists.{first_bytes}
 use Rattle.udp.proofs.header.read_header.Goals as goal
 
 pub returns-in-Some : goal.returns-in-Some
