@@ -41,8 +41,9 @@ pub struct Played {
 }
 
 impl Played {
-    /// Returns the exit status of the program: 0 if `sound` and the script was played to its end, 1 if not `sound`; 3
-    /// if there is no machine; 4 if reading or writing failed or the script has too many lines (this project's own).
+    /// Returns the exit status of the program: 0 if `sound` and the script was played to its end; 1 if not `sound`;
+    /// 3 if the machine can't be booted; 4 if reading or writing failed or the script has too many lines (this
+    /// project's own).
     pub fn status(&self) -> u8
         ensures { result ≡ play_status self.now.outcome self.now.sound }
     {

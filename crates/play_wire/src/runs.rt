@@ -32,7 +32,7 @@ struct Parts {
     printer: Printer,
 }
 
-/// Allocates the parts of a player apart from its hosts. Those that are dropped if memory is lacking come first, and
+/// Allocates the parts of a player apart from its hosts. Those that are dropped if memory runs out come first, and
 /// the one with the most pieces last.
 fn parts_for(alloc: Global, style: Style<'_>) -> Result<Parts, AllocError>
     ensures { IfOk result (λ p. (p.printer.form ≡ style.entry.form) × (p.printer.number ≡ 0)
@@ -55,7 +55,7 @@ fn parts_for(alloc: Global, style: Style<'_>) -> Result<Parts, AllocError>
 
 /// How a script begins.
 pub struct Start<T: Sink + Drop> {
-    /// The seed of the wire, until a line `seed` says another one.
+    /// The seed of the wire, until a line `seed` sets another one.
     pub seed: u64,
     /// The writer for the capture of the wire; `play_pcap::Nowhere` for none.
     pub capture: T,
