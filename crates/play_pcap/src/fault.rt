@@ -13,7 +13,7 @@ pub enum CaptureFault {
     NotRead,
     /// It has more than [`crate::LONGEST_FILE`] bytes.
     TooLong,
-    /// Host memory was lacking.
+    /// The host refused memory.
     Memory,
     /// It has fewer records than the range requests.
     TooFew,

@@ -214,8 +214,8 @@ fn play_untraced<R: Source, W: Sink>(
 /// # Errors
 ///
 /// `BadSizes` if `config` has no mbuf, more than 65,535 mbufs or more than 4,096 clusters; otherwise `BadConfig` if its
-/// MTU isn't 68 to 4352, an address isn't that of a host, or both addresses are the same; otherwise `Memory` if host
-/// memory is lacking. In these cases nothing was read or written.
+/// MTU isn't 68 to 4352, an address isn't that of a host, or both addresses are the same; otherwise `Memory` if the
+/// host refuses memory. In these cases nothing was read or written.
 ///
 /// `Read` if the reader returns an error; each whole line before it was executed and its reply written. `Write` if the
 /// writer returns an error, or writes none of the bytes that it is given; the beginning of the replies was written.

@@ -1,4 +1,4 @@
--- Looks at a machine, and what happened between two of them (this project's own).
+-- Snapshots of a machine, and what happened between two of them (this project's own).
 use Rattle.std.specs.Prelude.{◌≡◌, ℕ, ◌+◌, ◌-◌, ◌<◌, false, Bool, List, length, get_or, nat_lt, if◌then◌else◌, Result, Ok, Err}
 use Rattle.params.specs.declared.TheConstants.{FIRST_DESCRIPTOR, MAX_SOCKETS}
 use Rattle.flat_model.specs.Machine.Count.{value_of}
@@ -16,14 +16,14 @@ use Rattle.play_show.specs.declared.changes.Change.TheVariants as change
 use Rattle.play_show.specs.declared.changes.Effect.{Effect}
 use Rattle.play_show.specs.declared.snapshot.Snapshot.{Snapshot}
 
--- ---- a look
+-- ---- a snapshot
 
 -- how many datagrams wait in a socket
 abbrev pub waiting_of : Result NextDatagram Errno → ℕ
 waiting_of (Ok next) = next.waiting
 waiting_of (Err errno) = 0
 
--- The parts of a state that are looked at: its counters and its pool, the packets that wait for the link, and the
+-- A snapshot of a state: its counters and its pool, the number of packets that wait for the link, and the number of
 -- datagrams that wait in each socket.
 pub record IsSnapshot (step : State → Event → Reply → State → Type 0) (s : State) (x : Snapshot) : Type 0 where
   pub counters : step s Ask_counters (Counted x.counters) s

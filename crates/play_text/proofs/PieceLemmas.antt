@@ -30,7 +30,7 @@ next_room : (pieces : List Piece) (i : ℕ) (d : Piece) → i < length pieces
     → pieces_room (drop i pieces) ≡ piece_room (get_or pieces i d) + pieces_room (drop (i + 1) pieces)
 next_room pieces i d lt = ap pieces_room (drop_more pieces i d lt)
 
--- there is room for the next piece
+-- there is space for the next piece
 pub next_fits : (pieces : List Piece) (i : ℕ) (d : Piece) (mid whole n : ℕ) → i < length pieces
     → mid + pieces_room (drop i pieces) ≤ whole → whole ≤ n → mid + piece_room (get_or pieces i d) ≤ n
 next_fits pieces i d mid whole n lt h le = omega (arith, next_room pieces i d lt)

@@ -32,7 +32,7 @@ AreLedTo old new = (acts : List Act) × AreActs old acts new
 abbrev pub with_stack_at : ℕ → StackView → SegmentView → SegmentView
 with_stack_at place s v = record v { stacks = slice_set v.stacks place s }
 
--- two looks at a stack, before a line and after it
+-- two snapshots of a stack, before a line and after it
 abbrev pub AreLooks : StackView → StackView → Snapshot → Snapshot → Type 0
 AreLooks s t before after = IsSnapshot Step (state_of s) before × IsSnapshot Step (state_of t) after
 

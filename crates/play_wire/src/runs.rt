@@ -69,7 +69,7 @@ pub struct PlayedHosts {
     pub kept: bool,
 }
 
-/// Returns a capture that is written to this sink. `None` if host memory is lacking.
+/// Returns a capture that is written to this sink. `None` if the host refuses memory.
 fn capture_for<T: Sink + Drop>(alloc: Global, sink: T) -> Option<Capture<T>> {
     let Ok(buffer) = Buffer::new(alloc) else {
         return None;
@@ -78,7 +78,7 @@ fn capture_for<T: Sink + Drop>(alloc: Global, sink: T) -> Option<Capture<T>> {
 }
 
 /// Returns a player's hosts before the first one, with a wire of this seed, and a capture that is written to this sink.
-/// `None` if host memory is lacking.
+/// `None` if the host refuses memory.
 fn hosts_for<T: Sink + Drop>(alloc: Global, seed: u64, sink: T) -> Option<Hosts<T>>
     ensures { IfSome result (λ h. (view h.segment ≡ record (no_hosts PACKETS) { random = seeded seed })
         × (h.names.items ≡ [])) }
@@ -87,7 +87,7 @@ fn hosts_for<T: Sink + Drop>(alloc: Global, seed: u64, sink: T) -> Option<Hosts<
     Hosts::new(alloc, seed, capture)
 }
 
-/// Returns a player whose script has this style, before its first line. `None` if host memory is lacking.
+/// Returns a player whose script has this style, before its first line. `None` if the host refuses memory.
 fn player_for<T: Sink + Drop>(
     alloc: Global,
     style: Style<'_>,
@@ -133,7 +133,7 @@ fn player_for<T: Sink + Drop>(
 ///
 /// # Errors
 ///
-/// `Memory` if host memory is lacking: nothing was read or written then. `Read`, `Write` and `TooManyLines` as in
+/// `Memory` if the host refuses memory: nothing was read or written then. `Read`, `Write` and `TooManyLines` as in
 /// `play_script::play`.
 pub fn play_hosts<R: Source, W: Sink, T: Sink + Drop>(
     alloc: Global,
