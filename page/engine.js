@@ -107,7 +107,7 @@ class Engine {
     return withObjects(this.serve(call, new Uint8Array(0), script));
   }
 
-  // The capture of the packets that arrive and leave in a script of one host, as `bytes`.
+  // Returns the capture of the packets that arrive and leave in a script of one host, in `bytes`.
   capture(config, script) {
     return this.serve(this.calls.bsdudp_page_capture, machineOf(config), script);
   }
@@ -150,7 +150,8 @@ class Engine {
     return withReplies(this.serve(this.calls.bsdudp_page_chain, poolOf(config), script));
   }
 
-  // The mbufs of one slot's chain after a script of `bsdudp chain`, as `replies`: a line for each (crates/page).
+  // Returns the mbufs of one slot's chain after a script of `bsdudp chain`, in `replies`, a line for each.
+  // See crates/page.
   draw(config, slot, script) {
     const call = (pool, ...more) => this.calls.bsdudp_page_draw(pool, slot, ...more);
     return withReplies(this.serve(call, poolOf(config), script));

@@ -218,7 +218,7 @@ function gradeOf() {
 
 // ---- the forms of lines
 
-// The forms of all lines, as `bsdplay --help` prints them, and the values for each word.
+// The forms of all lines, like in `bsdplay --help`, and the values for each word.
 function showForms() {
   const list = all => h("ul", {}, all.map(it => h("li", {}, h("code", {}, it))));
   byId("forms-of").replaceChildren(h("h3", {}, "One host"), list(FORMS.machine),

@@ -73,8 +73,8 @@ def chosen(cases: List[Case], name: str) -> List[Case]:
 
 
 def settings_of(judged: Judged) -> Tuple[Settings, List[Explained]]:
-    """The settings that explain a stack, and how well each does: first alone, then with the others found in this
-    way."""
+    """The settings that explain a stack, and how well each does: first by itself, then with the others found in
+    this way."""
     settings: Settings = {name: setting.default for name, setting in SETTINGS.items()}
     found: List[Explained] = []
     sound = [case for case in judged.cases if judged.answers[case.name].fault is None]

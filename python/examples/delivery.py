@@ -1,5 +1,5 @@
-"""How many datagrams come through a wire that loses packets, by the datagram's length: measured over many seeds, beside the
-law. A datagram of n fragments comes through if none of them is lost: with the chance (1 - p) to the power of n."""
+"""How many datagrams arrive over a wire that loses packets, by the datagram's length: measured over many seeds, and
+computed. A datagram of n fragments arrives if none of them is lost: with the chance (1 - p) to the power of n."""
 import argparse
 import math
 import os

@@ -161,7 +161,7 @@ def test_a_byte_order_mark_in_the_second_line_is_part_of_a_word(bsdplay):
 
 # ---- hosts that can't join -----------------------------------------------------------------------------------------
 
-# What is wrong with another host beside 10.0.0.1 and 10.0.0.2.
+# The error for a third host after 10.0.0.1 and 10.0.0.2.
 JOINS = {
     "host c --addr 10.0.0.2": "another host's addresses stand in the way",
     "host c --addr 10.0.0.255": "another host's addresses stand in the way",

@@ -41,7 +41,7 @@ def pieces(seed, ident, found):
 
 
 def capture(sums):
-    """Returns the fragments of all datagrams, with these checksums, or a wrong one if there is none."""
+    """Returns the fragments of all datagrams, with these checksums, and a wrong one in each other datagram."""
     return [it for seed in range(CASES) for it in pieces(seed, seed + 1, sums.get(seed, 0x1234))]
 
 

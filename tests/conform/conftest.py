@@ -13,7 +13,7 @@ PATHS = f"{TOP / 'conform'}:{TOP / 'python'}"
 
 @pytest.fixture
 def conform():
-    """Runs a command at the top, where the packages are found. Returns its status and its output."""
+    """Runs a command at the top of the repository, which has the packages. Returns its status and its output."""
 
     def run(*words, **environment):
         environment = {**os.environ, "PYTHONPATH": PATHS, "PYTHONDONTWRITEBYTECODE": "1", **environment}

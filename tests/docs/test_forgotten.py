@@ -1,4 +1,4 @@
-"""No value is leaked: `forget` and similar calls are only where a line below gives the reason.
+"""No value is leaked: a call of `forget` or a similar function needs a line below that gives the reason.
 
 Rattle's ownership doesn't guarantee that memory is freed. `std::mem::forget` takes any value, and no contract mentions
 host memory. tests/bsdudp/test_memory.py counts the blocks after failed allocations."""

@@ -15,7 +15,7 @@ pytestmark = [
     pytest.mark.xdist_group("fresh"),
 ]
 README = (TOP / "README.md").read_text(encoding="utf-8")
-# The gate runs this beside the proofs.
+# The gate runs this at the same time as the proofs.
 SECONDS = 3600
 
 
@@ -62,7 +62,7 @@ def test_readme():
 
 
 def test_readme_as_root():
-    """What differs for root: `rt` lets nobody run what it compiles, and the tests that want root aren't skipped. The
+    """What differs for root: `rt` lets nobody run what it compiles, and the tests that need root aren't skipped. The
     programs that `make test` compiles were tried by the new user, so it finds no `rt` here."""
     (commands,) = blocks("commands")
     assert "\nmake test\n" in commands

@@ -1,4 +1,4 @@
--- Bytes that were stored, and 28 bytes in front of them, can be output.
+-- A chain of bytes can be output when 28 bytes were prepended.
 use Rattle.std.proofs.Common.{◌≡◌, ℕ, ◌+◌, ◌≤◌, Bool, true, false, cond, List, [], ◌++◌, length, count_by, ap, ◌∙◌, arith}
 use Rattle.std.proofs.lemmas.List.{length-append}
 use Rattle.flat_model.specs.Amounts.Layout.{is_cluster, user, sent, laid_on}

@@ -1,4 +1,4 @@
--- A packet with room for both headers in its first mbuf keeps it where its UDP header is written.
+-- A packet whose first mbuf has room for both headers keeps that room while its UDP header is written.
 use Rattle.std.proofs.Common.{◌≡◌, ℕ, ◌+◌, ◌≤◌, List, [], ◌∷◌, ◌++◌, length, take, drop, None, arith}
 use Rattle.std.specs.Prelude.{slice_index_or}
 use Rattle.std.proofs.lemmas.List.{length-append, length-take, length-drop}
@@ -11,7 +11,7 @@ pub record HasRoom (v : ChainView) : Type 0 where
   pub headers : 28 ≤ length (entry_of v 0).bytes
   pub most : length (string v) ≤ 65535
 
--- bytes written over others are as many
+-- overwriting bytes doesn't change their number
 over : (xs head : List ℕ) → 28 ≤ length xs → length head ≤ 8
     → length (take 20 xs ++ (head ++ drop (20 + length head) xs)) ≡ length xs
 over xs head long few = omega (

@@ -1,4 +1,4 @@
--- A chain beside a table: it comes, and it's freed.
+-- A chain in the pool of a table: it's allocated, and then freed.
 use Rattle.std.proofs.Common.{◌≡◌, ℕ, List, ◌∷◌, subst, sym}
 use Rattle.mbuf_chain.specs.Chain.{ChainView, PoolView, Adds, without}
 use Rattle.mbuf_chain.specs.Owners.{IsOwned}

@@ -1,6 +1,6 @@
-//! A datagram from one stack to another, and from a stack to itself: `bench/stack` calls it from C. It's a library of
-//! its own, because all that is compiled together decides what is inlined: so it has only what a program with a `Stack`
-//! has. No other crate depends on this one.
+//! A datagram from one stack to another, and from a stack to itself: `bench/stack` calls it from C. It's a separate
+//! library, because the code that is compiled together decides what is inlined: it has only what a program with a
+//! `Stack` has. No other crate depends on this one.
 #![tactic(auto)]
 
 ghost use Rattle.std.specs.Prelude.{◌≤◌};
@@ -21,7 +21,7 @@ const SENDER: u32 = 0x0a00_0001;
 
 const RECEIVER: u32 = 0x0a00_0002;
 
-/// How many mbufs a stack has unless its caller sets them.
+/// How many mbufs a stack has if its caller doesn't set them.
 const MBUFS: u32 = 512;
 
 /// The first socket of a stack, and its port. The others are numbered after it.
@@ -29,7 +29,7 @@ const SOCKET: u32 = 3;
 
 const PORT: u16 = 7;
 
-/// A stack with `mbufs` mbufs, and an eighth as many clusters, with `sockets` sockets, each on a port of its own.
+/// A stack with `mbufs` mbufs, an eighth of that number of clusters, and `sockets` sockets, each on a port of its own.
 fn listening(alloc: Global, addr: u32, mbufs: u32, sockets: u8) -> Option<Stack> {
     let config = Config {
         addr,
@@ -48,10 +48,10 @@ fn listening(alloc: Global, addr: u32, mbufs: u32, sockets: u8) -> Option<Stack>
     Some(stack)
 }
 
-/// A packet on its way.
+/// A packet in flight.
 type Packet = [u8; MAX_MTU as usize];
 
-/// How many packets a datagram of `len` bytes takes.
+/// How many packets a datagram of `len` bytes needs.
 fn packets_of(len: usize) -> usize {
     len.saturating_add(UDP_HEADER as usize).div_ceil(CHUNK)
 }

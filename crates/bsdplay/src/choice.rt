@@ -88,7 +88,7 @@ impl<R: Read> Ahead<R> {
         }
     }
 
-    /// Has the line `summary` come after the script.
+    /// Requests the line `summary` after the script.
     pub(crate) fn ask_for_summary(&mut self) {
         self.summary = true;
     }

@@ -238,7 +238,7 @@ fn grade_all<W: Write + Drop>(
     Ok(worst)
 }
 
-/// Grades by this key, once it has passed itself, or by what the hand-ins expect themselves.
+/// Grades by this key, after it has passed itself, or by the hand-ins' own expectations.
 fn grade_with(
     rt: &HostRuntime,
     grader: &mut Grader,
@@ -262,7 +262,7 @@ fn grade_with(
     grade_all(rt, grader, key, &mut Reports::Table(table), found)
 }
 
-/// Grades by this key, or by none. What grading takes is let go at one place, since a proof walks through that at each.
+/// Grades by this key, or without one. All memory is dropped in one place, because a proof covers each such place.
 fn grade_by(
     rt: &HostRuntime,
     key: Option<(&str, &[u8])>,

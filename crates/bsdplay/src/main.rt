@@ -69,7 +69,7 @@ fn command<'a>(alloc: Global, lines: &'a str) -> Result<Command<'a>, AllocError>
         .subcommand(why_command(alloc)?)
 }
 
-/// Says why a script ended early.
+/// Prints why a script ended early.
 pub(crate) fn report(rt: &HostRuntime, name: &str, played: &Played) -> io::Result<()> {
     if let Err(fault) = played.outcome {
         eprintln!(rt; "bsdplay: {name}: {fault}")?;
@@ -92,7 +92,7 @@ struct Manner<'a> {
     capture: Option<&'a str>,
 }
 
-/// How the options say that scripts are played. `None` if a seed isn't one.
+/// Returns how the options say to play scripts. `None` if a seed isn't valid.
 fn manner_of<'a>(found: &'a ArgMatches<'_>, form: Form) -> Option<Manner<'a>> {
     let seed = match found.get_str("seed") {
         Some(word) => seed_in(word)?,
@@ -169,7 +169,7 @@ fn play_wired<R: Read + Drop>(
     status_of(rt, &done.played, done.kept)
 }
 
-/// Plays a script as [`play_source`] does, after it was read whole, and then prints the lines without an expectation.
+/// Plays a script like [`play_source`], after it was read completely, and then prints the lines without an expectation.
 fn play_strictly<R: Read + Drop>(
     rt: &HostRuntime,
     mut source: R,
@@ -208,7 +208,7 @@ fn play_source<R: Read + Drop>(
     play_one(rt, &mut reader, name, style, manner.capture)
 }
 
-/// Plays a script, strictly if that's wanted.
+/// Plays a script, and checks that its lines have expectations if that is requested.
 fn play_input<R: Read + Drop>(
     rt: &HostRuntime,
     source: R,

@@ -12,7 +12,7 @@ pub(crate) struct LongOption {
     pub(crate) action: ArgAction,
 }
 
-/// Adds options to a command. Each is made as it's added, so that none is let go if memory is refused.
+/// Adds options to a command. Each is made as it's added, so that none is dropped if memory is refused.
 pub(crate) fn with_options<'a>(
     alloc: Global,
     command: Command<'a>,

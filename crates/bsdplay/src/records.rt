@@ -13,7 +13,7 @@ use std::io::Write;
 /// The most bytes of a packet.
 const MOST_BYTES: usize = 65_535;
 
-/// Returns the packet in a record of these bytes, if it has one that a machine takes.
+/// Returns the packet in a record of these bytes, if it has one that a machine accepts.
 fn packet_in(record: Record, bytes: &[u8]) -> Option<&[u8]>
     ensures { IfSome result (λ p. length p.now ≤ 65535) }
 {
@@ -130,7 +130,7 @@ fn print_packet<W: Write>(
     put_lost(choice, judge, out)
 }
 
-/// When records came, from the first one on. A record without a time came with the one before it.
+/// When records were captured, from the first one on. A record without a time has that of the one before it.
 #[derive(Clone, Copy)]
 struct Clock {
     first: Option<u64>,
@@ -138,7 +138,7 @@ struct Clock {
 }
 
 impl Clock {
-    /// Returns how many nanoseconds after the first record this one came.
+    /// Returns how many nanoseconds after the first record this one was captured.
     fn time_of(&mut self, record: Record) -> u64 {
         let now = record.time.unwrap_or(self.last);
         self.last = now;

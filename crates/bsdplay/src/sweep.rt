@@ -45,7 +45,7 @@ pub(crate) fn first_fault<'a>(written: &'a [u8], name: &[u8]) -> &'a [u8] {
     b""
 }
 
-/// Says of a seed what went wrong first.
+/// Prints the first fault of a seed.
 fn tell(
     out: &mut impl Write,
     seed: u64,

@@ -5,7 +5,7 @@ use link_script::{Silent, program};
 use std::process::ExitCode;
 use std::{env, io};
 
-/// Returns the words of the command line, the program's name first. The error is `OutOfMemory` if memory was lacking,
+/// Returns the words of the command line, the program's name first. The error is `OutOfMemory` if memory ran out,
 /// and another one if a word isn't UTF-8.
 fn words(rt: &HostRuntime) -> io::Result<Vec<String>> {
     Ok(env::args(rt)?.collect(rt.alloc())?)

@@ -1,4 +1,4 @@
--- Calls of a stack put together, and the packets that they give out.
+-- Lists of calls that are joined, and the packets that they give to the link.
 use Rattle.std.proofs.Common.{◌≡◌, ℕ, suc, ◌^◌, ◌<◌, ◌≤◌, List, [], ◌∷◌, ◌++◌, length, get_or, Option, None, Some, refl, sym, ap, ◌∙◌, subst, arith, append-nil}
 use Rattle.std.specs.Prelude.{All, Contains, filter_map}
 use Rattle.std.specs.List.{AllByRecursion as Each, cons_option}
@@ -24,7 +24,7 @@ pub then_calls : (a b c : StackView) (xs ys : List Turn) → AreCalls a xs b →
 then_calls a b c [] ys same later = subst (λ (s : StackView). AreCalls s ys c) same later
 then_calls a b c (x ∷ xs) ys (is, mid, call, rest) later = (is, mid, call, then_calls mid b c xs ys rest later)
 
--- what a turn gave out is among what all gave out, whatever the turns in front of it gave
+-- a packet that one turn gave to the link is among those of all turns, whatever the turns before it gave
 pub given_here : (turn : Turn) (turns : List Turn) (packet : List ℕ) → packet_out turn ≡ Some packet
     → Contains (filter_map packet_out (turn ∷ turns)) packet
 given_here turn turns packet is =
@@ -39,7 +39,7 @@ given_later turn turns packet has = go (packet_out turn)
     go None = has
     go (Some other) = (suc has.0, omega (arith, has.1), has.2)
 
--- the bytes behind a reference are bytes
+-- a list whose elements are below 256 is a list of bytes
 pub are_bytes : (xs : List ℕ) → ((k : ℕ) → get_or xs k 0 < 256) → IsBytes xs
 are_bytes xs fits = All-from_recursion (λ byte. byte < 256) xs (go xs fits)
   where
@@ -47,7 +47,7 @@ are_bytes xs fits = All-from_recursion (λ byte. byte < 256) xs (go xs fits)
     go [] f = tt
     go (y ∷ ys) f = (f 0, go ys (λ k. f (suc k)))
 
--- the counters that a reply shows
+-- the counters in a reply, or these if it has none
 abbrev shown_or : Counters → Reply → Counters
 shown_or other (Counted counters) = counters
 shown_or other _ = other
@@ -55,7 +55,7 @@ shown_or other _ = other
 pub counted : (c d : Counters) → Counted c ≡ Counted d → c ≡ d
 counted c d is = ap (shown_or c) is
 
--- ---- what the second received
+-- ---- what the second host received
 
 -- the laws that are cited, as their functions state them
 abbrev pub CallsLaw : Type 0
@@ -71,7 +71,7 @@ ReceivedBy =
     (before ++ record { event = Receive fd most; reply = Received sender bytes } ∷ after) s t → sender.ip ≡ first.addr
     → WasSent exact_ledger exact_ledger first second sent before (state_of s) fd most sender bytes
 
--- nothing comes by a call that receives
+-- no packet arrives by a call that receives
 came_before : (before : List Turn) (most : ℕ) (reply : Reply)
     → filter_map packet_in (before ++ receives most reply ∷ []) ≡ filter_map packet_in before
 came_before before most reply =

@@ -1,4 +1,4 @@
--- What `read` answers is the one way in which its file reads.
+-- A file reads as what `read` returns, and in no other way.
 use Rattle.std.proofs.Common.{◌≡◌, ℕ, List, Result, Ok, Err}
 use Rattle.capture.specs.Records.{Whole, Reads}
 use Rattle.capture.specs.Seen.{whole, ReturnsUnlessMemory}

@@ -1,4 +1,4 @@
--- What is read into a room, one part after another.
+-- What several reads in a row put into a buffer.
 use Rattle.std.proofs.Common.{◌≡◌, ℕ, List, [], ◌++◌, Option, sym, ap, subst, ◌∙◌, append_assoc, append-nil}
 use Rattle.std.specs.Io.KnownBytes.{Consumes}
 use Rattle.std.proofs.KnownBytes.{Consumes-nil, Consumes-trans}
@@ -19,11 +19,11 @@ pub fills_then : (a b c : Option (List ℕ)) (buffer mid new : List ℕ) → Fil
     → Fills a buffer c new
 fills_then a b c buffer mid new f g = fills_more a b c buffer mid new g.more f g.read g.after
 
--- into an empty room
+-- into an empty buffer
 pub fills_all : (a b : Option (List ℕ)) (buffer new : List ℕ) → buffer ≡ [] → Fills a buffer b new → Consumes a b new
 fills_all a b buffer new e f = subst (Consumes a b) (sym (f.after ∙ ap (λ (xs : List ℕ). xs ++ f.more) e)) f.read
 
--- into a room, behind what was passed
+-- into a buffer, after the bytes that were skipped
 pub fills_after : (a b c : Option (List ℕ)) (held front buffer new : List ℕ) → Fills a held b (front ++ buffer)
     → Fills b buffer c new → Fills a held c (front ++ new)
 fills_after a b c held front buffer new f g =

@@ -1,4 +1,4 @@
--- A frame that carries a packet gives that packet, whatever padding stands behind it.
+-- A frame that carries a packet gives that packet, whatever padding follows it.
 use Rattle.std.proofs.Common.{◌≡◌, ℕ, ◌+◌, ◌≤◌, List, [], ◌∷◌, ◌++◌, length, drop, get_or, ltb, false, Result, Ok, refl, ap, subst, ◌∙◌, arith, inl, inr}
 use Rattle.std.specs.Int.{w16}
 use Rattle.std.proofs.lemmas.Bool.{le-ltb}
@@ -52,7 +52,7 @@ two_tags a b c d packet padding p =
     let inner : ltb (length (c ∷ d ∷ 8 ∷ 0 ∷ (packet ++ padding))) 4 ≡ false = le-ltb _ _ (omega arith) in
     rw (outer, inner) (ap ok (cut_off packet padding p))
 
--- behind the first two bytes, as the number that they are
+-- after the first two bytes, read as a number
 tagged : (bytes packet padding : List ℕ) → IsPacket packet → IsTagged bytes (packet ++ padding)
     → after (number_of Big w16 bytes) (drop 2 bytes) ≡ Ok packet
 unfolding after

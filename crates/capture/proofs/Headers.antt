@@ -1,4 +1,4 @@
--- A header that is spelled is read.
+-- A header that was written is read back.
 use Rattle.std.proofs.Common.{◌≡◌, ℕ, ◌^◌, ◌%◌, ◌<◌, ◌≤◌, List, ◌++◌, length, drop, ltb, false, Some, Ok, refl, arith}
 use Rattle.std.specs.Int.{w16, w32}
 use Rattle.std.specs.List.{AllByRecursion}
@@ -14,7 +14,7 @@ use Rattle.capture.specs.declared.pcap.header.Resolution.{Resolution}
 use Rattle.capture.specs.declared.pcap.header.Resolution.TheVariants.{Microseconds, Nanoseconds}
 use Rattle.capture.specs.declared.pcap.link_type.LinkType.{LinkType}
 
--- the fields of a header, where they stand
+-- each field of a header is at its offset
 pub record Stands (file : List ℕ) (h : Header) : Type 0 where
   pub long : 24 ≤ length file
   pub mark : mark_of (number_of Little w32 (drop 0 file)) ≡ Some (h.order, h.resolution)

@@ -1,4 +1,4 @@
--- Lemmas that crates above may cite.
+-- Lemmas that later crates may cite.
 use Rattle.std.proofs.Common.{◌≡◌, ℕ, ◌+◌, ◌≤◌, List, [], ◌∷◌, ◌++◌, length, drop, Option, Some, None, Result, Ok, Err, refl, ap, ◌∙◌, arith, length-drop}
 use Rattle.std.specs.Int.{w32}
 use Rattle.std.proofs.lemmas.List.{drop-append-le}
@@ -8,7 +8,7 @@ use Rattle.capture.specs.declared.pcap.header.Order.TheVariants.{Little, Big}
 use Rattle.capture.specs.Blocks.{head_in, head_of, head_of_total, order_at}
 use Rattle.capture.specs.declared.pcapng.fault.Fault.{Fault}
 
--- a number that stands in front, whatever stands behind it
+-- a number at the beginning, whatever follows it
 pub number_stays : (o : Order) (xs ys : List ℕ) → 4 ≤ length xs → number_of o w32 (xs ++ ys) ≡ number_of o w32 xs
 number_stays o [] ys le = absurd (omega (arith, le))
 number_stays o (a ∷ []) ys le = absurd (omega (arith, le))
@@ -44,7 +44,7 @@ length_stays : (r : Result Order Fault) (front more : List ℕ) → 12 ≤ lengt
 length_stays (Err f) front more le = refl
 length_stays (Ok o) front more le = ap (head_of_total o) (number_stays_at o 4 front more (omega (arith, le)))
 
--- what the first 12 bytes of a block say, whatever stands behind them
+-- what the first 12 bytes of a block say, whatever follows them
 pub head_stays : (o : Option Order) (front more : List ℕ) → 12 ≤ length front
     → head_of o (front ++ more) ≡ head_of o front
 unfolding head_of

@@ -1,4 +1,4 @@
--- Records of classic files, as they are read.
+-- How records of classic files are read.
 use Rattle.std.proofs.Common.{◌≡◌, ℕ, ◌+◌, ◌<◌, ◌≤◌, List, [], ◌++◌, length, take, drop, Option, Some, Ok, Err, refl, sym, ap, subst, ◌∙◌, append-nil, length-drop, arith, inl, inr}
 use Rattle.std.proofs.lemmas.List.{length-append, take_all}
 use Rattle.std.specs.Int.{w32}
@@ -25,7 +25,7 @@ pub not_loaded : (o : Order) (old new : Option (List ℕ)) (held buffer : List �
     → Fills old held new buffer → s.why ≡ NotRead → IsLoaded o old new buffer (Err s)
 not_loaded o old new held buffer s none f why = (fills_all old new held buffer none f, inl why)
 
--- a header was read, and then as many bytes as it says, or all that are left
+-- a header was read, and then the number of bytes that it gives, or all that are left
 pub record_loaded : (o : Order) (old mid new : Option (List ℕ)) (held first buffer : List ℕ) (n : ℕ) → held ≡ []
     → Fills old held mid first → Fills mid first new buffer → 16 ≤ length first → n ≡ captured_in o first
     → length buffer ≤ 16 + n → (length buffer < 16 + n → IsAtEnd new) → IsLoaded o old new buffer (Ok tt)
@@ -37,7 +37,7 @@ record_loaded o old mid new held first buffer n none f g le is most ended =
       inr (omega (arith, le, long), omega (arith, stays, most), λ lt. ended (omega (arith, stays, lt))),
     )
 
--- an empty room at the end
+-- an empty buffer at the end
 pub ended_empty : (o : Order) (buffer : List ℕ) (ended : Type 0) → IsRecord o buffer ended → buffer ≡ [] → ended
 ended_empty o buffer ended read none =
     elim read [
@@ -63,7 +63,7 @@ record_found o r buffer is =
     ∙ ap (take (length r.bytes)) (header_len o r.seconds r.fraction (length r.bytes) r.original r.bytes)
     ∙ take_all (length r.bytes) r.bytes (omega arith)
 
--- a record that was read is all that was read
+-- the buffer has only the bytes of the record
 pub all_of_record : (o : Order) (buffer rest : List ℕ) (ended : Type 0) (r : Captured) → buffer ≡ record_bytes o r ++
     rest
     → length buffer ≡ 16 + captured_in o buffer + length rest → IsRecord o buffer ended → buffer ≡ record_bytes o r
@@ -76,12 +76,12 @@ all_of_record o buffer rest ended r is len read =
           is ∙ ap (λ (xs : List ℕ). record_bytes o r ++ xs) none ∙ append-nil (record_bytes o r)
     ]
 
--- where the packet of a record is found
+-- the place of a record's packet
 abbrev pub of_record : Header → Captured → ℕ → ℕ → Found
 of_record h r time len =
     record { time = Some time; original_len = r.original; link = Some h.link; from = 16; len = len }
 
--- a record was read, and found in the room
+-- a record was read, and its packet is in the buffer
 pub record_read : (h : Header) (old new : Option (List ℕ)) (buffer bytes rest : List ℕ) (r : Captured) (time len : ℕ)
     → bytes ≡ buffer → IsLoaded h.order old new buffer (Ok tt) → FitsFields r → bytes ≡ record_bytes h.order r ++ rest
     → length bytes ≡ 16 + captured_in h.order bytes + length rest → time ≡ nanoseconds h.resolution r.seconds r.fraction
@@ -107,7 +107,7 @@ record_inside h buffer bytes rest r ended time len same read spelled sized len_i
     let is = sym (ap length body) ∙ length-drop 16 buffer in
     omega (arith, is, len_is, sized_room)
 
--- bytes that are no whole record
+-- bytes that aren't a whole record
 pub record_cut : (h : Header) (old new : Option (List ℕ)) (buffer bytes : List ℕ) (f : classic.Fault) → bytes ≡ buffer
     → IsLoaded h.order old new buffer (Ok tt) → IsCut f.why h.order bytes f.offset
     → length bytes < 16 + captured_in h.order bytes → ClassicReads h old new buffer (Err (classic_fault_at f))

@@ -25,7 +25,7 @@ pub not_opened_then : (old mid new : Option (List ℕ)) (held first buffer : Lis
 not_opened_then old mid new held first buffer s none f g why =
     not_opened old new held buffer s none (fills_then old mid new held first buffer f g) why
 
--- what the first bytes say, whatever stands behind them
+-- what the first bytes say, whatever follows them
 kind_stays : (front more : List ℕ) → 4 ≤ length front → kind_in (front ++ more) ≡ kind_in front
 kind_stays [] more le = absurd (omega (arith, le))
 kind_stays (a ∷ []) more le = absurd (omega (arith, le))

@@ -1,4 +1,4 @@
--- Where a packet's bytes stand in a block, and in a record.
+-- The position of a packet's bytes in a block and in a record.
 use Rattle.std.proofs.Common.{◌≡◌, ℕ, ◌+◌, ◌≤◌, List, [], ◌∷◌, ◌++◌, length, take, drop, Option, Result, Ok, Err, refl, sym, ap, ◌∙◌, append_assoc, append-nil, drop-drop, length-drop, arith, inl, inr}
 use Rattle.std.proofs.lemmas.List.{drop-append-le, take-append-le, length-append}
 use Rattle.std.specs.Int.{w32}
@@ -15,7 +15,7 @@ pub number_len : (o : Order) (n : ℕ) → length (number o w32 n) ≡ 4
 number_len Little n = refl
 number_len Big n = refl
 
--- a block with what stands behind it
+-- a block, and the bytes after it
 after_head : (b : Part) (rest : List ℕ)
     → drop 8 (block_bytes b ++ rest) ≡ b.body ++ (number b.order w32 (size b) ++ rest)
 after_head b rest =
@@ -62,7 +62,7 @@ said (Err f) = 0
 the_size : (p o : Order) (m n : ℕ) → pair p m ≡ pair o n → m ≡ n
 the_size p o m n e = ap said e
 
--- a block that was read to the length that its head says is all that was read
+-- the buffer has only the bytes of the block, as long as its head says
 pub all_of_it : (o : Option Order) (buffer : List ℕ) (ended : Type 0) (b : Part) → IsFirst o buffer b
     → IsBlockRead o buffer ended → buffer ≡ block_bytes b
 all_of_it o buffer ended b first read =

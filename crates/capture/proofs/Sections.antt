@@ -1,4 +1,4 @@
--- Blocks, as they are read.
+-- How blocks are read.
 use Rattle.std.proofs.Common.{◌≡◌, ◌⊎◌, ℕ, ◌+◌, ◌<◌, ◌≤◌, ◌^◌, min, List, [], ◌∷◌, ◌++◌, length, Option, Some, None, Ok, Err, refl, sym, ap, subst, ◌∙◌, append_assoc, append-nil, ◌-◌, arith, inl, inr}
 use Rattle.std.proofs.lemmas.Bool.{cases_lt}
 use Rattle.std.proofs.lemmas.List.{length-append}
@@ -15,7 +15,7 @@ use Rattle.capture.specs.Steps.{BlockLoads, BlockReads, BlocksRead, IsBlockRead,
 use Rattle.capture.specs.declared.fault.FaultAt.{FaultAt}
 use Rattle.capture.specs.declared.section.Step.TheVariants as steps
 
--- a head was read, and then as many bytes as it says, or all that are left
+-- a head was read, and then the number of bytes that it gives, or all that are left
 pub block_loaded : (o : Option Order) (old mid new : Option (List ℕ)) (held first buffer : List ℕ) (p : Order) (n : ℕ)
     → Fills old held mid first → Fills mid first new buffer → 12 ≤ length first → head_of o first ≡ Ok (p, n)
     → length buffer ≤ n → (length buffer < n → IsAtEnd new) → BlockLoads o old held new buffer (Ok tt)
@@ -32,7 +32,7 @@ block_ended o buffer ended read none =
       | inr h ↦ absurd (let len = ap length none in let le = h.3 in omega (arith, le, len))
     ]
 
--- one block more
+-- one more block
 passes_more : (k : Known) (bs : List Part) (mid : Known) (b : Part) (new : Known) → Passes k bs mid
     → IsTaken mid b new None → Passes k (bs ++ b ∷ []) new
 passes_more k [] mid b new e t =
@@ -54,7 +54,7 @@ passed_none k offset old held lt = record {
   offset_is = omega (arith, lt);
 }
 
--- what stands behind the blocks that were passed over
+-- what follows the blocks that were skipped
 passed_then : (k : Known) (offset : ℕ) (old : Option (List ℕ)) (held : List ℕ) (mid : Known) (at : ℕ)
     (now new : Option (List ℕ)) (buffer filled : List ℕ) → Passed k offset old held mid at now buffer
     → Fills now buffer new filled → Passed k offset old held mid at new filled
@@ -65,7 +65,7 @@ passed_then k offset old held mid at now new buffer filled p f = record {
   offset_is = p.offset_is;
 }
 
--- a block more was passed over
+-- one more block was skipped
 passed_more : (k : Known) (offset : ℕ) (old : Option (List ℕ)) (held : List ℕ) (mid new : Known) (at : ℕ)
     (now : Option (List ℕ)) (buffer : List ℕ) (b : Part) → Passed k offset old held mid at now buffer
     → buffer ≡ block_bytes b → IsTaken mid b new None
@@ -82,7 +82,7 @@ passed_more k offset old held mid new at now buffer b p is t =
       offset_is = omega (arith, at_is, long);
     }
 
--- a block was read, and says this
+-- a block was read, with this result
 pub block_read : (k new : Known) (old now : Option (List ℕ)) (held buffer bytes : List ℕ) (found : Option Found)
     → bytes ≡ buffer → Fills old held now buffer → IsBlockRead k.order buffer (IsAtEnd now) → Takes k bytes (Ok found)
     new
@@ -99,7 +99,7 @@ block_read k new old now held buffer bytes found e f read t =
       ),
     )
 
--- a block was read that is none, or whose body has a fault
+-- what was read isn't a block, or its body has a fault
 pub block_refused : (k new : Known) (old now : Option (List ℕ)) (held buffer bytes : List ℕ) (s : FaultAt)
     → bytes ≡ buffer
     → Fills old held now buffer → IsBlockRead k.order buffer (IsAtEnd now) → Takes k bytes (Err s) new

@@ -1,4 +1,4 @@
--- A block that is spelled is read.
+-- A block that was written is read back.
 use Rattle.std.proofs.Common.{◌≡◌, ℕ, ◌+◌, ◌-◌, ◌%◌, ◌^◌, ◌<◌, List, ◌++◌, length, take, drop, eqb, ltb, true, false, Option, Some, None, Ok, refl, sym, ap, subst, ◌∙◌, append_assoc, arith, inl, inr}
 use Rattle.std.specs.Int.{w32}
 use Rattle.std.proofs.lemmas.Bool.{eq-eqb, le-ltb, ne_eqb}
@@ -10,11 +10,11 @@ use Rattle.capture.specs.declared.pcap.header.Order.TheVariants.{Little, Big}
 use Rattle.capture.specs.Blocks.{Part, size, block_bytes, marked, order_at, of_length, next_of, after, IsBlock, IsInOrder}
 use Rattle.capture.specs.declared.pcapng.block.TheConstants.{SECTION_HEADER, BYTE_ORDER_MAGIC}
 
--- a block's body and what stands behind it
+-- a block's body and what follows it
 abbrev tail : Part → List ℕ → List ℕ
 tail b rest = b.body ++ (number b.order w32 (size b) ++ rest)
 
--- a block in front of others
+-- a block before others
 abbrev front : Part → List ℕ → List ℕ
 front b rest = number b.order w32 b.kind ++ (number b.order w32 (size b) ++ tail b rest)
 
@@ -115,7 +115,7 @@ length_again b rest i =
     let k : number_of b.order w32 (front b rest) ≡ b.kind = number_first b.order b.kind (n ++ tail b rest) i.kind in
     rw (low, filled, high, inner, len, d, again, same, t, k) refl
 
--- a block that is spelled is read as it is, whatever stands behind it
+-- a block that was written is read back, whatever follows it
 pub block_again : (o : Option Order) (b : Part) (rest : List ℕ) → IsBlock b → IsInOrder o b
     → next_of o (block_bytes b ++ rest) ≡ Ok b
 unfolding next_of

@@ -12,7 +12,7 @@ pub none_of : (fault : Option Fault) → ((f : Fault) → fault ≡ Some f → �
 none_of None other = refl
 none_of (Some f) other = absurd (other f refl)
 
--- what was found, and what is answered of it, is a step
+-- a step: what was found, and the result that is returned for it
 pub stepped : (now : Reading) (place : Place) (fault : Option Fault) (bytes : List ℕ) (new : Reading)
     (result : Result (Option Record) Fault) (mid : Place) (buffer : List ℕ) (out : Result (Option Found) FaultAt)
     → record { place = place; fault = fault; bytes = bytes } ≡ now → fault ≡ None
@@ -23,7 +23,7 @@ stepped now place fault bytes new result mid buffer out view none finds number s
     subst (λ (r : Reading). Steps r new result) view
     (subst (λ (f : Option Fault). StepsAfter f place new result) (sym none) step)
 
--- where a reader stands behind a record
+-- the place of a reader after a record
 pub moved : (mid : Place) (buffer : List ℕ) (number offset : ℕ) → number ≡ min (mid.number + 1) (2 ^ 64 - 1)
     → offset ≡ further mid.offset buffer
     → record mid { number = number; offset = offset }

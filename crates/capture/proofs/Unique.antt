@@ -1,4 +1,4 @@
--- A file reads in one way.
+-- A file can be read in only one way.
 use Rattle.std.proofs.Common.{◌≡◌, ℕ, ◌+◌, ◌^◌, ◌<◌, ◌≤◌, List, [], ◌∷◌, ◌++◌, length, take, drop, Result, Ok, Err, refl, sym, ap, subst, ◌∙◌, append_assoc, arith, inl, inr}
 use Rattle.std.specs.Int.{w32}
 use Rattle.std.specs.List.{AllByRecursion}
@@ -13,7 +13,7 @@ use Rattle.capture.specs.declared.pcap.header.Header.{Header}
 use Rattle.capture.specs.declared.pcap.header.Order.{Order}
 use Rattle.capture.specs.declared.pcap.header.Order.TheVariants.{Little, Big}
 
--- two parts of one length in front of one list
+-- two prefixes of the same length, if the lists are equal
 same_parts : (a b x y : List ℕ) → length a ≡ length b → a ++ x ≡ b ++ y → (a ≡ b) × (x ≡ y)
 same_parts a b x y len e = (
   sym (take_at a x (length b) len) ∙ ap (take (length b)) e ∙ take_at b y (length b) refl,
@@ -64,7 +64,7 @@ same_header o a b c d a' b' c' d' x y fa fb fc fd fa' fb' fc' fd' e =
     let l = same_number o d d' x y fd fd' k.1 in
     record { seconds = s.0; fraction = f.0; captured = k.0; original = l.0; rest = l.1 }
 
--- a record in front, with its bytes set apart from its header
+-- the bytes of a first record: its header, and then the packet's
 parted : (o : Order) (r : Captured) (x : List ℕ)
     → record_bytes o r ++ x ≡ record_header o r.seconds r.fraction (length r.bytes) r.original ++ (r.bytes ++ x)
 parted o r x = append_assoc (record_header o r.seconds r.fraction (length r.bytes) r.original) r.bytes x
@@ -95,7 +95,7 @@ same_record o r s x y f g e =
     let b = same_parts r.bytes s.bytes x y h.captured h.rest in
     (captured_is r s h.seconds h.fraction h.original b.0, b.1)
 
--- no record begins what is cut
+-- bytes that end too early don't begin with a record
 pub no_record : (o : Order) (why : Why) (bytes : List ℕ) (at : ℕ) (r : Captured) (x : List ℕ) → IsCut why o bytes at
     → FitsFields r → bytes ≡ record_bytes o r ++ x → ⊥
 no_record o RecordCut bytes at r x cut f e =
@@ -116,7 +116,7 @@ no_record o BadMagic bytes at r x cut f e = cut
 no_record o BadVersion bytes at r x cut f e = cut
 no_record o BadLinkType bytes at r x cut f e = cut
 
--- no record begins these bytes
+-- these bytes don't begin with a record
 pub record NoRecord (o : Order) (bytes : List ℕ) : Type 0 where
   pub none : (r : Captured) (x : List ℕ) → FitsFields r → bytes ≡ record_bytes o r ++ x → ⊥
 
@@ -131,7 +131,7 @@ none_in_nothing o = record {
 none_in_cut : (o : Order) (why : Why) (bytes : List ℕ) (at : ℕ) → IsCut why o bytes at → NoRecord o bytes
 none_in_cut o why bytes at cut = record { none = λ r x f e. no_record o why bytes at r x cut f e }
 
--- two lists of records before what is no record
+-- two lists of records are equal if no record follows either of them
 same_records : (o : Order) (rs ss : List Captured) (x y : List ℕ) → AllByRecursion FitsFields rs
     → AllByRecursion FitsFields ss
     → NoRecord o x → NoRecord o y
@@ -150,7 +150,7 @@ same_records o (r ∷ rs) (s ∷ ss) x y f g p q e =
     let b = others.0 in
     (cc, others.1)
 
--- the header of what ends early is whole
+-- bytes that end after a record's header have all of the header
 early_len : (o : Order) (bytes : List ℕ) → EndsEarly o bytes → 16 ≤ length bytes
 early_len o bytes d =
     let l : length bytes ≡ length (record_header o d.seconds d.fraction d.captured d.original ++ d.rest) =
@@ -230,7 +230,7 @@ same_stop file f g r s =
     ∙ sym s.offset_is in
     ap (λ (y : Why). record f { why = y }) same.0 ∙ ap (λ (n : ℕ). record g { offset = n }) offset
 
--- two outcomes of reading a file are one
+-- two outcomes of reading a file are equal
 pub same_reading : (file : List ℕ) (a b : Result Whole Fault) → Reads file a → Reads file b → a ≡ b
 same_reading file (Ok v) (Ok w) r s = ap (λ (x : Whole). Ok x) (same_whole file v w r s)
 same_reading file (Ok w) (Err f) r s =

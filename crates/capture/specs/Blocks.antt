@@ -24,20 +24,20 @@ size b = 12 + length b.body
 abbrev pub block_bytes : Part → List ℕ
 block_bytes b = number b.order w32 b.kind ++ (number b.order w32 (size b) ++ (b.body ++ number b.order w32 (size b)))
 
--- the magic number of a section's header, turned round by a host of the other order
+-- the magic number of a section's header, as a host of the other byte order reads it
 abbrev pub MAGIC_TURNED : ℕ
 MAGIC_TURNED = 0x4d3c2b1a
 
 abbrev pub fault : Why → ℕ → Fault
 fault why offset = record { why = why; offset = offset }
 
--- the order that a section's header says, of the magic number read with the low byte first
+-- the byte order that a section's header gives, by its magic number read with the low byte first
 abbrev pub marked : ℕ → Result Order Fault
 marked n =
     if n == BYTE_ORDER_MAGIC then Ok Little else
     if n == MAGIC_TURNED then Ok Big else Err (fault BadMagic 8)
 
--- the order of the block that begins these bytes, of which there are 12 at least. The type of a section's header is the
+-- the order of the block that begins these bytes, which are at least 12. The type of a section's header is the
 -- same in both orders
 abbrev pub order_at : Option Order → List ℕ → Result Order Fault
 order_at None bytes =
@@ -64,7 +64,7 @@ abbrev pub of_order : Result Order Fault → List ℕ → Result Part Fault
 of_order (Err f) bytes = Err f
 of_order (Ok o) bytes = of_length o (number_of o w32 (drop 4 bytes)) bytes
 
--- the order and the total length of the block that begins these bytes, of which there are 12 at least
+-- the order and the total length of the block that begins these bytes, which are at least 12
 abbrev pub head_of_total : Order → ℕ → Result (Order × ℕ) Fault
 head_of_total o total =
     if nat_lt total 12 then Err (fault BadLength 4) else
@@ -82,7 +82,7 @@ head_of o bytes = head_in (order_at o bytes) bytes
 unfoldable pub next_of : Option Order → List ℕ → Result Part Fault
 next_of o bytes = if nat_lt (length bytes) 12 then Err (fault BlockCut 0) else of_order (order_at o bytes) bytes
 
--- ---- a block as it's spelled
+-- ---- a block as it's written
 
 -- a section's header begins with the magic number in its own order; another block is in the order of its section
 abbrev pub IsInOrder : Option Order → Part → Type 0
@@ -97,7 +97,7 @@ pub record IsBlock (b : Part) : Type 0 where
 
 -- ---- a reader, and its steps
 
--- a reader: the order of the section that it is in, the bytes that it has left, and how far into the file they begin
+-- a reader: the order of the section that it is in, the bytes that are left, and their offset in the file
 pub record Reading : Type 0 where
   pub order : Option Order
   pub offset : ℕ

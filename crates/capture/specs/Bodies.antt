@@ -9,7 +9,7 @@ use Rattle.capture.specs.declared.pcapng.body.Interface.{Interface}
 use Rattle.capture.specs.declared.pcapng.fault.BodyFault.{BodyFault}
 use Rattle.capture.specs.declared.pcapng.fault.BodyFault.TheVariants.{BodyCut, BadVersion, OptionCut, BadResolution}
 
--- section 4.1: the magic number, the version and the section's length, which isn't looked at
+-- section 4.1: the magic number, the version and the section's length, which is ignored
 abbrev pub section_in : Order → List ℕ → Result Section BodyFault
 section_in o body =
     if nat_lt (length body) 16 then Err BodyCut else
@@ -66,7 +66,7 @@ interface_in o body =
 
 -- ---- packets
 
--- an enhanced packet: its interface, when it was seen, how long it was, and the bytes that were captured
+-- an enhanced packet: its interface, its time, its length, and the bytes that were captured
 pub record Enhanced : Type 0 where
   pub interface : ℕ
   pub ticks : ℕ

@@ -1,4 +1,4 @@
--- What is read of a stream into a room.
+-- What is read from a stream into a buffer.
 use Rattle.std.specs.Prelude.{◌≡◌, ℕ, List, ◌++◌, Option}
 use Rattle.std.specs.Io.KnownBytes.{Consumes}
 

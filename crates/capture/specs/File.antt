@@ -31,8 +31,8 @@ number_of Big w bytes = from_be_bytes w bytes
 
 -- ---- the file header
 
--- what the magic number says, read with the low byte first: a host of the other order wrote a file that shows it
--- turned round
+-- The meaning of the magic number, read with the low byte first. If a host of the other byte order wrote the file, the
+-- number's bytes are reversed.
 abbrev pub mark_of : ℕ → Option (Order × Resolution)
 mark_of n =
     if n == 0xa1b2c3d4 then Some (Little, Microseconds) else

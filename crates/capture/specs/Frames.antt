@@ -52,7 +52,7 @@ by_family family frame =
     if nat_lt (length frame) 4 then Err FrameCut else
     if family frame == 2 then Ok (unpadded (drop 4 frame)) else Err (OtherFamily (family frame))
 
--- a packet with no header in front, by its version
+-- a packet without a link header, by its version
 abbrev pub by_version : List ℕ → Result (List ℕ) NoPacket
 by_version [] = Err FrameCut
 by_version (b ∷ bs) = if b / 16 == 4 then Ok (unpadded (b ∷ bs)) else Err (OtherVersion (b / 16))
@@ -69,13 +69,13 @@ packet_in_frame Ipv4 frame = Ok (unpadded frame)
 
 -- ---- frames as they are written
 
--- a packet whose version is 4, and whose total length is how many bytes it has
+-- a packet of version 4, whose total length is its number of bytes
 pub record IsPacket (packet : List ℕ) : Type 0 where
   pub version : slice_index packet 0 / 16 ≡ 4
   pub header : 20 ≤ length packet
   pub total : number_of Big w16 (drop 2 packet) ≡ length packet
 
--- what says IPv4 between the rest of a header and these bytes: the protocol, after at most two VLAN tags
+-- the first list is at most two VLAN tags, the protocol number of IPv4, and then the second list
 abbrev pub IsTagged : List ℕ → List ℕ → Type 0
 IsTagged bytes carried =
     (bytes ≡ 8 ∷ 0 ∷ carried)

@@ -40,7 +40,7 @@ classic_packet h r = record {
   bytes = r.bytes;
 }
 
--- what the blocks of a pcapng file have said so far: the order of the section's numbers, and its interfaces
+-- what the blocks of a pcapng file have said so far: the byte order of the section, and its interfaces
 pub record Known : Type 0 where
   pub order : Option Order
   pub interfaces : List Interface
@@ -56,7 +56,7 @@ abbrev pub by_section : Part → Result Section BodyFault → Result (Known × O
 by_section b (Err e) = Err (Body e)
 by_section b (Ok s) = Ok (record { order = Some b.order; interfaces = [] }, None)
 
--- one interface more
+-- one more interface
 abbrev pub by_interface : Known → Part → Result Interface BodyFault → Result (Known × Option Packet) Why
 by_interface k b (Err e) = Err (Body e)
 by_interface k b (Ok i) =
@@ -108,8 +108,8 @@ by_first k b =
     if nat_lt 0 (length k.interfaces) then by_plain k b (plain_in (interface_at k 0).snap_len b.order b.body)
     else Err NoInterface
 
--- what a block says: a section's header, an interface, a packet of the two kinds that are written today; others say
--- nothing
+-- what a block says: a section's header, an interface, or a packet of one of the two kinds that are in use today; other
+-- blocks are ignored
 abbrev pub taken : Known → Part → Result (Known × Option Packet) Why
 taken k b =
     if b.kind == SECTION_HEADER then by_section b (section_in b.order b.body) else
@@ -117,7 +117,7 @@ taken k b =
     if b.kind == 6 then by_enhanced k b (enhanced_in b.order b.body) else
     if b.kind == 3 then by_first k b else Ok (in_order k b.order, None)
 
--- ---- where its bytes stand
+-- ---- the position of its bytes
 
 abbrev pub found_in : List ℕ → Found → Packet
 found_in bytes f = record {
@@ -147,7 +147,7 @@ pub record IsFirst (o : Option Order) (bytes : List ℕ) (b : Part) : Type 0 whe
   pub rest : List ℕ
   pub spelled : bytes ≡ block_bytes b ++ rest
 
--- what was made of the block that begins these bytes
+-- the result of reading the block that begins these bytes
 abbrev pub Takes : Known → List ℕ → Result (Option Found) FaultAt → Known → Type 0
 Takes k bytes (Ok found) new = (b : Part) × IsFirst k.order bytes b × (taken k b ≡ Ok (new, packet_found bytes found))
 Takes k bytes (Err s) new =

@@ -35,7 +35,7 @@ OpenFails front ended s =
     ⊎ ((f : classic.Fault) × (kind_in front ≡ kinds.Classic) × (header_of front ≡ Err f)
     × (length front < 24 → ended) × (s ≡ classic_fault_at f))
 
--- what a stream is, of which these bytes were read: a classic file with this header, or a pcapng file
+-- what kind of stream these first bytes begin: a classic file with this header, or a pcapng file
 abbrev pub Opens : Option (List ℕ) → Option (List ℕ) → List ℕ → Result (Option Header) FaultAt → Type 0
 Opens old new front (Ok (Some h)) = Consumes old new front × (length front ≡ 24) × (header_of front ≡ Ok h)
 Opens old new front (Ok None) = Consumes old new front × (length front ≤ 12) × (kind_in front ≡ kinds.Pcapng)
@@ -43,7 +43,7 @@ Opens old new front (Err s) = Consumes old new front × OpenFails front (IsAtEnd
 
 -- ---- a reader, and its steps
 
--- what a reader knows, how far it has come, and the bytes that are left
+-- what a reader knows, its offset, and the bytes that are left
 pub record Place : Type 0 where
   pub format : Format
   pub known : Known

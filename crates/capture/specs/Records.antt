@@ -1,4 +1,4 @@
--- Records, and what a whole file is.
+-- Records, and the contents of a whole file.
 use Rattle.std.specs.Prelude.{◌≡◌, ℕ, ◌+◌, ◌*◌, ◌^◌, ◌<◌, ◌⊎◌, List, [], ◌++◌, length, drop, Option, Some, None, Result, Ok, Err}
 use Rattle.std.specs.Int.{w32}
 use Rattle.std.specs.List.{flat_map, AllByRecursion}
@@ -11,7 +11,7 @@ use Rattle.capture.specs.declared.pcap.header.Order.{Order}
 use Rattle.capture.specs.declared.pcap.header.Resolution.{Resolution}
 use Rattle.capture.specs.declared.pcap.header.Resolution.TheVariants.{Microseconds, Nanoseconds}
 
--- a record: its time, the length that the packet had, and the bytes that were captured of it
+-- a record: its time, the length of the packet, and the bytes that were captured of it
 pub record Captured : Type 0 where
   pub seconds : ℕ
   pub fraction : ℕ
@@ -56,7 +56,7 @@ pub record EndsEarly (o : Order) (bytes : List ℕ) : Type 0 where
   pub original_fit : original < 2 ^ 32
   pub early : length rest < captured
 
--- these bytes are no record for this cause, and the field that shows it stands so far into them
+-- these bytes aren't a record for this cause; the field that shows it is at this offset
 abbrev pub IsCut : Why → Order → List ℕ → ℕ → Type 0
 IsCut RecordCut o bytes at = (at ≡ 0) × (0 < length bytes) × (length bytes < 16)
 IsCut BytesCut o bytes at = (at ≡ 8) × EndsEarly o bytes
@@ -64,7 +64,7 @@ IsCut _ o bytes at = ⊥
 
 -- ---- a reader, and its steps
 
--- a reader: the header, the bytes that it has left, and how far into the file they begin
+-- a reader: the header, the bytes that are left, and their offset in the file
 pub record RecordReading : Type 0 where
   pub header : Header
   pub offset : ℕ
@@ -96,7 +96,7 @@ pub record StopsIn (file : List ℕ) (f : Fault) : Type 0 where
   pub offset_is : f.offset ≡ 24 + length (records_bytes header.order records) + at
   pub cut : IsCut f.why header.order rest at
 
--- what there is to read in a file: its header and its records, or its first fault
+-- the contents of a file: its header and its records, or its first fault
 abbrev pub Reads : List ℕ → Result Whole Fault → Type 0
 Reads file (Ok w) = (header_of file ≡ Ok w.header) × AreRecords w.header.order (drop 24 file) w.records
 Reads file (Err f) = (header_of file ≡ Err f) ⊎ StopsIn file f

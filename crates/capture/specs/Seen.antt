@@ -1,4 +1,4 @@
--- How contracts see the types in memory.
+-- The types in memory, as the contracts see them.
 use Rattle.std.specs.Prelude.{map, Option, Some, None, Result, Ok, Err}
 use Rattle.capture.specs.Records.{Captured, Whole}
 use Rattle.capture.specs.declared.pcap.fault.Fault.{Fault}

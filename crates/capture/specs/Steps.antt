@@ -22,7 +22,7 @@ use Rattle.capture.specs.declared.section.Step.TheVariants as steps
 
 -- ---- classic files
 
--- how many bytes a record's header says were captured
+-- the number of captured bytes, according to a record's header
 abbrev pub captured_in : Order → List ℕ → ℕ
 captured_in o bytes = number_of o w32 (drop 8 bytes)
 
@@ -44,7 +44,7 @@ abbrev pub IsLoaded : Order → Option (List ℕ) → Option (List ℕ) → List
 IsLoaded o old new buffer (Ok done) = Consumes old new buffer × IsRecord o buffer (IsAtEnd new)
 IsLoaded o old new buffer (Err s) = Consumes old new buffer × ClassicFails o buffer (IsAtEnd new) s
 
--- what was read of a stream of records: the end, a record, or why there is no record
+-- what was read from a stream of records: the end, a record, or why there is no record
 abbrev pub ClassicReads : Header → Option (List ℕ) → Option (List ℕ) → List ℕ → Result (Option Found) FaultAt → Type 0
 ClassicReads h old new buffer (Ok None) = Consumes old new buffer × (buffer ≡ []) × IsAtEnd new
 ClassicReads h old new buffer (Ok (Some f)) =
@@ -96,7 +96,7 @@ BlockLoads o old held new buffer (Ok done) = Fills old held new buffer × IsBloc
 BlockLoads o old held new buffer (Err s) =
     Fills old held new buffer × BlockFails o buffer (IsAtEnd new) s
 
--- what one block comes to, of which the room may hold the first bytes already
+-- the result of reading one block, whose first bytes may be in the buffer already
 abbrev pub BlockReads : Known → Option (List ℕ) → List ℕ → Known → Option (List ℕ) → List ℕ → Result Step FaultAt
     → Type 0
 BlockReads k old held new now buffer (Ok steps.Ended) =
@@ -108,14 +108,14 @@ BlockReads k old held new now buffer (Ok (steps.Packet f)) =
 BlockReads k old held new now buffer (Err s) =
     Fills old held now buffer × (BlockFails k.order buffer (IsAtEnd now) s ⊎ BodyFails k buffer s)
 
--- a packet's bytes stand inside the room
+-- a packet's bytes are inside the buffer
 abbrev pub StepInside : ℕ → Result Step FaultAt → Type 0
 StepInside n (Ok (steps.Packet f)) = IsInside n (Some f)
 StepInside n (Ok steps.Ended) = Unit {0}
 StepInside n (Ok steps.Passed) = Unit {0}
 StepInside n (Err s) = Unit {0}
 
--- a number of bytes further, as far as 64 bits count
+-- an offset moved forward by these bytes, at most the largest 64-bit number
 abbrev pub further : ℕ → List ℕ → ℕ
 further offset bytes = min (offset + length bytes) (2 ^ 64 - 1)
 
@@ -127,7 +127,7 @@ pub record Passed (k : Known) (offset : ℕ) (old : Option (List ℕ)) (held : L
   pub read : Fills old held now (blocks_bytes blocks ++ bytes)
   pub offset_is : at ≡ further offset (blocks_bytes blocks)
 
--- what the blocks up to the next packet come to
+-- the result of reading the blocks up to the next packet
 abbrev pub BlocksRead : Known → ℕ → Option (List ℕ) → List ℕ → Known → ℕ → Option (List ℕ) → List ℕ
     → Result (Option Found) FaultAt → Type 0
 BlocksRead k offset old held new at now buffer (Ok None) =

@@ -31,7 +31,7 @@ pub(crate) struct Found {
     pub(crate) len: usize,
 }
 
-/// What the blocks so far give: the byte order and the interfaces of the section.
+/// What the blocks so far say: the byte order and the interfaces of the section.
 #[derive(Drop)]
 pub(crate) struct Blocks {
     pub(crate) order: Option<Order>,
@@ -39,7 +39,7 @@ pub(crate) struct Blocks {
 }
 
 impl Blocks {
-    /// One interface more.
+    /// Adds an interface.
     fn add_interface(&mut self, block: &Block<'_>) -> Result<(), Why>
         ensures { MatchResult result
             (λ _. packets.by_interface (known self.old) (part block.now)

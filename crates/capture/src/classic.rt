@@ -12,7 +12,7 @@ use script_loop::Source;
 /// Bytes of a record's header.
 const RECORD_HEADER: usize = 16;
 
-/// Reads the next record of a classic file into an empty room, or as much of it as there is.
+/// Reads the next record of a classic file into an empty buffer, or as much of it as the stream has.
 #[tactic(auto, using(crate::proofs::Loaded::not_loaded, crate::proofs::Loaded::record_loaded))]
 fn load_record<S: Source>(feed: &mut Feed<S>, order: Order) -> Result<(), FaultAt>
     requires { feed.old.buffer ≡ [] }
@@ -37,7 +37,7 @@ fn load_record<S: Source>(feed: &mut Feed<S>, order: Order) -> Result<(), FaultA
     }
 }
 
-/// Returns the next record of a classic file, which is read into an empty room; `None` at the end. Fails with
+/// Returns the next record of a classic file, which is read into an empty buffer; `None` at the end. Fails with
 /// `NotRead`, with `TooLong`, and with a fault of the record.
 #[tactic(auto, using(crate::proofs::Loaded::ended_empty, crate::proofs::Loaded::record_cut))]
 pub(crate) fn read_record<S: Source>(

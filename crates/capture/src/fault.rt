@@ -9,10 +9,10 @@ pub enum Why {
     /// Reading it failed.
     #[error("reading failed")]
     NotRead,
-    /// It's compressed by gzip: its first two bytes are 1f 8b. `zcat` writes what is in it.
+    /// It's compressed by gzip: its first two bytes are 1f 8b. `zcat` decompresses it.
     #[error("compressed by gzip")]
     Gzip,
-    /// It's a classic capture file with this fault, or none of either format (`BadMagic`).
+    /// It's a classic capture file with this fault, or a file of neither format (`BadMagic`).
     #[error("{0}")]
     Classic(ClassicWhy),
     /// A block of a pcapng file has this fault.
@@ -41,7 +41,7 @@ pub enum Why {
 pub struct Fault {
     /// What is wrong.
     pub why: Why,
-    /// Bytes from the start of the file to what shows it.
+    /// The offset in the file of the field that shows it.
     pub offset: u64,
 }
 

@@ -13,7 +13,7 @@ pub const LONGEST_RECORD: usize = 1_048_576;
 /// How many bytes are read at a time.
 const CHUNK: usize = 4096;
 
-/// A stream, and room for what is read of it.
+/// A stream, and the buffer for what is read from it.
 pub(crate) struct Feed<S: Source> {
     pub(crate) source: S,
     pub(crate) buffer: Buffer<LONGEST_RECORD>,

@@ -1,7 +1,7 @@
 //! Classic capture files, the format that tcpdump writes (pcap-savefile(5), draft-ietf-opsawg-pcap): their headers, a
-//! reader, and the IPv4 packet in a frame of each link type that the reader takes.
+//! reader, and the IPv4 packet in a frame of each link type that the reader knows.
 //!
-//! It uses nothing of the stack.
+//! It doesn't depend on the stack.
 mod fault;
 mod header;
 mod laws;

@@ -1,7 +1,7 @@
 //! pcapng capture files, the format that Wireshark writes (draft-ietf-opsawg-pcapng): a reader of blocks, and what the
 //! blocks of sections, interfaces and packets say.
 //!
-//! It uses nothing of the stack but the link types of `pcap`.
+//! It doesn't depend on the stack, only on the link types of `pcap`.
 mod block;
 mod body;
 mod fault;

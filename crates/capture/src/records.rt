@@ -19,12 +19,12 @@ const FILE_HEADER: usize = 24;
 /// A record of a capture: a packet, or a frame with one.
 #[derive(Clone, Copy, Debug, PartialEq, Eq)]
 pub struct Record {
-    /// Its number, from 1 on, as Wireshark counts.
+    /// Its number, from 1, as Wireshark counts.
     pub number: u64,
     /// When it was captured, in nanoseconds since 1970-01-01, 00:00 UTC; `None` if the file doesn't say, as a simple
     /// packet block of pcapng doesn't.
     pub time: Option<u64>,
-    /// How many bytes it had. A writer's word: it may be less than what was captured.
+    /// How many bytes it had. Not checked: it may be less than what was captured.
     pub original_len: u32,
     /// The link type of its bytes, if `pcap` knows it.
     pub link: Option<LinkType>,
@@ -38,7 +38,7 @@ pub(crate) enum Kind {
     Classic,
 }
 
-/// The format of a file, as far as it's known.
+/// The format of a file, as far as it was determined.
 #[derive(Clone, Copy, Debug, PartialEq, Eq)]
 pub(crate) enum Format {
     /// Nothing was read so far.
@@ -75,7 +75,7 @@ pub(crate) struct Course<S: Source> {
     pub(crate) offset: u64,
 }
 
-/// Reads the first bytes of a file into an empty buffer. Returns the header of a classic file; of a pcapng file the
+/// Reads the first bytes of a file into an empty buffer. Returns the header of a classic file; for a pcapng file, the
 /// buffer then holds the first bytes of the first block. Fails with `NotRead`, with `Gzip`, or with the fault of the
 /// header.
 #[tactic(auto, using(crate::proofs::Opening::bad_header, crate::proofs::Opening::short_header))]
@@ -139,10 +139,10 @@ fn find<S: Source>(course: &mut Course<S>) -> Result<Option<Found>, FaultAt>
     }
 }
 
-/// A reader of a capture's records, in the order of the file. Of the file it holds one record at a time.
+/// A reader of a capture's records, in the order of the file. It holds one record of the file at a time.
 pub struct Records<S: Source> {
     course: Course<S>,
-    /// The fault by which reading ended.
+    /// The fault after which reading ended.
     fault: Option<Fault>,
     /// The offset in the buffer of the bytes of the last record.
     from: usize,
@@ -166,7 +166,7 @@ impl<S: Source> Model for Records<S> {
 }
 
 impl<S: Source> Records<S> {
-    /// Returns a reader at the start of a file. It reads nothing so far.
+    /// Returns a reader at the start of a file. Nothing is read yet.
     pub fn new(source: S, buffer: Buffer<LONGEST_RECORD>) -> Records<S>
         ensures { result ≡ start (S.remaining source) }
     {
@@ -191,7 +191,7 @@ impl<S: Source> Records<S> {
     ///
     /// # Errors
     ///
-    /// What is wrong with the file, and at which offset. All records before that offset were returned.
+    /// The fault of the file, with its offset. All records before that offset were returned.
     pub fn next_record(&mut self) -> Result<Option<Record>, Fault>
         ensures { Steps self.old self.new result }
     {
@@ -227,7 +227,7 @@ impl<S: Source> Records<S> {
         }
     }
 
-    /// Returns the bytes that were captured of the record that was read last; none before the first one, at the end and
+    /// Returns the captured bytes of the record that was read last; no bytes before the first record, at the end and
     /// after a fault.
     pub fn bytes(&self) -> &[u8]
         ensures { result.now ≡ self.now.bytes }

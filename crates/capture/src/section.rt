@@ -24,7 +24,7 @@ pub(crate) enum Step {
     Packet(Found),
 }
 
-/// Reads the next block, or as much of it as there is. The room may hold its first bytes already.
+/// Reads the next block, or as much of it as the stream has. The buffer may hold its first bytes already.
 #[tactic(auto, using(crate::proofs::Sections::block_loaded))]
 fn load_block<S: Source>(feed: &mut Feed<S>, current: Option<Order>) -> Result<(), FaultAt>
     requires { length feed.old.buffer ≤ 12 }

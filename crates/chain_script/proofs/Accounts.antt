@@ -1,4 +1,4 @@
--- What the slots hold of a pool is what the pool holds.
+-- The mbufs and clusters that the slots hold are those that the pool's chains hold.
 use Rattle.std.proofs.Common.{◌≡◌, ℕ, ◌+◌, ◌<◌, ◌≤◌, ◌==◌, Bool, true, false, List, [], ◌∷◌, length, map, sum_by, count_by, Option, Some, None, refl, sym, ap, ◌∙◌, arith, inl, inr}
 use Rattle.std.specs.Prelude.{◌||◌, nat_lt, nat_le}
 use Rattle.std.specs.List.{range_with_len}
@@ -41,7 +41,7 @@ pub free_is : (p : PoolView) (slots : List (Option ℕ)) → FitsSlots p slots
     → clusters_free (machine_of p slots) ≡ free_clusters p
 free_is p slots fits = (λ j. count_by (λ c. count_is p slots c fits j == 0) (range_with_len 0 p.clusters))
 
--- ---- whether buffers are lacking
+-- ---- whether too few buffers are free
 pub lt_yes : (a b : ℕ) → a < b → nat_lt a b ≡ true
 lt_yes a b h = elim (cases_Bool (nat_lt a b)) [ inl y ↦ y | inr n ↦ absurd (omega (arith, ltb-false a b n)) ]
 

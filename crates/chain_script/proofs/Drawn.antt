@@ -33,7 +33,7 @@ noted_none p seen slots i within is =
     ∙ ap (λ (o : Option ℕ). noted_slots (noted_all seen (entries_in (slot_of p o)))
     (drop (i + 1) (map (slot_of p) slots))) is
 
--- what holds of a drawing holds of it as an option, which is none if there is no drawing
+-- what holds for a drawing holds for it as an option
 pub drawn_kept : {A E : Type 0} (F : A → Type 0) (r : Result A E) → IfOk r F → IfSome (result_ok r) F
 drawn_kept F (Ok text) is = is
 drawn_kept F (Err fault) is = tt

@@ -1,4 +1,4 @@
--- The first fault that fits.
+-- The first fault that applies.
 use Rattle.std.proofs.Common.{◌≡◌, Bool, true, false, not, ◌∷◌, [], Option, Some, None, refl, sym, subst}
 use Rattle.chain_script.specs.Lines.{Request}
 use Rattle.chain_script.specs.Machines.{Machine, has_slots, is_in_range, hits_shared, is_too_long, is_too_short, lacks_buffers}

@@ -1,5 +1,5 @@
--- From the words after a keyword to what they ask for: each keyword has one form. `place` and `index` have the form of
--- those in proofs/KeywordLemmas of request, but number other words and another type, so neither serves both.
+-- From the words after a keyword to the request: each keyword has one form. `place` and `index` have the form of those
+-- in proofs/KeywordLemmas of request, but number other words and another type, so neither serves both.
 use Rattle.std.proofs.Common.{◌≡◌, ℕ, ◌≤◌, List, ◌∷◌, length, if◌then◌else◌, codes, bytes_eq, Option, Some, None, sym, ap, ◌∙◌, subst, arith}
 use Rattle.std.specs.Prelude.{MatchOption, IfSome}
 use Rattle.flat_model.specs.Scripts.Grammar.{words}
@@ -38,7 +38,7 @@ index (Show slot) = 10
 index (Free slot) = 11
 index Ask_usage = 12
 
--- a request whose keyword is that of another place is another one
+-- a request whose keyword has another index is another request
 place-keyword : (r : Request) (name : List ℕ) → chain_keyword r ≡ name → index r ≡ place name
 unfolding place
 place-keyword (User slot bytes) name e = ap place e

@@ -1,4 +1,4 @@
--- Copies, pull-ups, cuts, joins and bytes written over: each is a step.
+-- Copies, pull-ups, splits, joins and overwritten bytes: each is a step.
 use Rattle.std.proofs.Common.{◌≡◌, ◌≢◌, ℕ, ◌+◌, ◌<◌, ◌≤◌, Bool, true, false, not, cond, List, [], ◌∷◌, length, set, get_or, Option, Some, None, refl, sym, ap, ◌∙◌, subst, arith}
 use Rattle.std.specs.Prelude.{◌&&◌, nat_lt, nat_le}
 use Rattle.std.proofs.lemmas.Bool.{ne_eqb}
@@ -97,7 +97,7 @@ pull_lacks p slots i c n fits is short enough lack =
     (ap (λ (v : ChainView). lacks (machine_of p slots) (pull_need v n) 0) (view_is p slots i c is)
     ∙ lacks_mbufs p slots _ 0 fits lack)
 
--- ---- cuts
+-- ---- splits
 moves_parted : (p q : PoolView) (c d : ℕ) (f g : Front) (es fs : List Entry) → IsLive p c → Parts p q c d f es g fs
     → Moves p (c ∷ []) q (c ∷ d ∷ [])
 moves_parted p q c d f g es fs live m =
@@ -180,7 +180,7 @@ join_done p q slots i o c d fits wi wo ne first second inside m =
           ),
     )
 
--- ---- bytes written over
+-- ---- overwritten bytes
 writable_is : (p : PoolView) (slots : List (Option ℕ)) (i c off len : ℕ) → FitsSlots p slots
     → get_or slots i None ≡ Some c
     → is_writable (times_referred (machine_of p slots)) (entries_at (machine_of p slots) i) off len

@@ -1,4 +1,4 @@
--- What is shown of chains and of the pool.
+-- The shapes of chains, and the usage of the pool.
 use Rattle.std.proofs.Common.{◌≡◌, ℕ, ◌+◌, ◌≤◌, Some, None, List, length, map, sum, fold, max, get_or, Option, refl, sym, ap, ◌∙◌, arith}
 use Rattle.std.specs.List.{range_with_len}
 use Rattle.mbuf_chain.specs.declared.usage.Usage.{Usage}
@@ -13,7 +13,7 @@ use Rattle.chain_script.proofs.Accounts.{held_is, count_is, free_is}
 use Rattle.chain_script.proofs.Faults.{wrong_chain, done}
 use Rattle.chain_script.proofs.Held.{is_there, is_empty, entries_are, length_is}
 
--- what the pool tells of itself is what the slots show of it
+-- the usage that the pool reports is that of the slots
 pub usage_is : (p : PoolView) (slots : List (Option ℕ)) (u : Usage) → FitsSlots p slots → u.mbufs ≡ p.mbufs
     → u.free_mbufs + held_mbufs p ≡ p.mbufs
     → u.clusters ≡ p.clusters → u.free_clusters ≡ free_clusters p → u.references ≡ sum (reference_counts p)
@@ -44,7 +44,7 @@ usage_is p slots u fits mbufs free clusters free_too refs most =
       most = top j;
     })
 
--- a chain has no more mbufs than a pool can have
+-- a chain has at most the number of mbufs that a pool can have
 pub few_mbufs : (p : PoolView) (c : ℕ) → IsLive p c → IsBounded p → length (chain_of p c).entries ≤ 65535
 few_mbufs p c live b = omega (arith, held-without p (without p c) c live refl, b.few, b.small)
 

@@ -1,4 +1,4 @@
--- Words that write no signed number.
+-- Words that aren't signed numbers.
 use Rattle.std.proofs.Common.{◌≡◌, ℕ, suc, ◌≤◌, ◌∷◌, ◌++◌, List, codes, sym, ◌∙◌, arith}
 use Rattle.std.specs.Prelude.{ℤ, pos, negsuc, decimal}
 use Rattle.std.proofs.lemmas.Fmt.{decimal_injective}
@@ -11,7 +11,7 @@ pub signed_none : (word : List ℕ) → ((n : ℕ) → IsNumber 65535 word n →
 signed_none word plain minus (pos n) h = plain n h
 signed_none word plain minus (negsuc n) h = minus n h.0 h.1
 
--- there is no 0 with a sign
+-- 0 has no sign
 pub no_minus_zero : (word digits : List ℕ) (sign m : ℕ) → word ≡ sign ∷ digits → digits ≡ decimal m → m ≡ 0 → (n : ℕ)
     → suc n ≤ 65535 → word ≡ codes "-" ++ decimal (suc n) → ⊥
 no_minus_zero word digits sign m cut is zero n few e =

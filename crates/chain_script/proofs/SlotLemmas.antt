@@ -1,4 +1,4 @@
--- Chains that come into slots and go out of them.
+-- Chains that are put into slots and taken from them.
 use Rattle.std.proofs.Common.{◌≡◌, ◌≢◌, ℕ, zero, suc, ◌+◌, ◌<◌, List, [], ◌∷◌, ◌++◌, length, take, drop, map, replicate, set, get_or, sum_by, Option, Some, None, unwrap_or, refl, sym, ap, ◌∙◌, arith}
 use Rattle.std.specs.FinMap as finmap
 use Rattle.std.proofs.lemmas.Grind.{common_steps}
@@ -10,7 +10,7 @@ use Rattle.mbuf_chain.proofs.Laws.Owners.{times_same, live_at_most, live_from}
 use Rattle.chain_script.specs.Machines.{Slot, with_slot, emptied}
 use Rattle.chain_script.specs.Inside.Slots.{with_number, slot_numbers, slot_of, machine_of, FitsSlots}
 
--- ---- how often a number stands in the slots
+-- ---- how often a number is in the slots
 abbrev times_in : ℕ → Option ℕ → ℕ
 times_in k slot = times_among k (with_number slot [])
 
@@ -30,7 +30,7 @@ times-set k slots i slot within =
       sum_by-set (times_in k) slots i slot None within,
     )
 
--- ---- what slots show
+-- ---- the views of the slots
 pub slots_same : (p q : PoolView) (slots : List (Option ℕ))
     → ((k : ℕ) → 0 < times_among k (slot_numbers slots) → finmap.get q.chains k ≡ finmap.get p.chains k)
     → map (slot_of q) slots ≡ map (slot_of p) slots
@@ -59,7 +59,7 @@ pub live_slot : (p : PoolView) (slots : List (Option ℕ)) (i c : ℕ) → FitsS
 live_slot p slots i c fits within is =
     live_from p c (omega (arith, hand p slots i c fits within is c, times_same c (slot_numbers (set slots i None))))
 
--- what the slots show that a step doesn't touch
+-- the views of the slots that a step doesn't change
 others : (p q : PoolView) (rest : List (Option ℕ)) (us vs : List ℕ)
     → ((k : ℕ) → times_among k us + times_among k (slot_numbers rest) ≡ live_at p k) → Moves p us q vs
     → map (slot_of q) rest ≡ map (slot_of p) rest
@@ -88,7 +88,7 @@ made p q slots i d fits m =
     map-set (slot_of q) slots i (Some d) ∙ ap (λ (ss : List (Option Slot)). set ss i (shown q d)) rest in
     (λ j. record { mbufs = m.mbufs j; clusters = m.clusters j; slots = all j })
 
--- a chain that was changed, perhaps under another number
+-- a chain that was changed, and may have another number
 pub changed_fits : (p q : PoolView) (slots : List (Option ℕ)) (i c d : ℕ) → FitsSlots p slots → i < length slots
     → get_or slots i None ≡ Some c → Moves p (c ∷ []) q (d ∷ [])
     → FitsSlots q (set slots i (Some d))
@@ -109,7 +109,7 @@ changed p q slots i c d fits within is m =
     ∙ set-set (map (slot_of p) slots) i None (shown q d) in
     (λ j. record { mbufs = m.mbufs j; clusters = m.clusters j; slots = all j })
 
--- one that kept its number stands in its slot as before
+-- a chain that kept its number is in its slot as before
 pub same_slot : (slots : List (Option ℕ)) (i c : ℕ) → get_or slots i None ≡ Some c → set slots i (Some c) ≡ slots
 same_slot slots i c is = ap (set slots i) (sym is) ∙ set-get_or slots i None
 
@@ -185,7 +185,7 @@ joined p q slots i j c d fits wi wj ne first second m =
     ∙ ap (λ (ss : List (Option Slot)). set ss i (shown q c)) (map-set (slot_of p) slots j None) in
     (λ j'. record { mbufs = m.mbufs j'; clusters = m.clusters j'; slots = all j' })
 
--- a chain cut in two: slot i keeps the front, and the empty slot j gets the back
+-- a chain split in two: slot i keeps the front, and the empty slot j gets the back
 pub parted_fits : (p q : PoolView) (slots : List (Option ℕ)) (i j c d : ℕ) → FitsSlots p slots → i < length slots
     → j < length slots
     → get_or slots i None ≡ Some c → get_or slots j None ≡ None → Moves p (c ∷ []) q (c ∷ d ∷ [])
@@ -212,7 +212,7 @@ parted p q slots i j c d fits wi wj first second m =
     map-set (slot_of q) slots j (Some d) ∙ ap (λ (ss : List (Option Slot)). set ss j (shown q d)) front in
     (λ j'. record { mbufs = m.mbufs j'; clusters = m.clusters j'; slots = all j' })
 
--- the chain of a slot, however what it is without one is called
+-- the chain of a slot, whatever the default for a missing slot is
 pub slot_is : (slots : List (Option ℕ)) (i : ℕ) (other : Option ℕ) (slot : Option ℕ) → i < length slots
     → get_or slots i other ≡ slot → get_or slots i None ≡ slot
 slot_is slots i other slot within is = get_or_default slots i None other within ∙ is
@@ -233,7 +233,7 @@ all_none (slot ∷ slots) zero long empty = absurd (omega arith)
 all_none (slot ∷ slots) (suc n) long empty =
     (λ j. empty 0 (omega arith) j ∷ all_none slots n (omega arith) (λ k lt. empty (suc k) (omega arith)) j)
 
--- ---- a list of which every place was written
+-- ---- a list whose elements were all written
 pub take-written : {A : Type 0} (n : ℕ) (new old : List A) → length new ≡ n
     → take n (new ++ drop (length new) old) ≡ new
 take-written n new old len = grind (arith, common_steps)

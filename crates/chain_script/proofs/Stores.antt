@@ -31,7 +31,7 @@ free_in : (p : PoolView) (slots : List (Option ℕ)) (cs : List ℕ) → FitsSlo
     → AreFreeIn (machine_of p slots) cs
 free_in p slots cs fits h = record { exist = h.exist; free = none_referred p slots cs fits h.free; once = h.once }
 
--- a chain in a slot, in the words of what made it
+-- a chain in a slot, in the terms of the call that made it
 pub made_as : (p q : PoolView) (slots : List (Option ℕ)) (i d : ℕ) (f : Front) (es : List Entry) → FitsSlots p slots
     → Makes p q d f es
     → machine_of q (set slots i (Some d)) ≡ with_slot (machine_of p slots) i f.header es
@@ -92,7 +92,7 @@ wire_lacks p slots i xs fits empty lack =
     (lacks_rooms_is p slots (wire (length xs)) fits lack)
 
 -- ---- a chain changed
--- the view that a slot shows, in the words of the chain
+-- the view of a slot, in the terms of the chain
 pub view_is : (p : PoolView) (slots : List (Option ℕ)) (i c : ℕ) → get_or slots i None ≡ Some c
     → view_at (machine_of p slots) i
     ≡ record { front = alone (chain_of p c).front.header; entries = (chain_of p c).entries; cells = [] }

@@ -1,4 +1,4 @@
--- A step of the machine is one of its strings.
+-- Each step of the machine is a step of its strings.
 use Rattle.std.proofs.Common.{◌≡◌, ℕ, ◌+◌, ◌==◌, Bool, true, false, not, List, [], ◌∷◌, ◌++◌, length, take, drop, map, set, get_or, replicate, Option, Some, None, zero, suc, unwrap_or, refl, sym, ap, ◌∙◌, subst, inl, inr}
 use Rattle.std.specs.Prelude.{◌&&◌, nat_lt, nat_le, is_some}
 use Rattle.std.proofs.lemmas.Bool.{false≢true}
@@ -98,7 +98,7 @@ same_short b (Show slot) = refl
 same_short b (Free slot) = refl
 same_short b Ask_usage = refl
 
--- what hits a shared cluster is neither too long nor too short
+-- a request that would write to a shared cluster is neither too long nor too short
 apart : (b : Machine) (r : Request) → hits_shared b r ≡ true → (is_too_long r ≡ false) × (is_too_short b r ≡ false)
 apart b (Write_over slot off bytes) h = (refl, refl)
 apart b (User slot bytes) h = absurd (false≢true h)
@@ -114,13 +114,13 @@ apart b (Show slot) h = absurd (false≢true h)
 apart b (Free slot) h = absurd (false≢true h)
 apart b Ask_usage h = absurd (false≢true h)
 
--- ---- what is done
+-- ---- the effects of requests
 extent_are : (extent : Extent) (header : Bool) (es : List Entry)
     → flat_bytes (extent_copied extent header es) ≡ extent_bytes extent (flat_bytes es)
 extent_are All header es = copied_all_bytes (room_low header) es
 extent_are (Part off len) header es = copied_bytes (copy_header header off) es off len
 
--- a string that is there, put where it stands
+-- an option with a string is equal to that string as an option
 some_is : (o : Option (List ℕ)) → is_some o ≡ true → Some (unwrap_or o []) ≡ o
 some_is None h = absurd (false≢true h)
 some_is (Some xs) h = refl

@@ -5,7 +5,7 @@ use Rattle.mbuf_pool.specs.declared.sizes.Sizes.{Sizes}
 use Rattle.script_loop.specs.declared.fault.RunFault.{RunFault}
 use Rattle.script_loop.specs.declared.fault.RunFault.TheVariants.{Read, Write, Memory, TooManyLines, BadSizes, BadConfig}
 
--- invalid sizes are refused before any other test
+-- invalid sizes are rejected before any other test
 abbrev pub BootsChains : Sizes → Result Unit RunFault → Type 0
 BootsChains z (Err BadSizes) = IsBad z
 BootsChains z (Err BadConfig) = ⊥

@@ -1,4 +1,4 @@
--- What only this crate reads.
+-- Definitions that only this crate uses.
 pub mod Calls
 pub mod Replies
 pub mod Slots

@@ -1,4 +1,4 @@
--- What a call did to a box's stack, it did to that of the handle.
+-- The effect of a call on a box's stack is its effect on the stack of the handle.
 use Rattle.std.proofs.Common.{◌≡◌, ℤ, Option, Some, refl, sym, subst}
 use mir.Syntax.{w32}
 use mir.Val.{SFits, of_z, to_z}
@@ -16,7 +16,7 @@ pub asked : {before after : Option StackView} (answer : ℤ) (idle : Type 0) (Sa
 asked answer idle Says s is will says =
     answered answer idle (AnswersQuestion Says) s s is will (record { same = refl; says = says })
 
--- the same, of an answer as the machine passes it
+-- the same for a result code as the machine passes it
 pub answered_by : {before after : Option StackView} (answer : ℤ) (idle : Type 0)
     (Call : ℤ → StackView → StackView → Type 0)
     (s n : StackView) → SFits w32 answer → before ≡ Some s → after ≡ Some n → Call answer s n

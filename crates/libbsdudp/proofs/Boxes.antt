@@ -23,7 +23,7 @@ use Rattle.libbsdudp.specs.contracts.owned.Owned as owned
 use Rattle.libbsdudp.proofs.owned.Owned.TheLaws as owned_laws
 use Rattle.libbsdudp.specs.Held.{Boxed, IsFull, Kept}
 
--- the box behind a handle
+-- the box that a handle points to
 abbrev pub stack_box : Bx
 stack_box =
     record {
@@ -38,12 +38,12 @@ stack_box =
       };
     }
 
--- pointer and allocator of a box, side by side
+-- the pointer and the allocator of a box, side by side
 module _ (E : Bx) where
   abbrev pub Side : RattleType
   Side = Tuple (RawPtr ∷ P E ∷ [])
 
-  -- a pair, and what a box at its pointer owns, are a box
+  -- a pair, and what a box at its pointer owns, make up a box
   module _ {M : Type 1} {𝓤 : Ura M} {𝓛 : Logic 𝓤} {K : Type 0} {Γ : List (Item 𝓤)} {G : Goal 𝓤 𝓛.H} where
     pub boxed_again : K → (p : Ptr × E.al.row.Denot) (u : Val) (a : E.al.row.Denot) (x : X E) → p.1 ≡ a
         → ((b o : ℕ) (h : Val) → u ≡ word E h b o → Fits E.al h

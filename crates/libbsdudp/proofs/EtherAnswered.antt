@@ -1,4 +1,4 @@
--- What a call did to the stack and the link of two boxes, it did to those of the handles.
+-- The effect of a call on the stack and the link of two boxes is its effect on those of the handles.
 use Rattle.std.proofs.Common.{◌≡◌, ℤ, Option, Some, refl, sym, subst}
 use mir.Syntax.{w32}
 use mir.Val.{SFits, of_z, to_z}
@@ -31,7 +31,7 @@ pub link_asked : {before after : Option LinkState} (answer : ℤ) (idle : Type 0
 link_asked answer idle Says l is will says =
     link_answered answer idle (IsLinkAsked Says) l l is will (record { same = refl; says = says })
 
--- the same of both halves, of an answer as the machine passes it
+-- the same for both halves, for a result code as the machine passes it
 pub host_answered_by : {s_before s_after : Option StackView} {l_before l_after : Option LinkState} (answer : ℤ)
     (idle : Type 0)
     (Call : ℤ → HostView → HostView → Type 0) (s s2 : StackView) (l l2 : LinkState) → SFits w32 answer

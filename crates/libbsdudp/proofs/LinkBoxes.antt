@@ -1,4 +1,4 @@
--- The box behind the handle of a link. Assumes `Logic`.
+-- The box that the handle of a link points to. Assumes `Logic`.
 use mathlib.Core.Bool.{true≢false}
 use Rattle.std.proofs.Common.{◌≡◌, [], refl, sym, Some, None}
 use mir.Syntax.{impl, tnil, dnil}

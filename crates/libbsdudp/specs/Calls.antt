@@ -17,8 +17,8 @@ use Rattle.libbsdudp.specs.Plain.{whom}
 abbrev pub stack_in : Handle → Option StackView
 stack_in h = if h.live == 1651729525 then option_map (λ b. b.stack) h.held.kept else None
 
--- If the handle has no stack, the result is -ENXIO, the handle stays without one, and `idle` says that everything else
--- is unchanged. If it has a stack, `call` says what happens to it.
+-- If the handle has no stack, the result is -ENXIO, the handle stays without one, and `idle` says that everything other
+-- than the handle is unchanged. If it has a stack, `call` says what happens to it.
 abbrev pub Answers : Option StackView → ℤ → Option StackView → Type 0 → (StackView → StackView → Type 0) → Type 0
 Answers None answer after idle call = (answer ≡ no_stack) × (after ≡ None) × idle
 Answers (Some s) answer after idle call = (n : StackView) × (after ≡ Some n) × call s n

@@ -39,7 +39,7 @@ abbrev pub both : StackView → LinkState → HostView
 both s l = record { stack = s; link = l }
 
 -- A call on both halves. Without a stack the result is -ENXIO, and without a link -EOPNOTSUPP; then both are unchanged,
--- and `idle` says that everything else is too. If there are both, `call` says what happens to them.
+-- and `idle` says that the rest is unchanged. If there are both, `call` says what happens to them.
 abbrev pub AnswersHost : Option StackView → Option LinkState → ℤ → Option StackView → Option LinkState → Type 0
     → (HostView → HostView → Type 0) → Type 0
 AnswersHost None l answer s_after l_after idle call = (answer ≡ no_stack) × (s_after ≡ None) × (l_after ≡ l) × idle
@@ -114,7 +114,7 @@ pub record ReportsTallies (answer : ℤ) (tallies : CTallies) (l : LinkState) : 
   pub is : answer ≡ pos 0
   pub reported : tallies ≡ c_tallies l.tallies
 
--- a neighbour is written, or the result is -EINVAL if there is none at this index
+-- a neighbour is written, or the result is -EINVAL if no neighbour has this index
 abbrev pub IsNeighbour : Option Neighbour → ℤ → CNeighbour → CNeighbour → Type 0
 IsNeighbour (Some n) answer old new = (answer ≡ pos 0) × (new ≡ c_neighbour n)
 IsNeighbour None answer old new = (answer ≡ invalid) × (new ≡ old)

@@ -73,7 +73,7 @@ pub record ReportsUsage (answer : ℤ) (usage : CMbstat) (s : StackView) : Type 
 pub record ReportsWaiting (answer : ℤ) (s : StackView) : Type 0 where
   pub is : answer ≡ count_code (length (state_of s).unfinished)
 
--- an unfinished datagram is described, or the result is -EINVAL if there is none at this index
+-- an unfinished datagram is described, or the result is -EINVAL if no datagram has this index
 abbrev pub ReturnsUnfinished : Option UnfinishedDatagram → ℤ → CUnfinished → CUnfinished → Type 0
 ReturnsUnfinished (Some datagram) answer old new = (answer ≡ pos 0) × (new ≡ c_unfinished datagram)
 ReturnsUnfinished None answer old new = (answer ≡ invalid) × (new ≡ old)
@@ -81,7 +81,7 @@ ReturnsUnfinished None answer old new = (answer ≡ invalid) × (new ≡ old)
 pub record ReportsUnfinished (i : ℕ) (answer : ℤ) (old new : CUnfinished) (s : StackView) : Type 0 where
   pub is : ReturnsUnfinished (nth_unfinished i (state_of s).unfinished) answer old new
 
--- a range of its bytes is described, or the result is -EINVAL if there is none at this index
+-- a range of its bytes is described, or the result is -EINVAL if no range has this index
 abbrev pub ReturnsRange : Option HeldRange → ℤ → CRange → CRange → Type 0
 ReturnsRange (Some range) answer old new = (answer ≡ pos 0) × (new ≡ c_range range)
 ReturnsRange None answer old new = (answer ≡ invalid) × (new ≡ old)

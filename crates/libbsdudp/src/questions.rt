@@ -28,7 +28,7 @@ pub extern "C" fn bsdudp_core_name(
 }
 
 /// Reads the sender and the length of the oldest queued datagram of a socket. Returns 0, or a negative error code if
-/// there is none.
+/// the socket has no datagram.
 ///
 ///     int bsdudp_core_next(struct bsdudp_core *, uint32_t fd, struct bsdudp_next *)
 #[tactic(auto, using(crate::proofs::Answered::asked))]

@@ -2,7 +2,7 @@
 //! segment, without and with a link, and runs a script of calls on sockets and one of calls on chains. Each is repeated
 //! if the allocation failed. The test runs the program once for each of its allocations, and lets that one fail: the
 //! call has to return `Memory`, with nothing read or written, and the second try has to succeed. The program allocates
-//! nothing itself, so at each line that it prints as many blocks must be allocated as at the first.
+//! nothing itself, so at each line that it prints, the number of allocated blocks must be that at the first line.
 #![tactic(auto)]
 
 mod streams;
@@ -70,7 +70,7 @@ fn boots_a_host(alloc: Global) -> End {
     }
 }
 
-/// A segment is made, a host joins it, with this link if there is one, and all ends.
+/// Makes a segment, which a host joins, with this link if there is one, and ends it.
 fn joins(alloc: Global, link: Option<Link>) -> End {
     let Ok(mut segment) = Segment::new(alloc, 4) else {
         return End::Refused;

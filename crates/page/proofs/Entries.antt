@@ -1,4 +1,4 @@
--- Records of a capture, one more each time.
+-- Records of a capture, with one more each time.
 use Rattle.std.proofs.Common.{◌≡◌, ℕ, ◌+◌, ◌++◌, List, [], ◌∷◌, Some, None, Ok, Err, refl, sym, ap, subst, ◌∙◌, append_assoc, append-nil, arith}
 use Rattle.std.proofs.lemmas.List.{length-append}
 use Rattle.capture.specs.Places.{Reading, Steps}
@@ -9,7 +9,7 @@ use Rattle.page.specs.Recorded.{CapturedRecord, ReadsRecords, ReadsAll, SoFar, r
 pub none : (old : Reading) (text : List ℕ) → SoFar old text old text 0
 none old text = ([], refl, sym (append-nil text), refl)
 
--- one record more
+-- one more record
 reads_more : (old : Reading) (es : List CapturedRecord) (mid new : Reading) (e : CapturedRecord)
     → ReadsRecords old es mid → Steps mid new (Ok (Some e.at)) → e.frame ≡ new.bytes
     → ReadsRecords old (es ++ e ∷ []) new
@@ -25,7 +25,7 @@ bytes_with_record (x ∷ xs) e =
     ap (λ (ys : List ℕ). record_bytes x.at x.frame ++ ys) (bytes_with_record xs e)
     ∙ sym (append_assoc (record_bytes x.at x.frame) (records_bytes xs) (record_bytes e.at e.frame))
 
--- of a record that was read its bytes were put after the text
+-- after one more record, its text follows the text before
 pub more_of : (old : Reading) (before : List ℕ) (mid new : Reading) (text after frame : List ℕ) (n : ℕ)
     (r : Record) → SoFar old before mid text n → Steps mid new (Ok (Some r)) → frame ≡ new.bytes
     → after ≡ text ++ record_bytes r frame → SoFar old before new after (n + 1)

@@ -59,12 +59,12 @@ no_cluster p cluster is = go (nat_lt cluster p.clusters) refl is
 pub below_more : (lines : ℕ → List ℕ) (n : ℕ) → below lines (n + 1) ≡ below lines n ++ lines n
 below_more lines n = ap (below lines) (add-one n)
 
--- what was put first, and what was put behind it
+-- the text that was appended first, and the text after it
 pub put_then : (before mid after first more : List ℕ) → mid ≡ before ++ first → after ≡ mid ++ more
     → after ≡ before ++ (first ++ more)
 put_then before mid after first more e f = f ∙ ap (λ (t : List ℕ). t ++ more) e ∙ append_assoc before first more
 
--- one more
+-- one more line
 pub more_below : (lines : ℕ → List ℕ) (n : ℕ) (before mid after : List ℕ) → mid ≡ before ++ below lines n
     → after ≡ mid ++ lines n → after ≡ before ++ below lines (n + 1)
 more_below lines n before mid after e f =
@@ -80,7 +80,7 @@ pub is_text : (s : StackView) (text : List ℕ) → IsStack s → text ≡ stack
 unfolding IsStateText
 is_text s text ok is = (s, ok, refl, is)
 
--- what holds of a text holds of it as an option, which is none if there is no text
+-- what holds for a text holds for it as an option
 pub text_kept : {A E : Type 0} (F : A → Type 0) (r : Result A E) → IfOk r F → IfSome (result_ok r) F
 text_kept F (Ok text) is = is
 text_kept F (Err fault) is = tt

@@ -69,7 +69,7 @@ header_struct p =
     else if nat_lt (length p) IP_UDP_HEADERS then ip_struct p
     else udp_struct p
 
--- The packet's headers were decoded; or memory was lacking, and nothing was written.
+-- The packet's headers were decoded; or memory ran out, and nothing was written.
 abbrev pub Headed : List ℕ → ℕ → PageHeader → PageHeader → Type 0
 Headed packet answer before after =
     ((answer ≡ 0) × (after ≡ header_struct packet)) ⊎ ((answer ≡ outcome_number (Err Memory)) × (after ≡ before))

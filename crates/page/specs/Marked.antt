@@ -14,7 +14,7 @@ line_number (Some number) = number
 abbrev pub marks_struct : Marks → PageMarks
 marks_struct m = record { right = m.right; wrong = m.wrong; missing = m.missing; first = line_number m.first }
 
--- The hand-in's answers were marked by the key; or memory was lacking, and nothing was written.
+-- The hand-in was marked by the key; or memory ran out, and nothing was written.
 abbrev pub Marked : List ℕ → List ℕ → ℕ → PageMarks → PageMarks → Type 0
 Marked key hand_in answer before after =
     ((answer ≡ 0) × (after ≡ marks_struct (marks_by key hand_in)))

@@ -1,4 +1,4 @@
--- What a page gets of a capture (this project's own).
+-- The text of a capture that a page gets (this project's own).
 use Rattle.std.specs.Prelude.{◌≡◌, ◌++◌, ℕ, List, [], ◌∷◌, length, codes, decimal, Option, Some, None, Result, Ok, Err}
 use Rattle.capture.specs.Places.{Reading, Steps, start}
 use Rattle.capture.specs.declared.fault.Fault.{Fault}
@@ -15,7 +15,7 @@ abbrev pub or_none : {E : Type 0} → Result (List ℕ) E → List ℕ
 or_none (Ok bytes) = bytes
 or_none (Err e) = []
 
--- the IPv4 packet of a frame; no bytes if there is none, or if the link type isn't known
+-- the IPv4 packet of a frame; no bytes if the frame has no such packet, or if the link type isn't known
 abbrev pub ipv4_of : Option LinkType → List ℕ → List ℕ
 ipv4_of None frame = []
 ipv4_of (Some link) frame = or_none (packet_in_frame link frame)
@@ -82,7 +82,7 @@ abbrev pub Recorded : List ℕ → ℕ → ℕ → List ℕ → List ℕ → Pag
 Recorded file answer len before after c =
     (text : List ℕ) × (answer ≡ 0) × IsCaptureText file text c × (len ≡ length text) × Handed text before after
 
--- memory was lacking, and nothing was written
+-- memory ran out, and nothing was written
 abbrev pub IsCaptureUnread : ℕ → ℕ → List ℕ → List ℕ → PageCapture → PageCapture → Type 0
 IsCaptureUnread answer len before after c new =
     (answer ≡ outcome_number (Err Memory)) × (len ≡ 0) × (after ≡ before) × (new ≡ c)

@@ -1,4 +1,4 @@
--- What a page gets of a script that was served (this project's own).
+-- What a page gets for a script that was served (this project's own).
 use Rattle.std.specs.Prelude.{◌≡◌, ◌≤◌, ◌<◌, ◌++◌, ℕ, Bool, true, false, List, [], length, drop, take, codes, Option, Some, None, IfSome, IfOk, Result, Ok, Err}
 use Rattle.flat_model.specs.declared.config.Config.{Config}
 use Rattle.mbuf_pool.specs.declared.sizes.Sizes.{Sizes}
@@ -36,7 +36,7 @@ machine_config m = record {
 abbrev pub sizes_of : PagePool → Sizes
 sizes_of p = record { mbufs = p.mbufs; clusters = p.clusters }
 
--- ---- what it gets
+-- ---- what the page gets
 
 -- the outcome as a number
 abbrev pub outcome_number : Result Unit RunFault → ℕ
@@ -70,8 +70,8 @@ pub record PageRun {S : Type 0} (gives : S → List ℕ → List ℕ → S → T
 
 -- ---- a drawing
 
--- The number of an outcome with a drawing. If memory for the drawing is lacking, it's the number for lacking memory for
--- the run.
+-- The number of an outcome with a drawing. If memory for the drawing runs out, it's the number for a run without enough
+-- memory.
 abbrev pub drawn_number : Result (Option (List ℕ)) RunFault → ℕ
 drawn_number (Ok (Some text)) = outcome_number (Ok tt)
 drawn_number (Ok None) = outcome_number (Err Memory)
@@ -126,6 +126,6 @@ pub record Kept (config : Config) (script : List ℕ) (answer len : ℕ) (before
   pub counted : len ≡ length file
   pub handed : Handed file before after
 
--- memory for a capture was lacking, and nothing was played
+-- memory for a capture ran out, and nothing was played
 abbrev pub IsUnkept : ℕ → ℕ → List ℕ → List ℕ → Type 0
 IsUnkept answer len before after = (answer ≡ outcome_number (Err Memory)) × (len ≡ 0) × (after ≡ before)

@@ -1,8 +1,8 @@
-//! What a web page calls: scripts of `bsdudp` and of `bsdplay` as functions of a whole script, over bytes in memory.
+//! The calls of a web page: scripts of `bsdudp` and of `bsdplay` as functions of a whole script, over bytes in memory.
 //! The page passes a whole script each time, so no state is kept between two calls. No other crate depends on this one.
 //!
-//! The contracts say that the outcome and the replies are those of the script on a new machine, and where the replies
-//! are.
+//! The contracts say that the outcome and the replies are those of the script on a new machine, and at which offset the
+//! replies are.
 #![tactic(auto)]
 
 ghost use Rattle.flat_model.specs.Machine.State.{boot};

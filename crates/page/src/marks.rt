@@ -33,7 +33,7 @@ fn to_struct(marks: Marks) -> PageMarks
     }
 }
 
-/// Compares a hand-in with a key, as `bsdplay --grade --key` does, without playing either: `uint32_t
+/// Compares a hand-in with a key, like `bsdplay --grade --key`, without playing either: `uint32_t
 /// bsdudp_page_marks(const uint8_t *key, size_t, const uint8_t *hand_in, size_t, struct page_marks *)`. It counts each
 /// line of the key with a reply, and each of its questions with an answer (`play_grade::Marker::marks_by`).
 ///

@@ -1,4 +1,4 @@
-//! Play scripts, as `bsdplay --json` plays them.
+//! Plays play scripts like `bsdplay --json`.
 ghost use Rattle.std.specs.Prelude.{◌≡◌, ◌⊎◌, codes, take};
 ghost use Rattle.flat_model.specs.Machine.State.{boot};
 ghost use Rattle.flat_model.specs.Machine.Step.{Step};
@@ -38,7 +38,7 @@ fn style<'a>() -> Style<'a>
 /// bsdudp_page_play(const struct page_machine *, const uint8_t *script, size_t, uint8_t *room, size_t, size_t *len)`.
 /// No file can be opened, so the reply to `rx pcap` is an error.
 ///
-/// Returns the outcome's number and the objects, as `bsdudp_page_run` does with its replies. The faults: 1 `BadSizes`,
+/// Returns the outcome's number and the objects, like the replies of `bsdudp_page_run`. The faults: 1 `BadSizes`,
 /// 2 `BadConfig`, 3 `Memory`, 4 `TooManyLines`, 6 `Write`, each as `play_script::play` defines it.
 #[unsafe(no_mangle)]
 pub extern "C" fn bsdudp_page_play(
@@ -86,13 +86,13 @@ pub extern "C" fn bsdudp_page_hosts(
     number_of(done.played.outcome)
 }
 
-/// Plays a play script as `bsdudp_page_play` does, discards the objects, and returns the capture of the packets that
-/// arrived by `rx` and left by `tx`, as `bsdplay --pcap` writes it: `uint32_t bsdudp_page_capture(const struct
+/// Plays a play script like `bsdudp_page_play`, discards the objects, and returns the capture of the packets that
+/// arrived by `rx` and left by `tx`, in the format of `bsdplay --pcap`: `uint32_t bsdudp_page_capture(const struct
 /// page_machine *, const uint8_t *script, size_t, uint8_t *room, size_t, size_t *len)`. A record's microseconds are the
 /// number of the line by which its packet arrived or left, and 500,000 more after an odd number of ticks.
 ///
 /// The faults: those of `bsdudp_page_play`. `Write` also occurs if the host refuses memory for the capture, which is
-/// truncated then. If nothing was played because memory was lacking, `len` is 0 and the buffer is unchanged.
+/// truncated then. If nothing was played because memory ran out, `len` is 0 and the buffer is unchanged.
 #[unsafe(no_mangle)]
 pub extern "C" fn bsdudp_page_capture(
     alloc: Global,

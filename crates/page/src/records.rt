@@ -10,14 +10,14 @@ use script_loop::Buffer;
 use std::alloc::{AllocError, Global};
 use std::io::Write;
 
-/// What was read of a capture: `struct page_capture`, of 16 bytes.
+/// What was read from a capture: `struct page_capture`, of 16 bytes.
 #[repr(C)]
 #[derive(Clone, Copy)]
 pub struct PageCapture {
     /// How many records were read.
     pub records: u64,
     /// How many of the bytes that are returned are those of the records. The bytes after them describe the fault of the
-    /// file, and its place; there are none if it was read to its end.
+    /// file, with its offset; a file that was read to its end has no such bytes.
     pub lines_len: u64,
 }
 
@@ -76,7 +76,7 @@ fn packet_in(link: Option<LinkType>, frame: &[u8]) -> &[u8]
     }
 }
 
-/// Appends a record to the text: its line, and its packet. If an allocation fails, a part of it is there.
+/// Appends a record to the text: its line, and its packet. If an allocation fails, a part of it was appended.
 fn put_record(
     read: Record,
     frame: &[u8],
@@ -91,8 +91,8 @@ fn put_record(
     text.extend_from_slice(packet)
 }
 
-/// Appends all records to the text: how many there are, and the fault of the file. Returns `AllocError` if an
-/// allocation fails, or for 4,294,967,295 records, which no memory holds; a part of them is there then.
+/// Appends all records to the text, and returns how many there are, and the fault of the file. Returns `AllocError` if
+/// an allocation fails, or for 4,294,967,295 records, which no memory holds; a part of them was appended then.
 #[tactic(auto, using(crate::proofs::Entries::more_of, crate::proofs::Entries::ended, crate::proofs::Entries::failed))]
 fn put_records(
     records: &mut Records<&[u8]>,
@@ -111,7 +111,7 @@ fn put_records(
     Err(AllocError)
 }
 
-/// The fault of a file, and its place, in words. No words if there is no fault.
+/// Returns the fault of a file in words, with its offset. No words if there is no fault.
 fn words_for(alloc: Global, fault: Option<Fault>) -> Result<Vec<u8>, AllocError>
     ensures { IfOk result (λ words. HasNoWords fault words.items) }
 {
@@ -160,7 +160,7 @@ fn read_file(alloc: Global, file: &[u8]) -> Result<Text, AllocError>
 /// record is a line, `NUMBER TIME ORIGINAL CAPTURED LEN`, and then the LEN bytes of its IPv4 packet. NUMBER counts from
 /// 1, as Wireshark does; TIME is in nanoseconds since 1970, or `-` if the file doesn't have it; ORIGINAL is how many
 /// bytes the frame had, and CAPTURED how many of them the file has. LEN is 0 if there is no IPv4 packet in them. The
-/// fault of the file, if it has one, follows the records, with its place.
+/// fault of the file, if it has one, follows the records, with its offset.
 ///
 /// Returns 0, also for a file with a fault, and the bytes as `bsdudp_page_run` returns its replies. Or returns 3,
 /// `Memory`: then `len` is 0, and the buffer and `capture` are unchanged.

@@ -60,7 +60,7 @@ fn serve_stack<R: Source, W: Sink>(
     }
 }
 
-/// Serves a script on a new stack, as `link_script::run` does. Returns the text of the stack's final state.
+/// Serves a script on a new stack, like `link_script::run`. Returns the text of the stack's final state.
 #[tactic(auto, unfolding(stack_call::specs::Moves::StackSteps))]
 fn picture<R: Source, W: Sink>(
     alloc: Global,

@@ -1,4 +1,4 @@
--- What the author of a line without a request probably meant (this project's own).
+-- The advice for a line without a request: what its author probably meant (this project's own).
 use Rattle.std.specs.Prelude.{◌≡◌, ◌⊎◌, ℕ, Bool, true, false, List, [], ◌∷◌, codes, bytes_eq, if◌then◌else◌, Option, Some, None}
 use Rattle.std.specs.List.{find}
 use Rattle.flat_model.specs.Scripts.Grammar.{words}
@@ -20,7 +20,7 @@ pub data Advice : Type 0 where
   More : (word : List ℕ) (asked : Command) → Advice  -- the first word that is too much
   Otherwise : (asked : Command) → Advice  -- it has another form
 
--- ---- which of them it is
+-- ---- which advice applies
 
 abbrev pub commands_of : Player → List Command
 commands_of Machine = host_commands
@@ -31,7 +31,7 @@ abbrev pub of_host : Option Command → Advice → Advice
 of_host (Some asked) other = OfHost asked
 of_host None other = other
 
--- a word that no line of the player begins with
+-- the first word isn't a command of the player
 abbrev pub unknown : Player → List ℕ → Advice
 unknown Machine word = Unknown word (nearest word host_commands)
 unknown Host word = Unknown word (nearest word hosted_commands)

@@ -1,9 +1,9 @@
--- What only this crate reads.
+-- Definitions that only this crate uses.
 use Rattle.play_forms.specs.Advice as advice
 use Rattle.play_forms.specs.declared.advice.Advice.{Advice}
 use Rattle.play_forms.specs.declared.advice.Advice.TheVariants.{Empty, Unknown, OfHost, Wrong, Missing, More, Otherwise}
 
--- the advice that a value is
+-- the advice that a value means
 abbrev pub advice_of : Advice → advice.Advice
 advice_of Empty = advice.Empty
 advice_of (Unknown word near) = advice.Unknown word.now near

@@ -1,23 +1,23 @@
--- Which command a wrong word is near to (this project's own).
+-- Which command a misspelled word is near to (this project's own).
 use Rattle.std.specs.Prelude.{ℕ, ◌==◌, ◌&&◌, ◌||◌, Bool, List, [], ◌∷◌, length, take, drop, get_or, bytes_eq, if◌then◌else◌, nat_le, Option}
 use Rattle.std.specs.List.{find}
 use Rattle.play_forms.specs.Table.{name_of}
 use Rattle.play_forms.specs.declared.command.Command.{Command}
 
--- the first two bytes have changed places
+-- the first two bytes are swapped
 abbrev pub is_swapped : List ℕ → List ℕ → Bool
 is_swapped word name =
     (nat_le 2 (length word) && nat_le 2 (length name))
     && (get_or word 0 0 == get_or name 1 0
     && (get_or word 1 0 == get_or name 0 0 && bytes_eq (drop 2 word) (drop 2 name)))
 
--- From their first bytes on: one byte is another, one is missing or one is too much, or two have changed places.
+-- They differ by one edit at their first bytes: one byte is replaced, missing or added, or two are swapped.
 abbrev pub differs_once : List ℕ → List ℕ → Bool
 differs_once word name =
     bytes_eq (drop 1 word) (drop 1 name)
     || (bytes_eq word (drop 1 name) || (bytes_eq (drop 1 word) name || is_swapped word name))
 
--- they differ so from some byte on, or are the same
+-- they differ by one edit at any byte, or are equal
 abbrev pub is_syntax_error : List ℕ → List ℕ → Bool
 is_syntax_error [] name = differs_once [] name
 is_syntax_error (a ∷ word) [] = differs_once (a ∷ word) []
@@ -31,7 +31,7 @@ is_front front word = nat_le 3 (length front) && bytes_eq front (take (length fr
 abbrev pub is_near : List ℕ → List ℕ → Bool
 is_near word name = is_syntax_error word name || (is_front word name || is_front name word)
 
--- the word is the command's
+-- the word is the command's name
 abbrev pub has_name : List ℕ → Command → Bool
 has_name word asked = bytes_eq word (name_of asked)
 

@@ -7,7 +7,7 @@ use Rattle.play_forms.specs.declared.argument.Argument.TheVariants as argument
 use Rattle.play_forms.specs.declared.command.Command.{Command}
 use Rattle.play_forms.specs.declared.command.Command.TheVariants as command
 
--- the word that a line begins with, and the words after it, one by one; `None` if they aren't looked at one by one
+-- the word that a line begins with, and the arguments after it; `None` if the arguments aren't checked one by one
 pub record Line : Type 0 where
   pub name : List ℕ
   pub arguments : Option (List Argument)
@@ -60,7 +60,7 @@ name_of asked = (line_of asked).name
 abbrev pub arguments_of : Command → Option (List Argument)
 arguments_of asked = (line_of asked).arguments
 
--- what a machine is asked
+-- requests to a machine
 abbrev pub host_commands : List Command
 host_commands =
     command.Socket
@@ -101,7 +101,7 @@ hosted_commands =
     ∷ command.LastError
     ∷ []
 
--- what is asked of all hosts and their wire
+-- requests to all hosts and their wire
 abbrev pub wire_commands : List Command
 wire_commands =
     command.Host
@@ -136,7 +136,7 @@ is_host_topic word = is_topic word || (bytes_eq word (codes "neighbours") || byt
 abbrev pub IsCount : List ℕ → Type 0
 IsCount word = (bytes_eq word (codes "0") ≡ false) × ((n : ℕ) × IsNumber 65535 word n)
 
--- The word is such an argument. Bytes aren't judged here: the line's reader refuses those that can't be read.
+-- The word is a valid argument. Bytes aren't checked here: the parser of lines rejects those that it can't parse.
 abbrev pub Takes : Argument → List ℕ → Type 0
 Takes argument.Fd word = (n : ℕ) × IsNumber 4294967295 word n
 Takes argument.Addr word = (ip : ℕ) × IsAddress word ip

@@ -30,21 +30,21 @@ pub enum Player {
 pub enum Advice<'l> {
     /// It has no word.
     Empty,
-    /// Its first word is no command. The one that it's near to.
+    /// Its first word isn't a command. The command that it's near to.
     Unknown(&'l [u8], Option<Command>),
-    /// It's a command for a host, and the line names none.
+    /// It's a command for a host, but the line names no host.
     OfHost(Command),
-    /// A word isn't what belongs in its place.
+    /// A word isn't a valid argument at its position.
     Wrong(&'l [u8], Argument, Command),
     /// A word is missing.
     Missing(Argument, Command),
-    /// The first word that is too much.
+    /// The first word that is superfluous.
     More(&'l [u8], Command),
     /// It has another form.
     Otherwise(Command),
 }
 
-/// Returns the first of these arguments that a word isn't or that is missing, or the first word that is too much.
+/// Returns the first of these arguments that is missing or that a word isn't, or the first word that is superfluous.
 fn advice_by<'l>(asked: Command, wanted: &[Argument], rest: Option<&'l [u8]>) -> Advice<'l>
     ensures { AdvisesAfter asked wanted.now (left rest.entry) (advice_of result) }
 {
@@ -139,7 +139,7 @@ pub fn command_of(player: Player, word: &[u8]) -> Option<Command>
     }
 }
 
-/// Returns what is wrong with a plain line that is no request to the player: the word that is wrong, and the command
+/// Returns what is wrong with a plain line that isn't a request to the player: the word that is wrong, and the command
 /// that was meant. A plain line has one space between each two words.
 pub fn advice_on<'l>(player: Player, plain: &'l [u8]) -> Advice<'l>
     ensures { Advises player plain.now (advice_of result) }

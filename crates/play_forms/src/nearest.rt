@@ -1,4 +1,4 @@
-//! Which command a wrong word is near to.
+//! Which command a misspelled word is near to.
 ghost use Rattle.std.specs.Prelude.{◌≡◌, drop};
 ghost use Rattle.std.specs.List.{find};
 ghost use Rattle.play_forms.specs.Near as near;
@@ -15,7 +15,7 @@ fn tail(word: &[u8]) -> &[u8]
     }
 }
 
-/// Returns whether the first two bytes of two words have changed places.
+/// Returns whether the first two bytes of two words are swapped.
 fn is_swapped(word: &[u8], name: &[u8]) -> bool
     ensures { result ≡ near.is_swapped word.now name.now }
 {
@@ -23,7 +23,7 @@ fn is_swapped(word: &[u8], name: &[u8]) -> bool
         && (word[0] == name[1] && (word[1] == name[0] && word[2..] == name[2..]))
 }
 
-/// Returns whether two words differ in one way from their first bytes on.
+/// Returns whether two words differ by one edit at their first bytes.
 fn differs_once(word: &[u8], name: &[u8]) -> bool
     ensures { result ≡ near.differs_once word.now name.now }
 {
@@ -31,7 +31,7 @@ fn differs_once(word: &[u8], name: &[u8]) -> bool
         || (word == tail(name) || (tail(word) == name || is_swapped(word, name)))
 }
 
-/// Returns whether two words differ in one way from some byte on, or are the same.
+/// Returns whether two words differ by one edit at any byte, or are equal.
 fn is_syntax_error(word: &[u8], name: &[u8]) -> bool
     ensures { result ≡ near.is_syntax_error word.now name.now }
 {

@@ -3,7 +3,7 @@ use crate::advice::Advice;
 use crate::command::Command;
 use script_loop::Buffer;
 
-/// The most bytes that are said of a line.
+/// The most bytes of the advice on a line.
 pub const ADVICE: usize = 160;
 
 /// The most bytes that are printed of a word.

@@ -1,4 +1,4 @@
--- What only this crate reads.
+-- Definitions that only this crate uses.
 use Rattle.play_grade.specs.Asked.{lines_left}
 use Rattle.play_grade.specs.Grades as grades
 use Rattle.play_grade.specs.declared.asked.Asked.{Asked}

@@ -14,7 +14,7 @@ fn is_private(line: &[u8]) -> bool
     line.len() >= 2 && line[0] == b'#' && line[1] == b'#'
 }
 
-/// Appends three pieces, or the beginning of them if memory is lacking.
+/// Appends three pieces, or the beginning of them if memory runs out.
 fn put(text: &mut Vec<u8>, front: &[u8], middle: &[u8], end: &[u8]) -> Result<(), AllocError>
     ensures items { IfOk result (λ u. text.new.items ≡ text.old.items ++ front.now ++ middle.now ++ end.now) }
     ensures keeps { OnErr result (blanks.Starts text.old.items text.new.items) }
@@ -27,7 +27,7 @@ fn put(text: &mut Vec<u8>, front: &[u8], middle: &[u8], end: &[u8]) -> Result<()
 
 impl Marker {
     /// Appends a line of a key as it appears in an exercise. `?` replaces the expectation or the answer, and a comment
-    /// that begins with `##` is left out. If memory is lacking, only the beginning was appended.
+    /// that begins with `##` is left out. If memory runs out, only the beginning was appended.
     pub fn put_blank(&mut self, line: &[u8], text: &mut Vec<u8>) -> Result<(), AllocError>
         ensures items { IfOk result (λ u. text.new.items ≡ text.old.items ++ blanks.blank_line line.now) }
         ensures keeps { OnErr result (blanks.Starts text.old.items text.new.items) }

@@ -1,10 +1,10 @@
--- What callers may cite: the digits that the crate hex writes are those of `Bytes`.
+-- A law that callers may cite: the digits that the crate hex writes are those of `Bytes`.
 use Rattle.std.proofs.Common.{◌≡◌, ℕ, zero, suc, ◌/◌, ◌%◌, ◌<◌, ◌==◌, Bool, true, ◌&&◌, inl, inr, [], ◌∷◌, slice_index, refl, arith}
 use Rattle.std.proofs.lemmas.Bool.{and_parts, cases_lt, eqb-true}
 use Rattle.hex.specs.Hex.{encode_lower, encode_with, lower_digits}
 use Rattle.play_line.specs.Bytes.{digit, digits}
 
--- the first n places of the table have the digits of their numbers, as a test that computes
+-- the first n entries of the table are the digits of their indices, as a test that computes
 abbrev all_same : ℕ → Bool
 all_same zero = true
 all_same (suc n) = (slice_index lower_digits n == digit n) && all_same n

@@ -25,7 +25,7 @@ fresh_front line = record { plain = []; begin = 0; awaits = 0; ended = false; le
 
 -- ---- which words must be bytes
 
--- how many words after this first word of a line its bytes are
+-- the number of words between this first word of a line and its bytes
 abbrev pub places : List ℕ → ℕ
 places word =
     if bytes_eq word (codes "rx") then 1 else
@@ -45,7 +45,7 @@ next_awaits plain awaits word =
     else if bytes_eq plain (codes "rx") && begins_packet word then 4
     else awaits - 1
 
--- `-` is no bytes, `pcap` a capture
+-- `-` for no bytes, or `pcap` for a capture
 abbrev pub needs_no_digits : List ℕ → List ℕ → Bool
 needs_no_digits plain word = bytes_eq word (codes "-")
     || (bytes_eq plain (codes "rx") && (begins_packet word || bytes_eq word (codes "pcap")))

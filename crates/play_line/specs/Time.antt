@@ -19,7 +19,7 @@ half_of word =
     if bytes_eq word (codes "s") || bytes_eq word (codes ".0s") then Some 0
     else if bytes_eq word (codes ".5s") then Some 1 else None
 
--- at most as many as a line `tick` can have
+-- at most the number of ticks that a line `tick` can have
 abbrev pub ticks_by : ℕ → Option ℕ → Option ℕ
 ticks_by seconds (Some half) = if nat_lt MOST_TICKS (2 * seconds + half) then None else Some (2 * seconds + half)
 ticks_by seconds None = None

@@ -21,9 +21,9 @@ pub struct Reader {
     pub(crate) plain: Buffer<LONGEST>,
     /// The part that was read last.
     pub(crate) part: Part,
-    /// Where in the plain line the last word begins.
+    /// The position in the plain line at which the last word begins.
     pub(crate) begin: usize,
-    /// How many words further on the bytes of the line are, or 0.
+    /// The number of words before the bytes of the line, or 0.
     pub(crate) awaits: usize,
     /// Whether the line is finished.
     pub(crate) ended: bool,
@@ -41,7 +41,7 @@ fn put_copies(done: &mut Buffer<LONGEST>, piece: &[u8], count: u32)
     }
 }
 
-/// Returns how many words after this first word of a line its bytes are.
+/// Returns the number of words between this first word of a line and its bytes.
 fn places(word: &[u8]) -> usize
     ensures { result ≡ line_specs.places word.now }
 {
@@ -75,7 +75,7 @@ fn word_len(at: &[u8]) -> usize
     }
 }
 
-/// Returns where the next word begins in a plain line of this length.
+/// Returns the position of the next word in a plain line of this length.
 fn begin_after(apart: bool, len: usize) -> usize
     requires { len ≤ LONGEST }
     ensures { result ≡ line_specs.begin_after apart len }
@@ -93,7 +93,7 @@ pub(crate) fn is_end(left: &[u8]) -> bool
     }
 }
 
-/// Returns the column of the first byte that is left.
+/// Returns the column of the first byte that wasn't read.
 pub(crate) fn column_at(line: &[u8], left: usize) -> u64
     ensures { result ≡ line_specs.column_at line.now left }
 {
@@ -119,7 +119,7 @@ impl Reader {
         })
     }
 
-    /// Returns how many words further on the bytes of the line are, after one more word.
+    /// Returns the number of words before the bytes of the line, after one more word.
     fn next_awaits(&self, word: &[u8]) -> usize
         ensures { result ≡ line_specs.next_awaits self.now.plain self.now.awaits word.now }
     {

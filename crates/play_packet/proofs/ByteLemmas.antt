@@ -10,7 +10,7 @@ use Rattle.play_packet.specs.Numbers.{word_bytes, some_bytes, front_of_room}
 bytes_eq-true : (a b : List ℕ) → a ≡ b → bytes_eq a b ≡ true
 bytes_eq-true a b e = (bytes_eq-Decides a b).1 e
 
--- a dash is no pair of digits
+-- a dash isn't a pair of digits
 not_dash : (word bytes : List ℕ) → decode_of word ≡ Ok bytes → bytes_eq word (codes "-") ≡ false
 not_dash word bytes e = elim (bytes_eq word (codes "-")) as (λ b. bytes_eq word (codes "-") ≡ b → b ≡ false) [
   | true ↦ λ is.
@@ -44,7 +44,7 @@ no_bytes word none = elim (bytes_eq word (codes "-")) as (λ b. bytes_eq word (c
       | false ↦ λ is. undecoded word (decode_of word) refl none
     ] refl
 
--- so many bytes of a room are those that a word writes
+-- the first n bytes of a buffer are those that a word writes
 pub bytes-are : (word room : List ℕ) (r : Option ℕ)
     → MatchOption r ((bytes : List ℕ) → IsHex word bytes → ⊥) (λ n. IsHex word (take n room))
     → front_of_room room r ≡ word_bytes word

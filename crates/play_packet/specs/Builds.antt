@@ -37,7 +37,7 @@ written_sum (Given sum) right = sum
 abbrev pub udp_len_of : Form → ℕ → ℕ
 udp_len_of f n = unwrap_or f.udp_len (UDP_HEADER + n)
 
--- The datagram that carries these bytes. The checksum covers as many of them as the header's length says.
+-- The datagram that carries these bytes. The checksum covers the number of bytes that the header's length says.
 unfoldable pub datagram_of_form : Form → List ℕ → List ℕ
 datagram_of_form f s =
     let n : ℕ = udp_len_of f (length s) in

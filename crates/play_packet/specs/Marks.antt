@@ -1,4 +1,4 @@
--- The words that may follow the bytes of a packet by name (this project's own). The fields are those of RFC 791,
+-- The words that may follow the bytes of a described packet (this project's own). The fields are those of RFC 791,
 -- section 3.1, and of RFC 768.
 use Rattle.std.specs.Prelude.{ℕ, Bool, List, [], ◌∷◌, codes, bytes_eq, Option, Some, None}
 use Rattle.std.specs.List.{find}

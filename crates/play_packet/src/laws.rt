@@ -1,4 +1,4 @@
-//! Laws of packets by name. Each is a function that does nothing; its contract is the law.
+//! Laws of the packets that lines describe. Each is a function that does nothing; its contract is the law.
 ghost use Rattle.std.specs.Prelude.{◌≡◌, ℕ, ◌<◌, ◌≤◌, ◌%◌, List, None};
 ghost use Rattle.flat_model.specs.Packets.Header.{packet, udp};
 ghost use Rattle.play_packet.specs.Builds.{IsOwn, datagram_of_form, head_of_form, packet_of, wrong};

@@ -1,4 +1,4 @@
-//! Packets by name: lines that describe a packet, and the UDP datagram in it, in words. A reader writes its bytes into
+//! Lines that describe a packet, and the UDP datagram in it, in words. A reader writes its bytes into
 //! a buffer, or returns the error in the words and its column.
 #![tactic(auto)]
 

@@ -1,4 +1,4 @@
-//! The words that may follow the bytes of a packet by name.
+//! The words that may follow the bytes of a described packet.
 ghost use Rattle.std.specs.Prelude.{◌≡◌, ◌≤◌};
 ghost use Rattle.std.specs.List.{find};
 ghost use Rattle.play_packet.specs.Marks as marks;

@@ -34,7 +34,7 @@ pub(crate) fn word_at(text: &[u8], at: usize) -> Option<&[u8]>
     }
 }
 
-/// Returns where the last word of a text begins.
+/// Returns the position of the last word of a text.
 fn last_place(text: &[u8]) -> usize
     ensures { result ≡ forms.last_place text.now }
 {

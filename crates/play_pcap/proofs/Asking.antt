@@ -1,4 +1,4 @@
--- What the words of a line ask for.
+-- What the words of a line request.
 use Rattle.std.proofs.Common.{◌≡◌, ℕ, ◌+◌, ◌-◌, ◌==◌, List, [], ◌∷◌, length, take, drop, length-drop, position, codes, MatchOption, Option, Some, None, inl, inr, sym, ap, ◌∙◌, subst, arith}
 use Rattle.std.proofs.lemmas.List.{take_all}
 use Rattle.std.proofs.lemmas.Option.{none-some}
@@ -9,7 +9,7 @@ use Rattle.play_pcap.specs.Asks.{IsDetails, IsPair, IsRange, IsRanged}
 use Rattle.play_pcap.specs.declared.ask.Details.{Details}
 use Rattle.play_pcap.specs.declared.ask.Range.{Range}
 
--- what stands behind a place, as a slice to the end has it
+-- the bytes after a position, as a slice to the end
 pub tail_all : (n : ℕ) (xs : List ℕ) → take (length xs - n) (drop n xs) ≡ drop n xs
 tail_all n xs = take_all (length xs - n) (drop n xs) (omega (arith, length-drop n xs))
 

@@ -1,4 +1,4 @@
--- What was written, read and played in again.
+-- A capture that was written, read and played again.
 use Rattle.std.proofs.Common.{◌≡◌, ℕ, zero, suc, ◌≤◌, ◌||◌, Bool, true, false, cond, List, [], ◌∷◌, ◌++◌, length, take, drop, map, ltb, Ok, Some, refl, ap, arith, lit<}
 use Rattle.std.specs.List.{AllByRecursion}
 use Rattle.std.specs.Int.{w16}

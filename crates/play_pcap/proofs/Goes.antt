@@ -9,14 +9,14 @@ pub goes_append : {S : Type 0} (go : S → Act → S → Type 0) (xs ys : List A
 goes_append go [] ys a b c h k = subst (λ s. Goes go ys s c) h k
 goes_append go (x ∷ xs) ys a b c h k = (h.0, h.1, goes_append go xs ys h.0 b c h.2 k)
 
--- a tick in front of others
+-- one tick before others
 pub goes_tick : {S : Type 0} (go : S → Act → S → Type 0) (n m : ℕ) (a b c : S) → 0 < n → m ≡ n - 1
     → go a Passes b → Goes go (replicate m Passes) b c → Goes go (replicate n Passes) a c
 goes_tick go zero m a b c some is h k = absurd (omega arith)
 goes_tick go (suc n) m a b c some is h k =
     let same : m ≡ n = omega arith in (b, h, subst (λ (i : ℕ). Goes go (replicate i Passes) b c) same k)
 
--- the acts of one move, and those behind it
+-- the acts of one move, and those after it
 pub goes_move : {S : Type 0} (go : S → Act → S → Type 0) (n : ℕ) (place : RecordPlace) (packet : List ℕ)
     (es all : List Act) (a b c d : S)
     → all ≡ replicate n Passes ++ Arrives place packet ∷ es → Goes go (replicate n Passes) a b

@@ -9,7 +9,7 @@ use Rattle.play_pcap.specs.Events.{due, record_acts, packet_in_record, record_pl
 use Rattle.play_pcap.specs.declared.moves.Course.{Course}
 use Rattle.play_pcap.specs.declared.wire.RecordPlace.{RecordPlace}
 
--- the records behind the first one
+-- the records after the first one
 pub behind : {A : Type 0} (r : A) (rs : List A) → take (length (r ∷ rs) - 1) (drop 1 (r ∷ rs)) ≡ rs
 behind r rs =
     let one : length (r ∷ rs) - 1 ≡ length rs = omega arith in rw one (take_all (length rs) rs (omega arith))

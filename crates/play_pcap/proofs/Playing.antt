@@ -31,7 +31,7 @@ selected_seen (Some r) rs =
     sym (ap (take (r.last - (r.first - 1))) (drop-map captured (r.first - 1) rs)
     ∙ take-map captured (r.last - (r.first - 1)) (drop (r.first - 1) rs))
 
--- the acts of records, by the parts of their course
+-- the acts of records, by the fields of their course
 abbrev pub acts_of : Details → Header → ℕ → ℕ → ℕ → List Record → List Act
 acts_of d h origin begin number part =
     record_acts (record { header = h; origin = origin; ticks = d.ticks; begin = begin }) number 0 (map captured part)

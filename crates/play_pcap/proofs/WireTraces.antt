@@ -1,4 +1,4 @@
--- A capture whose header may still be due.
+-- A capture whose header may not be written yet.
 use Rattle.std.proofs.Common.{◌≡◌, ℕ, Bool, false, List, [], ◌++◌, sym, ap, ◌∙◌, subst, if◌then◌else◌}
 use Rattle.capture.specs.File.{file_header_bytes, header_for}
 use Rattle.capture.specs.declared.pcap.link_type.LinkType.{LinkType}
@@ -8,7 +8,7 @@ use Rattle.play_pcap.proofs.Kept.{both_kept}
 abbrev wire_traced : Traced → LinkType → Bool → WireTraced
 wire_traced traced link headed = record { traced = traced; link = link; headed = headed }
 
--- the header was written, since none was
+-- the header is written, because it wasn't yet
 pub head_kept : (inside new : Traced) (link : LinkType) (headed : Bool) (old : WireTraced)
     → wire_traced inside link headed ≡ old → headed ≡ false
     → Keeps inside new (file_header_bytes (header_for link)) → Keeps old.traced new (header_due old)

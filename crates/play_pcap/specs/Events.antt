@@ -1,4 +1,4 @@
--- What a capture does that is played in (this project's own).
+-- The effects of playing a capture (this project's own).
 use Rattle.std.specs.Prelude.{◌≡◌, ℕ, ◌+◌, ◌-◌, ◌/◌, ◌<◌, ◌≤◌, suc, Bool, List, [], ◌∷◌, ◌++◌, length, take, drop, map, min, max, replicate, nat_lt, if◌then◌else◌, Option, Some, None, Result, Ok, Err}
 use Rattle.std.specs.Borrow.{Bor}
 use Rattle.flat_model.specs.Machine.Count.{more_by}
@@ -22,7 +22,7 @@ use Rattle.play_pcap.specs.declared.wire.RecordPlace.{RecordPlace}
 
 -- ---- a record
 
--- an IPv4 packet that a machine takes
+-- an IPv4 packet that a machine accepts
 abbrev pub taken : Result (List ℕ) NoPacket → Option (List ℕ)
 taken (Ok packet) = if nat_lt 65_535 (length packet) then None else Some packet
 taken (Err none) = None
@@ -54,7 +54,7 @@ abbrev pub put_before : Option (List ℕ) → RecordPlace → ℕ → List Act �
 put_before (Some packet) place n after skipped = replicate n Passes ++ Arrives place packet ∷ after
 put_before None place n after skipped = skipped
 
--- the acts of these records, where the first has this number, after some ticks
+-- the acts of these records, the first of which has this number, after this many ticks
 unfoldable pub record_acts : Course → ℕ → ℕ → List Captured → List Act
 record_acts k number passed [] = []
 record_acts k number passed (c ∷ cs) =
@@ -88,21 +88,21 @@ begin_of h (c ∷ cs) = time_of h c
 abbrev pub course_of : Bool → Header → ℕ → List Captured → Course
 course_of ticks h origin cs = record { header = h; ticks = ticks; origin = origin; begin = begin_of h cs }
 
--- what these records of a capture do, of which the first has this number
+-- the acts of these records of a capture, the first of which has this number
 abbrev pub played : Bool → Header → ℕ → ℕ → List Captured → List Act
 played ticks h origin number cs = record_acts (course_of ticks h origin cs) number 0 cs
 
--- what a capture does, one act after another: packets come, and ticks pass
+-- the acts of a capture, one after another: packets arrive, and ticks pass
 abbrev pub capture_acts : Details → Whole → List Act
 capture_acts d w =
     played d.ticks w.header (begin_of w.header w.records) (first_of d.range) (selected d.range w.records)
 
--- the records that were chosen out of all, or there are fewer
+-- the records of the range, if the capture has them all
 abbrev pub Selects : Option Range → List Record → Option (Bor (List Record)) → Type 0
 Selects range rs None = HasRange range (length rs) → ⊥
 Selects range rs (Some part) = HasRange range (length rs) × (part.now ≡ selected range rs)
 
--- ---- a part of them
+-- ---- some of the records
 
 pub record Going : Type 0 where
   pub course : Course
@@ -125,7 +125,7 @@ Moves_on old (Some m) new =
 
 -- ---- the result
 
--- how many packets came, and how many ticks passed
+-- how many packets arrived, and how many ticks passed
 abbrev pub came : List Act → ℕ
 came [] = 0
 came (Arrives place packet ∷ acts) = suc (came acts)
@@ -144,7 +144,7 @@ abbrev pub Goes : {S : Type 0} → (S → Act → S → Type 0) → List Act →
 Goes go [] old new = new ≡ old
 Goes {S = S} go (act ∷ acts) old new = (mid : S) × go old act mid × Goes go acts mid new
 
--- What playing a file in does: all that its records do, or nothing at all.
+-- The effect of playing a file: all acts of its records, or none at all.
 abbrev pub PlaysFile : {S : Type 0} → (S → Act → S → Type 0) → Details → List ℕ → Result Tally CaptureFault → S → S
     → Type 0
 PlaysFile go d file (Ok tally) old new =

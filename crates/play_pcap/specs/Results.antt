@@ -1,4 +1,4 @@
--- What is printed for a capture that was played (this project's own).
+-- The output for a capture that was played (this project's own).
 use Rattle.std.specs.Prelude.{ℕ, List, [], ◌++◌, codes, decimal, Result, Ok, Err}
 use Rattle.capture.specs.declared.pcap.fault.Why.{Why}
 use Rattle.capture.specs.declared.pcap.fault.Why.TheVariants.{HeaderCut, BadMagic, BadVersion, BadLinkType, RecordCut, BytesCut}
@@ -22,12 +22,12 @@ capture_fault_words Memory = codes "no memory"
 capture_fault_words TooFew = codes "it has fewer records"
 capture_fault_words (Bad fault) = why_words fault.why
 
--- the offset at which a bad file is wrong
+-- the offset of the fault in a bad file
 abbrev pub fault_place : CaptureFault → List ℕ
 fault_place (Bad fault) = codes " at byte " ++ decimal fault.offset
 fault_place _ = []
 
--- what is printed for a capture that was played, or that couldn't be
+-- the output for a capture that was played, or that couldn't be
 abbrev pub capture_text : Result Tally CaptureFault → List ℕ
 capture_text (Ok t) =
     codes "ok " ++ decimal t.packets ++ codes " packets, " ++ decimal t.others ++ codes " others, "

@@ -1,4 +1,4 @@
--- The capture of a run: the packets that came and went (this project's own).
+-- The capture of a run: the packets that arrived and left (this project's own).
 use Rattle.std.specs.Prelude.{◌≡◌, ℕ, ◌+◌, ◌-◌, ◌*◌, ◌/◌, ◌%◌, ◌^◌, ◌<◌, ◌≤◌, Bool, true, false, List, [], ◌++◌, length, map, min, codes, decimal, if◌then◌else◌, Option}
 use Rattle.std.specs.Io.KnownBytes.{Appends}
 use Rattle.flat_model.specs.Scripts.Texts.{hex_text}
@@ -10,8 +10,8 @@ use Rattle.play_pcap.specs.Acts.{Act, Arrives, Passes}
 use Rattle.play_pcap.specs.declared.wire.RecordPlace.{RecordPlace}
 use Rattle.play_text.specs.Times.{time_text}
 
--- how many ticks have passed, whether each record so far was written whole, and what was written, if the writer's model
--- says it
+-- how many ticks have passed, whether each record so far was written whole, and what was written, if the writer's
+-- model records it
 pub record Traced : Type 0 where
   pub ticks : ℕ
   pub whole : Bool
@@ -46,17 +46,17 @@ pub record IsPass (p : Pass) : Type 0 where
   pub ticks : p.ticks < 2 ^ 32
   pub short : length p.packet ≤ 65_535
 
--- what is read in a file of these packets or frames
+-- the contents of a file of these packets or frames
 abbrev pub file_of : LinkType → List Pass → Whole
 file_of link ps = record { header = header_for link; records = map record_of ps }
 
--- one tick more
+-- one more tick
 abbrev pub later : ℕ → ℕ
 later n = min (n + 1) (2 ^ 32 - 1)
 
 -- ---- what is written
 
--- the bytes were written, or a front of them
+-- the bytes were written, or a prefix of them
 abbrev pub Sent : Bool → Option (List ℕ) → Option (List ℕ) → List ℕ → Type 0
 Sent true before after bytes = Appends before after bytes
 Sent false before after bytes = (front rest : List ℕ) × (bytes ≡ front ++ rest) × Appends before after front
@@ -86,7 +86,7 @@ header_due t = if t.headed then [] else file_header_bytes (header_for t.link)
 
 -- ---- a capture as a script
 
--- a comment that says from which record the packet is that comes next
+-- a comment with the number and the time of the record whose packet comes next
 abbrev pub place_line : RecordPlace → List ℕ
 place_line place =
     codes "# record " ++ decimal place.number ++ codes ", " ++ time_text place.time ++ codes " s\n"

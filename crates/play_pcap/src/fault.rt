@@ -13,11 +13,11 @@ pub enum CaptureFault {
     NotRead,
     /// It has more than [`crate::LONGEST_FILE`] bytes.
     TooLong,
-    /// Host memory was lacking.
+    /// The host refused memory.
     Memory,
     /// It has fewer records than the range requests.
     TooFew,
-    /// It's no capture file, or it's cut short.
+    /// It isn't a capture file, or it's truncated.
     Bad(Fault),
 }
 
@@ -37,7 +37,7 @@ pub(crate) fn words_for(why: Why) -> &'static str
 }
 
 impl CaptureFault {
-    /// Why, in words; of a bad file without the offset.
+    /// Returns the reason in words, without the offset in a bad file.
     pub(crate) fn words(self) -> &'static str
         ensures is { result.now ≡ capture_fault_words self }
         ensures short { length result.now ≤ 32 }

@@ -16,13 +16,13 @@ ghost use Rattle.play_pcap.specs.Traces.{IsPass, Keeps, Pass, Traced, file_of, p
 
 use capture::pcap::written_is_read;
 
-/// What is written for one part of a run and then for the next part is what is written for both.
+/// The output for one part of a run and that for the next part are the output for both.
 #[tactic(auto, using(crate::proofs::Kept::both_kept))]
 pub fn trace_law()
     ensures { (old mid new : Traced) (a b : List ℕ) → Keeps old mid a → Keeps mid new b → Keeps old new (a ++ b) }
 {}
 
-/// The file of these packets or frames reads as these, each whole, in their order.
+/// A file of these packets or frames has exactly these, each whole, in their order.
 pub fn read_back_law()
     ensures { (link : LinkType) (ps : List Pass) → AllByRecursion IsPass ps
         → Reads (file_header_bytes (header_for link) ++ passes_bytes ps) (Ok (file_of link ps)) }

@@ -19,7 +19,7 @@ const TICK: u64 = 500_000_000;
 /// The result of playing a capture.
 #[derive(Clone, Copy, Debug, PartialEq, Eq)]
 pub struct Tally {
-    /// How many packets came.
+    /// How many packets arrived.
     pub packets: u64,
     /// How many records had no IPv4 packet.
     pub others: u64,
@@ -54,7 +54,7 @@ pub(crate) struct Moves<'a> {
     pub(crate) rest: &'a [Record<'a>],
 }
 
-/// Returns the packet in a record, if there is one that a machine takes.
+/// Returns the packet in a record, if it has one that a machine accepts.
 fn packet_in<'a>(link: LinkType, bytes: &'a [u8]) -> Option<&'a [u8]>
     ensures is { events.seen_packet result ≡ events.packet_in_record link bytes.now }
     ensures short { IfSome result (λ p. length p.now ≤ 65535) }

@@ -40,7 +40,7 @@ fn play_moves<X: Wire>(wire: &mut X, moves: &mut Moves<'_>) -> u64
     packets
 }
 
-/// Returns the records of a range, or `None` if there are fewer.
+/// Returns the records of a range, or `None` if the capture has fewer.
 fn select<'a>(range: Option<Range>, records: &'a [Record<'a>]) -> Option<&'a [Record<'a>]>
     requires { IsOrdered range }
     ensures { Selects range records.now result }
@@ -102,8 +102,8 @@ fn play_records<X: Wire>(wire: &mut X, course: Course, number: u64, records: &[R
 /// # Errors
 ///
 /// `Bad` with the first fault of a file that isn't a capture, is truncated, or claims a length that it doesn't have;
-/// `TooFew` if it has fewer records than the range requests; `Memory` if host memory for the list of its records is
-/// lacking (each has at least 16 bytes in the file). On error, nothing has arrived.
+/// `TooFew` if it has fewer records than the range requests; `Memory` if the host refuses memory for the list of its
+/// records (each has at least 16 bytes in the file). On error, nothing has arrived.
 pub fn play_file<X: Wire>(
     alloc: Global,
     wire: &mut X,

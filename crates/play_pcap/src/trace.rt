@@ -33,7 +33,7 @@ impl<W: Sink> Model for Trace<W> {
     ghost view = { λ t. record { ticks = t.ticks; whole = t.whole; wrote = W.contents t.sink } };
 }
 
-/// Writes all bytes, and returns whether it did. An error, or a write of no bytes, ends it.
+/// Writes all bytes, and returns whether it did. It stops at an error, or at a write of no bytes.
 pub(crate) fn send<W: Sink>(writer: &mut W, bytes: &[u8]) -> bool
     ensures { Sent result (W.contents writer.old) (W.contents writer.new) bytes.now }
 {
@@ -135,7 +135,7 @@ impl<W: Sink> Trace<W> {
     }
 }
 
-/// A writer that takes all bytes, and keeps none.
+/// A writer that accepts all bytes and discards them.
 #[derive(Drop)]
 pub struct Nowhere;
 

@@ -9,7 +9,7 @@ use capture::pcap::LinkType;
 use script_loop::{Buffer, Sink};
 use std::marker::Model;
 
-/// A capture file as [`Trace`] writes it, whose link type may be chosen until something passes: `Ipv4` for packets,
+/// A capture file as [`Trace`] writes it, whose link type may be set until something passes: `Ipv4` for packets,
 /// `Ethernet` for frames. So its header is written with the first packet or frame, or at the end if none passed. It
 /// must be ended by `end`.
 pub struct WireTrace<W: Sink> {
@@ -47,7 +47,7 @@ impl<W: Sink> WireTrace<W> {
         }
     }
 
-    /// Writes the header, if it's still to be written.
+    /// Writes the header, if it wasn't written yet.
     fn head(&mut self)
         ensures kept { Keeps self.old.traced self.new.traced (header_due self.old) }
         ensures ticks { self.new.traced.ticks ≡ self.old.traced.ticks }
@@ -90,7 +90,7 @@ impl<W: Sink> WireTrace<W> {
         self.trace.is_whole()
     }
 
-    /// Ends the capture: writes the header if nothing has passed, and gives the writer back, with whether the whole
+    /// Ends the capture: writes the header if nothing has passed, and returns the writer, and whether the whole
     /// file was written.
     pub fn end(mut self) -> (W, bool)
         ensures { Keeps self.traced (record self.traced { whole = result.1; wrote = W.contents result.0 })

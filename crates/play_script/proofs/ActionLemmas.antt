@@ -10,7 +10,7 @@ pub Does-no_ticks : (step : State → Event → Reply → State → Type 0) (n :
 Does-no_ticks step zero s none = refl
 Does-no_ticks step (suc n) s none = absurd (omega (arith, none))
 
--- a tick in front of others
+-- one tick before others
 pub Does-ticks : (step : State → Event → Reply → State → Type 0) (n m : ℕ) (old mid new : State) → 0 < n → m ≡ n - 1
     → step old Tick Done mid
     → Does step mid (replicate m Tick) Done new → Does step old (replicate n Tick) Done new

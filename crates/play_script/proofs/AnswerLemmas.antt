@@ -1,4 +1,4 @@
--- What is told of a plain line, by what it asks for.
+-- The text for a plain line, by its request.
 use Rattle.std.proofs.Common.{◌≡◌, ℕ, ◌&&◌, Bool, true, false, List, ◌++◌, codes, if◌then◌else◌, Option, Some, None, Result, inl, inr, refl, sym, ap, ◌∙◌, subst}
 use Rattle.flat_model.specs.Machine.Event.{Event, Reply}
 use Rattle.flat_model.specs.Machine.State.{State}
@@ -18,7 +18,7 @@ use Rattle.play_script.specs.declared.line.Line.{Line}
 use Rattle.play_script.specs.declared.execute.Executed.{Executed}
 use Rattle.play_script.specs.declared.execute.Executed.TheVariants as executed
 
--- a line that asks for this
+-- a line with this request
 pub Ask-reports : (step : State → Event → Reply → State → Type 0) (has : List ℕ → List ℕ → Type 0) (now new : Play)
     (shown plain : List ℕ)
     (wanted : Option (List ℕ)) (ask : Ask) (text below : List ℕ) (after : CapturedView) (failed : Bool)
@@ -35,7 +35,7 @@ pub Ask-reports : (step : State → Event → Reply → State → Type 0) (has :
 Ask-reports step has now new shown plain wanted ask text below after failed asks reports is =
     (Some ask, asks, inl (after, failed, text, below, reports, refl, is))
 
--- a line that asks for nothing
+-- a line without a request
 pub None-reports : (step : State → Event → Reply → State → Type 0) (has : List ℕ → List ℕ → Type 0) (now new : Play)
     (shown plain : List ℕ)
     (wanted : Option (List ℕ)) (after : CapturedView) (what : List ℕ) → AsksFor plain None
@@ -52,7 +52,7 @@ None-reports step has now new shown plain wanted after what none kept is = (
   ),
 )
 
--- a line of settings names no packet
+-- a line of settings doesn't describe a packet
 words_if : (b : Bool) (packet plain : List ℕ) (named : List (List ℕ))
     → Writes (if b then codes "rx " ++ hex_text packet else plain) (Settings named)
     → plain ≡ (if b then codes "rx " ++ hex_text packet else plain)
@@ -88,7 +88,7 @@ Settings-execute step has now mid new shown plain line text wanted named ask aft
       ),
     )
 
--- what came of what a line asks for
+-- the result of executing a line's request
 pub Executed-some : (step : State → Event → Reply → State → Type 0) (has : List ℕ → List ℕ → Type 0)
     (plain : List ℕ) (ask : Ask) (came : Executed) (old new : CapturedView) (text : List ℕ) → AsksFor plain (Some ask)
     → IsExecutedAs step has ask came old text new → IsExecuted step has plain came old text new
@@ -96,14 +96,14 @@ Executed-some step has plain ask executed.Nothing old new text asks came = absur
 Executed-some step has plain ask executed.Settings old new text asks came = (ask, asks, came)
 Executed-some step has plain ask (executed.Done stays failed) old new text asks came = (ask, asks, came)
 
--- a line that was read so
+-- a line with this reading
 pub Reading-reports : (step : State → Event → Reply → State → Type 0) (has : List ℕ → List ℕ → Type 0) (now new : Play)
     (ticks before : ℕ) (read is : Reading) (text : List ℕ) → read ≡ is
     → ReportsReading step has now ticks before is text new → ReportsReading step has now ticks before read text new
 Reading-reports step has now new ticks before read is text same said =
     subst (λ (r : Reading). ReportsReading step has now ticks before r text new) (sym same) said
 
--- a line whose time was read so
+-- a line with this time
 pub Timed-reports : (step : State → Event → Reply → State → Type 0) (has : List ℕ → List ℕ → Type 0) (old now new :
     Play)
     (line text : List ℕ) (t : Result TimedView SyntaxError) → now ≡ next_line line old → t ≡ timed line

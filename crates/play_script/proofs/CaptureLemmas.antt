@@ -40,7 +40,7 @@ pub after-none : (n : ℕ) (t : Traced) → n ≤ 0 → after_ticks n t ≡ t
 after-none zero t none = refl
 after-none (suc n) t none = absurd (omega (arith, none))
 
--- a tick in front of others
+-- one tick before others
 pub after-tick : (n m : ℕ) (old new : Traced) → 0 < n → m ≡ n - 1
     → new.ticks ≡ later old.ticks → new.whole ≡ old.whole → new.wrote ≡ old.wrote
     → after_ticks m new ≡ after_ticks n old
@@ -75,7 +75,7 @@ Captures-one number old new event reply moved n is ticks h = (
   subst (λ (k : ℕ). new.ticks ≡ later_by k old.ticks) ticks h.1,
 )
 
--- what a line has a machine do
+-- the action of a line
 pub Captures-action : (number : ℕ) (old new : Traced) (action : Action) (reply : Reply) (moved : Option (List ℕ)) (n :
     ℕ)
     → moved ≡ moved_in (events_of action) reply → n ≡ ticks_of action → Notes number old moved n new
@@ -123,7 +123,7 @@ Captures-more join number old mid new first rest before after =
       after.1 ∙ ap (λ (t : ℕ). ticks_after t rest) before.1 ∙ sym (ticks_after-append old.ticks first rest),
     )
 
--- a line in front of others
+-- a line before others
 pub Captures-join : Joins → (number m : ℕ) (old mid new : Traced) (first : List Turn) (rest : List (List Turn))
     → m ≡ number
     → Captures number old first mid → Keeps mid new (passes_bytes (all_passes m mid.ticks rest))

@@ -1,4 +1,4 @@
--- A line asks for one capture at most.
+-- A line requests at most one capture.
 use Rattle.std.proofs.Common.{◌≡◌, ℕ, ◌+◌, ◌==◌, Bool, List, [], ◌∷◌, take, drop, position, codes, Option, Some, None, inl, inr, sym, ap, ap₂, ◌∙◌, arith, subst}
 use Rattle.std.proofs.lemmas.Fmt.{decimal_injective}
 use Rattle.flat_model.specs.Scripts.Grammar.{IsNumber}

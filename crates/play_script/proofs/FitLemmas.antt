@@ -1,10 +1,10 @@
--- Words that are compared one by one.
+-- Words that are compared one after another.
 use Rattle.std.proofs.Common.{◌≡◌, ℕ, ◌==◌, Bool, true, false, ◌&&◌, ◌||◌, List, [], ◌∷◌, length, bytes_eq, codes, refl, ap, arith}
 use Rattle.std.proofs.lemmas.List.Splits.{length-slice_split}
 use Rattle.flat_model.specs.Scripts.Grammar.{words}
 use Rattle.play_script.specs.Outcomes as outcomes
 
--- a text has a word
+-- a text has at least one word
 pub words-some : (text : List ℕ) → words text ≡ [] → ⊥
 words-some text e =
     let size = length-slice_split (λ b. b == 32) text in
@@ -19,13 +19,13 @@ and-and-false : (a b : Bool) → (a && (b && false)) ≡ false
 and-and-false true b = and-false b
 and-and-false false b = refl
 
--- and it stands alone
+-- two words or more aren't just `..`
 pub rest-longer : (wanted more : List (List ℕ)) (word : List ℕ) → wanted ≡ word ∷ more → (more ≡ [] → ⊥)
     → outcomes.is_rest wanted ≡ false
 rest-longer wanted [] word e some = absurd (some refl)
 rest-longer wanted (next ∷ more) word e some = rw e refl
 
--- no more is told
+-- the reply has no more words
 pub fits-end : (wanted : List (List ℕ)) → (wanted ≡ [] → ⊥) → outcomes.fits_words wanted [] ≡ outcomes.is_rest wanted
 fits-end [] some = absurd (some refl)
 fits-end (word ∷ more) some = refl
@@ -34,7 +34,7 @@ fits-fewer : (reply_line : List (List ℕ)) → (reply_line ≡ [] → ⊥) → 
 fits-fewer [] some = absurd (some refl)
 fits-fewer (got ∷ rest) some = refl
 
--- a word that isn't the rest, by itself and what comes after it
+-- if the words aren't just `..`, the first must match, and so must those after it
 pub fits-step : (wanted reply_line more rest : List (List ℕ)) (word got : List ℕ) → wanted ≡ word ∷ more → reply_line ≡
     got ∷ rest
     → outcomes.is_rest wanted ≡ false
@@ -45,7 +45,7 @@ fits-step wanted reply_line more rest word got e f none =
     let mine : outcomes.is_rest (word ∷ more) ≡ false = rw e at none in rw mine refl
     )
 
--- more words are wanted than were told, or fewer
+-- more words are expected than the reply has, or fewer
 pub fits-longer : (wanted reply_line more : List (List ℕ)) (word got : List ℕ) → wanted ≡ word ∷ more → reply_line ≡ got
     ∷ []
     → (more ≡ [] → ⊥) → outcomes.is_rest wanted ≡ false → (bytes_eq word (codes "_") || bytes_eq word got) ≡ true

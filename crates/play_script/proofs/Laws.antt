@@ -1,4 +1,4 @@
--- Laws of plain lines: what asks for one thing asks for no other.
+-- Laws of plain lines: a line has at most one kind of request.
 use Rattle.std.proofs.Common.{◌≡◌, ℕ, true, List, Some}
 use Rattle.flat_model.specs.Machine.Event.{Event}
 use Rattle.flat_model.specs.Scripts.Script as script
@@ -11,22 +11,22 @@ use Rattle.play_show.specs.declared.topic.Topic.{Topic}
 use Rattle.play_script.specs.Asks.{IsTicks}
 use Rattle.play_script.proofs.LineLemmas.{call-capture, call-settings, call-show, ticks-capture, ticks-settings, ticks-show}
 
--- neither an event nor ticks
+-- the line requests neither an event nor ticks
 abbrev pub IsIdle : List ℕ → Type 0
 IsIdle plain = ((event : Event) → ¬ script.Asks all_events plain event) × ((n : ℕ) → ¬ IsTicks plain n)
 
--- of a line that asks to be shown something
+-- for a line that requests to be shown something
 pub Show-idle : (plain : List ℕ) (topic : Topic) → topic_asked plain ≡ Some topic → IsIdle plain
 Show-idle plain topic is =
     (λ event asks. call-show plain event topic asks is, λ n ticks. ticks-show plain n topic ticks is)
 
--- of one that asks for a capture
+-- for a line that requests a capture
 pub Capture-idle : (plain name : List ℕ) (details : Details) → IsAsked plain name details → IsIdle plain
 Capture-idle plain name details asked = (
   λ event asks. call-capture plain event name details asks asked,
   λ n ticks. ticks-capture plain n name details ticks asked,
 )
 
--- of one with settings
+-- for a line of settings
 pub Settings-idle : (plain : List ℕ) → has_dashes plain ≡ true → IsIdle plain
 Settings-idle plain is = (λ event. call-settings plain event is, λ n. ticks-settings plain n is)

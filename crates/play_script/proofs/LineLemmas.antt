@@ -1,4 +1,4 @@
--- A line asks for one thing at most.
+-- A line has at most one request.
 use Rattle.std.proofs.Common.{◌≡◌, ℕ, suc, ◌+◌, ◌*◌, true, false, List, [], ◌∷◌, length, get_or, codes, Some, None, sym, ap, ap₂, ◌∙◌, arith}
 use Rattle.std.proofs.lemmas.Bool.{false≢true}
 use Rattle.std.proofs.lemmas.Fmt.{decimal_injective}
@@ -57,7 +57,7 @@ no-dash Tick h = omega (arith, h)
 no-dash Ask_counters h = omega (arith, h)
 no-dash Ask_usage h = omega (arith, h)
 
--- one word stands after `rx`, and none after `tick`
+-- one word follows `rx`, and none follows `tick`
 after-rx : (event : Event) (args : List (List ℕ)) → front_of (keyword event) ≡ 29304 → HasArguments event args
     → length args ≡ 1
 after-rx Open args h has = absurd (omega (arith, h))
@@ -90,7 +90,7 @@ after-tick Tick args h has = ap length has
 after-tick Ask_counters args h has = absurd (omega (arith, h))
 after-tick Ask_usage args h has = absurd (omega (arith, h))
 
--- ---- two things that a line can't ask for at once
+-- ---- two requests that a line can't have at the same time
 
 call-ticks : (plain : List ℕ) (event : Event) (n : ℕ) → script.Asks all_events plain event → IsTicks plain n → ⊥
 call-ticks plain event n asks ticks =
@@ -154,7 +154,7 @@ capture-settings plain name d is h =
     let same : get_or (codes "rx") 0 0 ≡ 45 = first_dash plain (codes "rx") (codes "pcap" ∷ name ∷ h.0) is h.1 in
     omega (arith, same)
 
--- what a line of settings asks for
+-- the only request of a line of settings
 settings_alone : (plain : List ℕ) (ask : Ask) → has_dashes plain ≡ true → Writes plain ask
     → ask ≡ Settings (words plain)
 settings_alone plain (Call event) is h = absurd (call-settings plain event is h)
@@ -163,7 +163,7 @@ settings_alone plain (Show topic) is h = absurd (show-settings plain topic is h)
 settings_alone plain (Capture name d) is h = absurd (capture-settings plain name d is h)
 settings_alone plain (Settings named) is h = ap Settings h.1
 
--- ---- one thing
+-- ---- at most one request
 
 one_count : (plain : List ℕ) (m n : ℕ) → IsTicks plain m → IsTicks plain n → m ≡ n
 one_count plain m n h k =
@@ -174,7 +174,7 @@ one_count plain m n h k =
 topic-same : (topic other : Topic) → Some topic ≡ Some other → topic ≡ other
 topic-same topic other e = cc e
 
--- what crate `request` says of events
+-- a law of the crate `request`: a line is at most one event
 abbrev pub OneEvent : Type 0
 OneEvent = (line : List ℕ) (a b : Event) → IsLine line a → IsLine line b → a ≡ b
 
@@ -203,7 +203,7 @@ one_ask one plain (Capture name d) (Settings named) h k =
     settings_alone plain (Capture name d) k.0 h ∙ ap Settings (sym k.1)
 one_ask one plain (Settings named) b h k = ap Settings h.1 ∙ sym (settings_alone plain b h.0 k)
 
--- a line that asks for none of them
+-- a line without a request
 pub asks_nothing : (plain : List ℕ) → ((event : Event) → ¬ script.Asks all_events plain event)
     → ((n : ℕ) → ¬ IsTicks plain n)
     → None ≡ topic_asked plain → ((name : List ℕ) (d : Details) → ¬ IsAsked plain name d) → has_dashes plain ≡ false

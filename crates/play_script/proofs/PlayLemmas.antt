@@ -1,4 +1,4 @@
--- Captures that are played in.
+-- Captures that are played.
 use Rattle.std.proofs.Common.{◌≡◌, ℕ, suc, ◌<◌, List, [], ◌∷◌, get_or, map, Option, Result, Ok, Err, inl, inr, refl, sym, ap, ◌∙◌, subst, append-nil}
 use Rattle.std.specs.List.{AllByRecursion as Each}
 use Rattle.std.proofs.lemmas.List.Elements.{All-from_recursion}
@@ -24,7 +24,7 @@ use Rattle.play_script.specs.Plays.{ComesTo, CapturedView, ReplayView, came_turn
 use Rattle.stack_call.specs.Moves.{StackSteps}
 use Rattle.play_script.specs.Runs.{AreAskedTurns}
 
--- the bytes behind a reference are bytes
+-- a list whose elements are below 256 is a list of bytes
 pub are_bytes : (xs : List ℕ) → ((k : ℕ) → get_or xs k 0 < 256) → IsBytes xs
 are_bytes xs fits = All-from_recursion (λ byte. byte < 256) xs (go xs fits)
   where
@@ -38,7 +38,7 @@ are_bytes xs fits = All-from_recursion (λ byte. byte < 256) xs (go xs fits)
 pub Captures-same : (number : ℕ) (t u : Traced) → u ≡ t → Captures number t [] u
 Captures-same number t u same = subst (λ (s : Traced). Captures number t [] s) (sym same) (Keeps-none t, refl)
 
--- a turn in front of others
+-- one turn before others
 Captures-front : Joins → (number : ℕ) (old mid new : Traced) (turn : Turn) (turns : List Turn)
     → Captures number old (turn ∷ []) mid → Captures number mid turns new → Captures number old (turn ∷ turns) new
 Captures-front join number old mid new turn turns first rest =
@@ -69,7 +69,7 @@ Goes-turns join (act ∷ acts) old new (mid, went, rest) =
           (subst (λ (n : ℕ). Captures n mid.seen.traced (map came_turn acts) new.seen.traced) went.3 later.1),
     )
 
--- ---- what it does
+-- ---- the turns of a capture
 
 abbrev pub MakesTurns : (List ℕ → List ℕ → Type 0) → List ℕ → List ℕ → Option (List ℕ) → CapturedView → CapturedView
     → Type 0
@@ -78,7 +78,7 @@ MakesTurns has shown plain wanted old new =
     × Leads exact_ledger old.machine turns new.machine
     × Captures old.line old.traced turns new.traced
 
--- nothing
+-- no turns
 Turns-none : (has : List ℕ → List ℕ → Type 0) (shown plain word : List ℕ) (wanted : Option (List ℕ)) (d : Details)
     (old new : ReplayView)
     → IsAsked plain word d → new ≡ old → MakesTurns has shown plain wanted old.seen new.seen
@@ -89,7 +89,7 @@ Turns-none has shown plain word wanted d old new asked same = (
   Captures-same old.seen.line old.seen.traced new.seen.traced (ap (λ (s : ReplayView). s.seen.traced) same),
 )
 
--- what the file that was read does
+-- the turns of the file that was read
 File-turns : Joins → (has : List ℕ → List ℕ → Type 0) (shown plain word file : List ℕ) (wanted : Option (List ℕ))
     (d : Details)
     (outcome : Result Tally CaptureFault) (old new : ReplayView) → IsAsked plain word d → IsAvailable has word file
@@ -120,7 +120,7 @@ Named-turns join has shown plain word wanted d outcome old new asked (inl (file,
 Named-turns join has shown plain word wanted d outcome old new asked (inr (fault, unread, is, same)) =
     Turns-none has shown plain word wanted d old new asked same
 
--- no packet was dropped before
+-- at first, no packet was dropped
 pub Played-begun : (has : List ℕ → List ℕ → Type 0) (d : Details) (word : List ℕ) (outcome : Result Tally CaptureFault)
     (old : CapturedView) (new : ReplayView) (causes : Table) → causes ≡ no_drops
     → PlaysNamed has (ComesTo StackSteps) d word outcome (replay_of old causes) new

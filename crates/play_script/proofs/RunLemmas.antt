@@ -1,4 +1,4 @@
--- A player before its first line, and a machine that isn't made.
+-- A player before its first line, and a machine that can't be booted.
 use Rattle.std.proofs.Common.{◌≡◌, ℕ, Bool, true, false, List, Option, None, Result, Err, refl, subst}
 use Rattle.flat_model.specs.Machine.Event.{Event, Reply}
 use Rattle.flat_model.specs.Machine.State.{State, boot}
@@ -30,7 +30,7 @@ unserved step has c Read begun a w h = absurd h
 unserved step has c Write begun a w h = absurd h
 unserved step has c TooManyLines begun a w h = absurd h
 
--- nothing is served without a machine
+-- without a machine, no line is served
 pub Serves-unbooted : (step : State → Event → Reply → State → Type 0) (has : List ℕ → List ℕ → Type 0) (c : Config)
     (fault : RunFault) (traced : Traced)
     (form : Form) (name : List ℕ) (a w : Option (List ℕ)) → IsRunUnbooted c fault
@@ -39,7 +39,7 @@ pub Serves-unbooted : (step : State → Event → Reply → State → Type 0) (h
 Serves-unbooted step has c fault traced form name a w h =
     (started (boot c) traced form name, unserved step has c fault (started (boot c) traced form name) a w h, refl, refl)
 
--- what is served with a capture
+-- the outcome of serving a script with a capture
 abbrev pub Served : (State → Event → Reply → State → Type 0) → (List ℕ → List ℕ → Type 0) → State → Traced → Form
     → List ℕ → Option (List ℕ)
     → Option (List ℕ) → Option (List ℕ) → Option (List ℕ) → Result Unit RunFault → Bool → Traced → Type 0
@@ -56,7 +56,7 @@ pub Serves-captured : (step : State → Event → Reply → State → Type 0) (h
 Serves-captured step has machine booted traced form name a b w v r sound after same h =
     subst (λ (m : State). Served step has m traced form name a b w v r sound after) same h
 
--- what is served without a capture, which is anyone's then, and without files
+-- the outcome of serving a script without files and without a capture, whatever the unused capture is
 abbrev pub Untraced : (State → Event → Reply → State → Type 0) → State → Form → List ℕ → Option (List ℕ)
     → Option (List ℕ) → Option (List ℕ)
     → Option (List ℕ) → Result Unit RunFault → Bool → Type 0
@@ -81,14 +81,14 @@ pub Serves-booted : (step : State → Event → Reply → State → Type 0) (mac
 Serves-booted step machine booted form name a b w v r sound same h =
     subst (λ (m : State). Untraced step m form name a b w v r sound) same h
 
--- nothing is served without memory
+-- without memory, no line is served
 pub Serves-none : (step : State → Event → Reply → State → Type 0) (machine : State) (form : Form) (name : List ℕ)
     (a w : Option (List ℕ))
     → Untraced step machine form name a a w w (Err Memory) true
 Serves-none step machine form name a w =
     (unwritten None, started machine (unwritten None) form name, (Moves-none a w, refl), refl)
 
--- what a new player serves
+-- the outcome of serving a script with a new player
 pub Serves-started : (step : State → Event → Reply → State → Type 0) (has : List ℕ → List ℕ → Type 0) (machine : State)
     (traced after : Traced)
     (config : Config) (number : ℕ) (sound texts : Bool) (form form' : Form) (name name' : List ℕ) (new : Play)

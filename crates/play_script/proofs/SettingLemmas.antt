@@ -1,4 +1,4 @@
--- Settings that no machine has.
+-- Settings with which no machine can be booted.
 use Rattle.std.proofs.Common.{◌≡◌, ℕ, Bool, true, false, List, Ok, Err, inr}
 use Rattle.std.proofs.lemmas.Bool.{false≢true}
 use Rattle.flat_model.specs.declared.config.Config.{Config}

@@ -1,4 +1,4 @@
--- The turns that lines make.
+-- The turns of lines.
 use Rattle.std.proofs.Common.{◌≡◌, ◌⊎◌, ℕ, zero, suc, ◌-◌, ◌<◌, ◌==◌, ◌&&◌, Bool, true, false, List, [], ◌∷◌, ◌++◌, length, replicate, Option, Some, None, Result, Ok, Err, inl, inr, refl, sym, ap, ◌∙◌, arith, subst}
 use Rattle.std.proofs.lemmas.Bool.{eqb-true, false≢true}
 use Rattle.play_line.specs.Time.{TimedView, timed}
@@ -36,7 +36,7 @@ Ticks-lead : (n : ℕ) (old new : State) (reply : Reply) → Does Step old (repl
 Ticks-lead zero old new reply h = h
 Ticks-lead (suc n) old new reply (mid, step, rest) = (tt, mid, step, Ticks-lead n mid new reply rest)
 
--- and each of them answers that it's done
+-- the reply of each of them is `Done`
 ticks_turns : (n : ℕ) → turns_with (replicate n Tick) Done ≡ replicate n (turn_of Tick Done)
 ticks_turns zero = refl
 ticks_turns (suc n) = ap (λ (ts : List Turn). turn_of Tick Done ∷ ts) (ticks_turns n)
@@ -53,7 +53,7 @@ Leads-append old mid new [] rest same later = subst (λ s. Leads exact_ledger s 
 Leads-append old mid new (turn ∷ first) rest (range, next, step, leads) later =
     (range, next, step, Leads-append next mid new first rest leads later)
 
--- the turns of a line, and what they do and add to a capture
+-- the turns of a line, their effect on the machine, and what they add to a capture
 abbrev Makes : (List ℕ → List ℕ → Type 0) → List ℕ → ℕ → State → State → Traced → Traced → Type 0
 Makes has plain number old new t u =
     (turns : List Turn) × AreAskedTurns has plain turns × Leads exact_ledger old turns new × Captures number t turns u
@@ -82,7 +82,7 @@ Makes-ticks has number old new t u shown plain wanted n reply is does captured =
 
 -- ---- a line
 
--- A line that isn't of settings: its turns, none of them if settings may still come.
+-- a line that isn't a line of settings: its turns, which are none if settings are still accepted after it
 record Asked (Are : List Turn → Type 0) (now new : Play) : Type 0 where
   turns : List Turn
   are : Are turns
@@ -104,7 +104,7 @@ record Settled (Are : List Turn → Type 0) (May : Config → Config → Type 0)
 not_late : (c : Config) → Ok c ≡ Err Late → ⊥
 not_late c e = cc
 
--- what is told of what a line asks for, by its turns
+-- a line's reply by the turns of its request
 Executed-turns : Joins → (has : List ℕ → List ℕ → Type 0) (ask : Ask) (old new : CapturedView) (shown plain : List ℕ)
     (wanted : Option (List ℕ)) (text : List ℕ) (failed : Bool)
     → Writes plain ask → ReportsAsk Step has ask old failed text new
@@ -236,11 +236,11 @@ Asked-line join has now new shown plain text wanted (
 eq_zero : (n : ℕ) → (n == 0) ≡ true → n ≡ 0
 eq_zero n h = eqb-true n 0 h
 
--- what stays if no tick passes before a line
+-- if no tick passes before a line without turns, there are no turns
 no_ticks : (n : ℕ) (rest : List Turn) → n ≡ 0 → rest ≡ [] → replicate n (turn_of Tick Done) ++ rest ≡ []
 no_ticks n rest none same = ap (λ (k : ℕ). replicate k (turn_of Tick Done) ++ rest) none ∙ same
 
--- a line before which so many ticks pass
+-- a line before which this many ticks pass
 Waited-line : Joins → (has : List ℕ → List ℕ → Type 0) (n : ℕ) (now mid new : Play) (shown plain : List ℕ)
     (wanted : Option (List ℕ)) → IsWaited Step n now mid
     → Asked (AreAskedTurns has plain) mid new
@@ -335,7 +335,7 @@ MaySetAll-same : (lines : List (List ℕ)) (c : Config) → MaySetAll lines c c
 MaySetAll-same [] c = refl
 MaySetAll-same (line ∷ lines) c = (c, MayTimedSet-same line (timed line) c, MaySetAll-same lines c)
 
--- what a line adds to a capture, in front of what others add
+-- what a line adds to a capture, before what other lines add
 Kept-before : Joins → (has : List ℕ → List ℕ → Type 0) (now old mid new : Play) (lines : List (List ℕ))
     (first : List Turn) (rest : IsRunOf has mid lines new)
     → now.traced ≡ old.traced → now.number ≡ more_by 1 old.number → mid.number ≡ now.number
@@ -347,7 +347,7 @@ Kept-before join has now old mid new lines first rest t n m captured =
     (subst (λ (s : Traced). Captures now.number s first mid.traced) t captured))
     rest.kept
 
--- a line in front of a run
+-- a line before a run of other lines
 Asked-before : Joins → (has : List ℕ → List ℕ → Type 0) (now old mid new : Play) (line : List ℕ) (lines : List (List ℕ))
     → now.machine ≡ old.machine → now.traced ≡ old.traced
     → now.number ≡ more_by 1 old.number → now.config ≡ old.config → now.head ≡ old.head

@@ -1,4 +1,4 @@
--- What a line makes a machine do: events, one after another (this project's own).
+-- The effects of a line on a machine: events, one after another (this project's own).
 use Rattle.std.specs.Prelude.{◌≡◌, ℕ, List, [], ◌∷◌, map, Option, None}
 use Rattle.flat_model.specs.Machine.Event.{Event, Reply}
 use Rattle.flat_model.specs.Machine.State.{State}
@@ -15,7 +15,7 @@ moved_in [] reply = None
 moved_in (event ∷ events) reply = moved_by event reply
 
 module _ (step : State → Event → Reply → State → Type 0) where
-  -- from old these events, one after another, have this reply and lead to new
+  -- these events, one after another, have this reply, and lead from old to new
   abbrev pub Does : State → List Event → Reply → State → Type 0
   Does old [] reply new = new ≡ old
   Does old (event ∷ events) reply new = (mid : State) × step old event reply mid × Does mid events reply new

@@ -1,4 +1,4 @@
--- What a run adds to a capture: the packets that come and go, in their order (this project's own).
+-- What a run adds to a capture: the packets that arrive and leave, in their order (this project's own).
 use Rattle.std.specs.Prelude.{◌≡◌, ℕ, zero, suc, List, [], ◌∷◌, ◌++◌, Option, Some, None}
 use Rattle.flat_model.specs.Machine.Count.{more_by}
 use Rattle.flat_model.specs.Machine.Event.{Event, Reply, Comes, Transmit, Tick, Given}
@@ -14,7 +14,7 @@ abbrev pub given_packet : Reply → Option (List ℕ)
 given_packet (Given packet) = packet
 given_packet reply = None
 
--- the packet that a turn moves: the one that comes from the wire, or the one that the link takes
+-- the packet that a turn moves: one that arrives from the wire, or one that the link takes
 abbrev pub moved_by : Event → Reply → Option (List ℕ)
 moved_by (Comes packet) reply = Some packet
 moved_by Transmit reply = given_packet reply
@@ -40,7 +40,7 @@ abbrev pub pass_if : ℕ → ℕ → Option (List ℕ) → List Pass
 pass_if ticks number None = []
 pass_if ticks number (Some packet) = pass_at ticks number packet ∷ []
 
--- what a capture has after the packet that moves, if one does, and then n ticks
+-- a capture after the packet that is moved, if there is one, and n ticks
 abbrev pub Notes : ℕ → Traced → Option (List ℕ) → ℕ → Traced → Type 0
 Notes number old moved n new =
     Keeps old new (passes_bytes (pass_if old.ticks number moved)) × (new.ticks ≡ later_by n old.ticks)

@@ -1,4 +1,4 @@
--- What only this crate reads.
+-- Definitions that only this crate uses.
 use Rattle.std.specs.Prelude.{◌≡◌, ℕ, Bool, List, [], ◌∷◌, replicate, Some, None}
 use Rattle.flat_model.specs.Machine.Event.{Event, Reply, Tick}
 use Rattle.flat_model.specs.Machine.State.{State}
@@ -15,7 +15,7 @@ use Rattle.play_script.specs.declared.execute.Executed.{Executed}
 use Rattle.play_script.specs.declared.execute.Executed.TheVariants as executed
 use Rattle.request.specs.Requests.{event_of, room_of}
 
--- the events that are a deed
+-- the events of an action
 abbrev pub events_of : Action → List Event
 events_of (Call request) = event_of request ∷ []
 events_of (Ticks n) = replicate n Tick
@@ -30,7 +30,7 @@ abbrev pub ticks_of : Action → ℕ
 ticks_of (Call request) = tick_in (event_of request)
 ticks_of (Ticks n) = n
 
--- the state of a player, by its parts
+-- the state of a player, by its fields
 abbrev pub play_of : State → Traced → Config → Bool → Printer → Play
 play_of machine traced config head printer = record {
   machine = machine;

@@ -1,4 +1,4 @@
--- What a line of a commented script is made of (this project's own).
+-- The parts of a line of a commented script (this project's own).
 use Rattle.std.specs.Prelude.{ℕ, ◌+◌, ◌-◌, ◌==◌, ◌||◌, Bool, false, List, [], ◌∷◌, length, take, drop, get_or, position, if◌then◌else◌, nat_lt, Option, Some, None, Result, Ok, Err}
 use Rattle.flat_model.specs.Machine.Count.{more_by}
 use Rattle.play_line.specs.Line.{expanded}
@@ -7,7 +7,7 @@ use Rattle.play_line.specs.declared.fault.SyntaxError.{SyntaxError}
 use Rattle.play_packet.specs.Builds.{named}
 use Rattle.play_line.specs.declared.line.TheConstants.{LONGEST}
 
--- a text without the space at its end, and without the one in front
+-- a text without a space at its end, or at its beginning
 abbrev pub untailed : List ℕ → List ℕ
 untailed text = if get_or text (length text - 1) 0 == 32 then take (length text - 1) text else text
 
@@ -27,7 +27,7 @@ has_text line = quote_at line (position (λ byte. byte == 34 || byte == 35) line
 
 -- ---- an expectation
 
--- cut at a `=` that a `>` follows
+-- cut at a `=` that is followed by `>`
 abbrev pub front_at : List ℕ → Option ℕ → List ℕ
 front_at text (Some at) = if get_or text (at + 1) 0 == 62 then take at text else text
 front_at text None = text
@@ -40,30 +40,30 @@ back_at text None = None
 abbrev pub asked : List ℕ → List ℕ
 asked text = front_at text (position (λ byte. byte == 61) text)
 
--- what stands after it
+-- what comes after it
 abbrev pub expected : List ℕ → Option (List ℕ)
 expected text = back_at text (position (λ byte. byte == 61) text)
 
--- ---- what a line is
+-- ---- kinds of lines
 
 pub data Reading : Type 0 where
   Nothing : Reading  -- a blank line, or only a comment
   TooLong : Reading  -- more than 262,144 bytes
   Faulty : (error : SyntaxError) → Reading  -- bytes that can't be read, or words that name no packet
-  -- the line as it's written, the plain line that it stands for, and the reply that is expected
+  -- the line as it's written, its plain line, and the expected reply
   Asks : (shown plain : List ℕ) (wanted : Option (List ℕ)) → Reading
 
 abbrev pub unheaded_option : Option (List ℕ) → Option (List ℕ)
 unheaded_option None = None
 unheaded_option (Some text) = Some (unheaded text)
 
--- no words and nothing expected
+-- without words and an expectation, the line is empty
 abbrev pub reading_of : List ℕ → List ℕ → Option (List ℕ) → Reading
 reading_of shown [] None = Nothing
 reading_of shown [] (Some wanted) = Asks shown [] (Some wanted)
 reading_of shown (byte ∷ bytes) wanted = Asks shown (byte ∷ bytes) wanted
 
--- the words of a line, with the bytes of a packet instead of the words that name it, and what is expected
+-- the words of a line, with the bytes of a packet instead of the words that describe it, and the expectation
 abbrev pub reading_words : List ℕ → Result (List ℕ) SyntaxError → Option (List ℕ) → Reading
 reading_words shown (Ok words) wanted = reading_of shown words wanted
 reading_words shown (Err error) wanted = Faulty error
@@ -74,12 +74,12 @@ reading_plain line part (Ok text) =
     reading_words (shown line) (named part (untailed (asked text))) (unheaded_option (expected text))
 reading_plain line part (Err error) = Faulty error
 
--- a line whose front, a time or the name of a host, was read before: this part is read, and the line is shown whole
+-- a line whose time or host was parsed before: this part is parsed, and the whole line is printed
 abbrev pub reading_part : List ℕ → List ℕ → Reading
 reading_part line part =
     if nat_lt LONGEST (length line) then TooLong
     else reading_plain line part (expanded part)
 
--- an error in a part of a line that `before` bytes precede
+-- an error in a part of a line that follows `before` bytes
 abbrev pub shifted : ℕ → SyntaxError → SyntaxError
 shifted before error = record error { column = more_by before error.column }

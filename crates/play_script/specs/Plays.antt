@@ -1,4 +1,4 @@
--- Captures that are played: the machine's steps, and what is printed for them (this project's own).
+-- Captures that are played: the machine's steps, and their output (this project's own).
 use Rattle.std.specs.Prelude.{◌≡◌, ℕ, Bool, true, false, List, [], ◌∷◌, ◌++◌, map, length, Result, Ok, Err}
 use Rattle.flat_model.specs.Machine.Event.{Event, Reply, IsEvent, Done}
 use Rattle.flat_model.specs.Machine.State.{State}
@@ -30,7 +30,7 @@ pub record CapturedView : Type 0 where
 abbrev pub captured_of : State → Traced → ℕ → CapturedView
 captured_of machine traced line = record { machine = machine; traced = traced; line = line }
 
--- The same while a capture is played in, and for which causes its packets were dropped.
+-- The same while a capture is played, and the causes for which its packets were dropped.
 pub record ReplayView : Type 0 where
   pub seen : CapturedView
   pub causes : Table
@@ -40,7 +40,7 @@ replay_of seen causes = record { seen = seen; causes = causes }
 
 -- ---- the turns of a line
 
--- a packet that comes, or a tick
+-- a packet arrives, or a tick passes
 abbrev pub came_turn : Act → Turn
 came_turn act = turn_of (act_event act) Done
 
@@ -52,20 +52,20 @@ PlaysIn has plain turns =
     × IsAsked plain word d × IsAvailable has word file × Reads file (Ok w) × HasRange d.range (length w.records)
     × (turns ≡ map came_turn (capture_acts d w))
 
--- ---- what is printed
+-- ---- the output
 
 -- a packet counts for each cause whose counter went up by it
 abbrev pub noted_by : Act → Counters → Counters → Table → Table
 noted_by (Arrives place packet) before after causes = drops_noted place.number before after causes
 noted_by Passes before after causes = causes
 
--- whether a capture wasn't played in
+-- whether a capture couldn't be played
 abbrev pub has_failed : Result Tally CaptureFault → Bool
 has_failed (Ok tally) = false
 has_failed (Err fault) = true
 
 module _ (step : State → Event → Reply → State → Type 0) where
-  -- A packet comes or a tick passes, and the capture of the machine's packets has it. The causes for which the packet
+  -- A packet arrives or a tick passes, and the capture records the machine's packets. The causes for which the packet
   -- was dropped are noted, with the number of its record.
   abbrev pub ComesTo : ReplayView → Act → ReplayView → Type 0
   ComesTo old act new =

@@ -66,7 +66,7 @@ abbrev pub is_done : Option (List ℕ) → Bool → Bool
 is_done None failed = not failed
 is_done (Some wanted) failed = true
 
--- what is printed for a line, in the player's form: its reply, the lines below it, and the expectation
+-- the output for a line in the player's format: its reply, the lines below it, and the expectation
 abbrev pub reply_line_text : Form → Bool → List ℕ → ℕ → List ℕ → Option (List ℕ) → List ℕ → List ℕ → List ℕ
 reply_line_text form texts name number shown wanted reply_line below =
     outcome_text form texts name number shown wanted (is_sound wanted reply_line) reply_line below
@@ -81,7 +81,7 @@ stays_head (Show topic) = true
 stays_head (Capture name details) = false
 stays_head (Settings named) = true
 
--- why there is no machine of a configuration
+-- why a machine can't be booted with a configuration
 abbrev pub IsSettingRefused : Config → SettingFault → Type 0
 IsSettingRefused c settings.BadSizes = ¬ HasSizes c
 IsSettingRefused c settings.BadConfig = HasSizes c × ¬ IsConfig c
@@ -101,7 +101,7 @@ IsSettled true old named (Ok new) = IsSet old named (Ok new) × IsConfig new
 IsSettled true old named (Err fault) =
     IsSet old named (Err fault) ⊎ ((new : Config) × IsSet old named (Ok new) × IsSettingRefused new fault)
 
--- a line of settings prints `ok`, and the machine is a new one; or it prints what is wrong
+-- a line of settings prints `ok`, and the machine is a new one; or it prints the error
 abbrev pub ReportsSettled : Play → List ℕ → Option (List ℕ) → Result Config SettingFault → List ℕ → Play → Type 0
 ReportsSettled now shown wanted (Ok c) text new =
     (text ≡ reply_line_text now.form now.texts now.name now.number shown wanted (codes "ok") [])
@@ -139,7 +139,7 @@ module _ (step : State → Event → Reply → State → Type 0) where
     pub captured : Captures now.number now.traced (turns_with (replicate ticks Tick) Done) mid.traced
     pub is : mid ≡ record now { machine = mid.machine; traced = mid.traced; head = now.head && ticks == 0 }
 
--- the same, where `has` says which bytes the file of a name may have
+-- the same; `has` says which bytes the file of a name may have
 module _ (step : State → Event → Reply → State → Type 0) (has : List ℕ → List ℕ → Type 0) where
   -- What may be printed for a request, and whether it has failed, which only a capture can.
   abbrev pub ReportsAsk : Ask → CapturedView → Bool → List ℕ → CapturedView → Type 0
@@ -150,7 +150,7 @@ module _ (step : State → Event → Reply → State → Type 0) (has : List ℕ
       (new.machine ≡ old.machine) × (new.traced ≡ old.traced) × (failed ≡ false)
   ReportsAsk (Capture name details) old failed text new =
       (causes : Table) × IsPlayed step has details name old failed text causes new
-  -- not reported this way: see TellsSettings
+  -- not specified here: see ReportsSettings
   ReportsAsk (Settings named) old failed text new = ⊥
 
   -- What a line with this request, other than settings, may print. The lines below the reply aren't specified.
@@ -175,13 +175,13 @@ module _ (step : State → Event → Reply → State → Type 0) (has : List ℕ
       ReportsDone ask now shown wanted text new
       ⊎ ((named : List (List ℕ)) × (ask ≡ Settings named) × ReportsSettings now shown named wanted text new)
 
-  -- what a plain line may have as its text
+  -- the possible output for a plain line
   abbrev pub ReportsAsked : Play → List ℕ → List ℕ → Option (List ℕ) → List ℕ → Play → Type 0
   ReportsAsked now shown plain wanted text new =
       (ask : Option Ask) × AsksFor plain ask × ReportsLine ask now shown plain wanted text new
 
-  -- What a line of some kind may print, where `now` has its number. If it makes a request, `ticks` pass first. The part
-  -- of the line that was parsed follows `before` bytes.
+  -- The possible output for a line with this reading, where `now` has its number. If it makes a request, `ticks` pass
+  -- first. The part of the line that was parsed follows `before` bytes.
   abbrev pub ReportsReading : Play → ℕ → ℕ → Reading → List ℕ → Play → Type 0
   ReportsReading now ticks before Nothing text new = (text ≡ []) × (new ≡ now)
   ReportsReading now ticks before TooLong text new =
@@ -193,7 +193,7 @@ module _ (step : State → Event → Reply → State → Type 0) (has : List ℕ
   ReportsReading now ticks before (Asks shown plain wanted) text new =
       (mid : Play) × IsWaited step ticks now mid × ReportsAsked mid shown plain wanted text new
 
-  -- a line with its time, or what is wrong with that
+  -- a line with its time, or the error in the time
   abbrev pub ReportsTimed : Play → List ℕ → Result TimedView SyntaxError → List ℕ → Play → Type 0
   ReportsTimed now line (Err error) text new =
       (text ≡ line_error_text now.form now.name now.number error) × (new ≡ record now { sound = false })
@@ -213,8 +213,8 @@ play_fault_status Read = 4
 play_fault_status Write = 4
 play_fault_status TooManyLines = 4
 
--- 0 exactly if all lines were served, all of them made requests, all captures were played that weren't expected to
--- fail, and all expectations were met
+-- 0 if all lines were served, all of them made requests, all captures were played that weren't expected to fail, and
+-- all expectations were met; otherwise another number
 abbrev pub play_status : Result Unit RunFault → Bool → ℕ
 play_status (Ok done) true = 0
 play_status (Ok done) false = 1

@@ -1,4 +1,4 @@
--- The run that a script makes (this project's own).
+-- The run of a machine that a script describes (this project's own).
 use Rattle.std.specs.Prelude.{◌≡◌, ◌⊎◌, ℕ, true, List, [], ◌∷◌, ◌++◌, replicate, Result, Ok, Err}
 use Rattle.flat_model.specs.Machine.Event.{Event, Reply, Tick, Done}
 use Rattle.flat_model.specs.Machine.Ledger.{exact_ledger}
@@ -35,12 +35,12 @@ ArePlayedTurns has ticks (Faulty error) turns = turns ≡ []
 ArePlayedTurns has ticks (Asks shown plain wanted) turns =
     (rest : List Turn) × (turns ≡ replicate ticks (turn_of Tick Done) ++ rest) × AreAskedTurns has plain rest
 
--- of a line with its time
+-- the same for a line with its time
 abbrev pub AreTimedTurns : (List ℕ → List ℕ → Type 0) → List ℕ → Result TimedView SyntaxError → List Turn → Type 0
 AreTimedTurns has line (Err error) turns = turns ≡ []
 AreTimedTurns has line (Ok t) turns = ArePlayedTurns has t.ticks (reading_part line t.part) turns
 
--- the turns that these lines make, a list of them for each line
+-- the turns of these lines, one list for each line
 abbrev pub AreAllTurns : (List ℕ → List ℕ → Type 0) → List (List ℕ) → List (List Turn) → Type 0
 AreAllTurns has [] turns = turns ≡ []
 AreAllTurns has (line ∷ lines) [] = ⊥
@@ -54,7 +54,7 @@ all_turns (first ∷ rest) = first ++ all_turns rest
 
 -- ---- settings
 
--- the configuration after a line in the head: as it was, or what the line's settings make of it
+-- the configuration after a line in the head: unchanged, or with the line's settings
 abbrev pub MaySet : Reading → Config → Config → Type 0
 MaySet Nothing old new = new ≡ old
 MaySet TooLong old new = new ≡ old

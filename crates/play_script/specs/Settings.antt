@@ -34,7 +34,7 @@ setting_named word =
 
 -- ---- one setting
 
--- before the first one of a line
+-- before the first setting of a line
 abbrev pub drafted : Config → Draft
 drafted config = record { config = config; addr = false; bcast = false }
 

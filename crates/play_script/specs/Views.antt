@@ -1,4 +1,4 @@
--- What values of the code's own types represent (this project's own).
+-- The meaning of the code's own types (this project's own).
 use Rattle.std.specs.Prelude.{ℕ, ◌≤◌, List, ◌++◌, codes, if◌then◌else◌, Option, Some, None}
 use Rattle.flat_model.specs.Scripts.Grammar.{words}
 use Rattle.flat_model.specs.Scripts.Texts.{hex_text}
@@ -16,11 +16,11 @@ use Rattle.play_script.specs.declared.line.Line.{Line}
 
 -- ---- lines
 
--- what is expected of a line
+-- the expectation of a line
 abbrev pub expected_on : Line → Option (List ℕ)
 expected_on line = if_there line.expects line.wanted
 
--- the plain line of a line: its words, or `rx` and the packet that they name
+-- the plain line of a line: its words, or `rx` and the packet that they describe
 abbrev pub plain_line : Line → List ℕ
 plain_line line = if line.named then codes "rx " ++ hex_text line.packet else line.words
 

@@ -1,4 +1,4 @@
-//! What a line makes a machine do, and the machine's reply.
+//! The action of a line on a machine, and the machine's reply.
 ghost use Rattle.std.specs.Prelude.{◌≡◌, ◌≤◌, length, replicate, IfSome};
 ghost use Rattle.params.specs.declared.TheConstants.{IP_MAX_PACKET};
 ghost use Rattle.flat_model.specs.Machine.Event.{Done, Tick};
@@ -15,7 +15,7 @@ use net_stack::Stack;
 use request::{Reply, Request};
 use stack_call::call;
 
-/// What a line makes a machine do.
+/// The action of a line on a machine.
 #[derive(Clone, Copy)]
 pub(crate) enum Action<'a> {
     /// One call.

@@ -46,7 +46,7 @@ impl<T: Sink> Capture<T> {
         }
     }
 
-    /// Records the packet that arrived or left, if one did, and lets this many ticks pass.
+    /// Records the packet that arrived or left, if there is one, and lets this many ticks pass.
     pub(crate) fn note(&mut self, moved: Option<&[u8]>, ticks: u32)
         requires { IfSome moved (λ p. length p.now ≤ IP_MAX_PACKET) }
         ensures line { self.new.line ≡ self.old.line }

@@ -24,23 +24,23 @@ pub enum Kind {
     Nothing,
     /// It has more bytes than a line may have.
     TooLong,
-    /// It has bytes that can't be read, or words that name no packet.
+    /// It has bytes that can't be parsed, or words that don't describe a packet.
     Faulty(SyntaxError),
     /// A line with a request or an expectation.
     Asks,
 }
 
-/// A line that was read, and the memory for it.
+/// A line that was parsed, and the memory for it.
 #[derive(Drop)]
 pub struct Line {
     /// The line as it's written.
     pub shown: Buffer<LONGEST>,
     /// Its words, as in its plain line.
     pub words: Buffer<LONGEST>,
-    /// Whether its words name a packet, and that packet.
+    /// Whether its words describe a packet, and that packet.
     pub named: bool,
     pub packet: Buffer<PACKET>,
-    /// Whether something is expected, and its words.
+    /// Whether it has an expectation, and its words.
     pub expects: bool,
     pub wanted: Buffer<LONGEST>,
 }
@@ -68,7 +68,7 @@ impl Line {
         })
     }
 
-    /// Replaces the words by the plain line, with the digits of a packet that they name.
+    /// Replaces the words by the plain line, with the digits of a packet that they describe.
     pub(crate) fn write_number(&mut self, digits: &mut [u8])
         requires { length digits.old ≡ 2 * IP_MAX_PACKET }
         ensures { self.new ≡ record (self.old) { words = plain_line self.old } }
@@ -108,7 +108,7 @@ fn without_tail(text: &[u8]) -> &[u8]
     }
 }
 
-/// Returns a text without the space in front.
+/// Returns a text without the space at its beginning.
 fn without_head(text: &[u8]) -> &[u8]
     ensures is { result.now ≡ unheaded text.now }
     ensures shorter { length result.now ≤ length text.now }
@@ -164,7 +164,7 @@ fn cut(text: &[u8]) -> (&[u8], Option<&[u8]>)
     }
 }
 
-/// Moves the column of an error in a part of a line, which `before` bytes precede.
+/// Moves the column of an error in a part of a line, which follows `before` bytes.
 pub fn shift_column(error: SyntaxError, before: u64) -> SyntaxError
     ensures { result ≡ lines.shifted before error }
 {
@@ -175,7 +175,7 @@ pub fn shift_column(error: SyntaxError, before: u64) -> SyntaxError
 }
 
 /// Parses the part of a line after its time and the name of its host, into `line`: the whole line as it's written, the
-/// words of the plain line or the packet that they name, and the words that are expected.
+/// words of the plain line or the packet that they describe, and the words that are expected.
 pub fn read_part(whole: &[u8], text: &[u8], reader: &mut LineReader, line: &mut Line) -> Kind
     requires { length text.now ≤ length whole.now }
     ensures { reading_part whole.now text.now ≡ is_reading result line.new }

@@ -38,7 +38,7 @@ pub fn put_drops(text: &mut Buffer<DROPS>, before: &Counters, after: &Counters)
     }
 }
 
-/// Writes a reply and the causes `drops` into a buffer. `digits` is scratch memory for digits.
+/// Writes a reply and the causes `drops` into a buffer. `digits` is a buffer for digits.
 pub(crate) fn put_reply_line(
     text: &mut Buffer<REPLY_LINE>,
     digits: &mut [u8],

@@ -79,7 +79,7 @@ impl Report {
         self.below.clear();
     }
 
-    /// Sets the advice on a line that is no request to this player. Its words are replaced by its plain line.
+    /// Sets the advice on a line that isn't a request to this player. Its words are replaced by its plain line.
     pub fn set_advice(&mut self, player: Player, line: &mut Line)
         ensures below { self.new.below ≡ self.old.below }
         ensures quiet { self.new.quiet ≡ self.old.quiet }

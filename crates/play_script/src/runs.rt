@@ -41,8 +41,9 @@ pub struct Played {
 }
 
 impl Played {
-    /// Returns the exit status of the program: 0 if `sound` and the script was played to its end, 1 if not `sound`; 3
-    /// if there is no machine; 4 if reading or writing failed or the script has too many lines (this project's own).
+    /// Returns the exit status of the program: 0 if `sound` and the script was played to its end; 1 if not `sound`;
+    /// 3 if the machine can't be booted; 4 if reading or writing failed or the script has too many lines (this
+    /// project's own).
     pub fn status(&self) -> u8
         ensures { result ≡ play_status self.now.outcome self.now.sound }
     {
@@ -213,8 +214,8 @@ fn play_untraced<R: Source, W: Sink>(
 /// # Errors
 ///
 /// `BadSizes` if `config` has no mbuf, more than 65,535 mbufs or more than 4,096 clusters; otherwise `BadConfig` if its
-/// MTU isn't 68 to 4352, an address isn't that of a host, or both addresses are the same; otherwise `Memory` if host
-/// memory is lacking. In these cases nothing was read or written.
+/// MTU isn't 68 to 4352, an address isn't that of a host, or both addresses are the same; otherwise `Memory` if the
+/// host refuses memory. In these cases nothing was read or written.
 ///
 /// `Read` if the reader returns an error; each whole line before it was executed and its reply written. `Write` if the
 /// writer returns an error, or writes none of the bytes that it is given; the beginning of the replies was written.

@@ -1,4 +1,4 @@
--- Laws of lines that ask to be shown something.
+-- Laws of lines that request to be shown something.
 use Rattle.std.proofs.Common.{◌≡◌, ℕ, ◌⊎◌, Bool, true, false, List, [], ◌∷◌, if◌then◌else◌, codes, bytes_eq, Option, Some, None, inl, inr, refl, ap, ◌∙◌}
 use Rattle.std.proofs.lemmas.Slice.Eq.{bytes_eq-Decides}
 use Rattle.flat_model.specs.Scripts.Grammar.{words}
@@ -17,7 +17,7 @@ by_text : (plain text : List ℕ) (rest : List (List ℕ)) → words text ≡ co
     → (more : List (List ℕ)) × (words plain ≡ codes "show" ∷ more)
 by_text plain text rest is same = (rest, ap words ((bytes_eq-Decides plain text).0 same) ∙ is)
 
--- a line that asks to be shown something begins with that word
+-- a line that requests to be shown something begins with the word `show`
 pub begins_with_show : (plain : List ℕ) (topic : Topic) → topic_asked plain ≡ Some topic
     → (rest : List (List ℕ)) × (words plain ≡ codes "show" ∷ rest)
 begins_with_show plain topic e =

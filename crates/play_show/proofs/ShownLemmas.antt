@@ -1,4 +1,4 @@
--- What is looked at of a stack.
+-- A snapshot has the counters and the usage of its state.
 use Rattle.std.proofs.Common.{◌≡◌, ◌∙◌}
 use Rattle.flat_model.specs.Machine.Event.{Ask_usage, Counted, Shown}
 use Rattle.flat_model.specs.Machine.State.{State}

@@ -1,4 +1,4 @@
--- Looks at a machine, and what happened between two of them (this project's own).
+-- Snapshots of a machine, and what happened between two of them (this project's own).
 use Rattle.std.specs.Prelude.{◌≡◌, ℕ, ◌+◌, ◌-◌, ◌<◌, false, Bool, List, length, get_or, nat_lt, if◌then◌else◌, Result, Ok, Err}
 use Rattle.params.specs.declared.TheConstants.{FIRST_DESCRIPTOR, MAX_SOCKETS}
 use Rattle.flat_model.specs.Machine.Count.{value_of}
@@ -16,15 +16,15 @@ use Rattle.play_show.specs.declared.changes.Change.TheVariants as change
 use Rattle.play_show.specs.declared.changes.Effect.{Effect}
 use Rattle.play_show.specs.declared.snapshot.Snapshot.{Snapshot}
 
--- ---- a look
+-- ---- a snapshot
 
 -- how many datagrams wait in a socket
 abbrev pub waiting_of : Result NextDatagram Errno → ℕ
 waiting_of (Ok next) = next.waiting
 waiting_of (Err errno) = 0
 
--- What is looked at of a state: its counters and its pool, the packets that wait for the link, and the datagrams that
--- wait in each socket.
+-- A snapshot of a state: its counters and its pool, the number of packets that wait for the link, and the number of
+-- datagrams that wait in each socket.
 pub record IsSnapshot (step : State → Event → Reply → State → Type 0) (s : State) (x : Snapshot) : Type 0 where
   pub counters : step s Ask_counters (Counted x.counters) s
   pub usage : step s Ask_usage (Shown x.usage) s
@@ -37,7 +37,7 @@ pub record IsSnapshot (step : State → Event → Reply → State → Type 0) (s
 abbrev pub risen : Counter → Counters → Counters → ℕ
 risen counter before after = value_of counter after - value_of counter before
 
--- fewer are free than before, or more
+-- the number of free buffers went down, or up
 abbrev pub change_of : ℕ → ℕ → Change
 change_of before after =
     if nat_lt after before then change.Taken (before - after) else

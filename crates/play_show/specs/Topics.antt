@@ -1,9 +1,9 @@
--- What a line asks to be shown (this project's own).
+-- What a line requests to be shown (this project's own).
 use Rattle.std.specs.Prelude.{ℕ, List, if◌then◌else◌, codes, bytes_eq, Option, Some, None}
 use Rattle.play_show.specs.declared.topic.Topic.{Topic}
 use Rattle.play_show.specs.declared.topic.Topic.TheVariants as topic
 
--- what a plain line asks to be shown, which has one space between each two words
+-- what a plain line requests to be shown; it has one space between each two words
 abbrev pub topic_asked : List ℕ → Option Topic
 topic_asked plain =
     if bytes_eq plain (codes "show sockets") then Some topic.Sockets else

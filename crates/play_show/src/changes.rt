@@ -12,7 +12,7 @@ use play_text::Piece::{Amount, Long, Number, Text};
 use play_text::{CAUSES, Fate, add, add_fate, add_packet, drops_between, fate_of};
 use script_loop::Buffer;
 
-/// The most packets of a send that are printed; for more than these, only their number is.
+/// The most packets of a send that are printed; if there are more, only their number is printed.
 const MOST_SENT: u32 = 16;
 
 /// How the number of free buffers changed.
@@ -41,11 +41,11 @@ pub struct Effect {
     pub sent: u32,
     /// How many unfinished datagrams were dropped after their 60 ticks.
     pub timed_out: u64,
-    /// How many unfinished datagrams were dropped for their buffers.
+    /// How many unfinished datagrams were dropped because their buffers were reclaimed.
     pub reclaimed: u64,
-    /// How many mbufs were taken from the pool or given back.
+    /// How many mbufs were taken from the pool or returned to it.
     pub mbufs: Change,
-    /// How many clusters were taken from the pool or given back.
+    /// How many clusters were taken from the pool or returned to it.
     pub clusters: Change,
 }
 
@@ -165,7 +165,7 @@ fn put_lost(text: &mut Buffer<SHOWN>, count: u64, what: &[u8]) {
     }
 }
 
-/// Appends a line if mbufs or clusters were taken or given back.
+/// Appends a line if mbufs or clusters were taken or returned.
 fn put_change(text: &mut Buffer<SHOWN>, change: Change, what: &[u8]) {
     let front = Text(b"    ");
     match change {
@@ -176,7 +176,7 @@ fn put_change(text: &mut Buffer<SHOWN>, change: Change, what: &[u8]) {
 }
 
 /// Writes what an event changed into a buffer, by the snapshots of the machine before and after it; `packet` is the one
-/// that came from the link or went to it. Each of these is a line with its line feed: the packet's headers; what
+/// that arrived or left. Each of these is a line with its line feed: the packet's headers; what
 /// happened to its fragment; each socket to which a datagram was delivered; the number of packets that were sent, and
 /// the headers of the first 16, which are read from the machine; the number of unfinished datagrams that were dropped;
 /// and the numbers of mbufs and clusters taken or returned. What didn't change has no line. The old contents of the

@@ -7,7 +7,7 @@ use play_text::Piece::{Address, Amount, Either, End, Number, Text};
 use play_text::add;
 use script_loop::Buffer;
 
-/// Appends what a socket is bound and connected to, with a star for what isn't set.
+/// Appends what a socket is bound and connected to, with a star for each part that isn't set.
 fn put_ends(text: &mut Buffer<SHOWN>, name: SocketName) {
     let star = Text(b"*");
     let ip = match name.local {
@@ -24,7 +24,7 @@ fn put_ends(text: &mut Buffer<SHOWN>, name: SocketName) {
     }
 }
 
-/// Appends how many datagrams wait in a socket, who sent the oldest one, and how many bytes wait in all.
+/// Appends how many datagrams wait in a socket, the sender of the oldest one, and how many bytes wait in all.
 fn put_waiting(
     text: &mut Buffer<SHOWN>,
     next: Result<NextDatagram, Errno>,

@@ -5,13 +5,13 @@ use play_text::Piece::{Amount, Either, Long, Number, Text, Way};
 use play_text::add;
 use script_loop::Buffer;
 
-/// The most unfinished datagrams that are printed; for more than these, only their number is.
+/// The most unfinished datagrams that are printed; if there are more, only their number is printed.
 const MOST_DATAGRAMS: u32 = 32;
 
 /// The most ranges of a datagram that are printed.
 const MOST_RANGES: u32 = 16;
 
-/// Appends a range: its first byte and its last one, and whether it ends its datagram.
+/// Appends a range: its first and last byte, and whether it ends its datagram.
 fn put_range(text: &mut Buffer<SHOWN>, range: HeldRange) {
     let past = u64::from(range.offset) + u64::from(range.len);
     add(

@@ -1,4 +1,4 @@
--- How many bytes in front of two lists are the same.
+-- How many leading bytes two lists have in common.
 use Rattle.std.proofs.Common.{◌≡◌, ℕ, ◌+◌, ◌<◌, ◌≤◌, true, List, [], ◌∷◌, length, drop, get_or, inl, inr, refl, sym, ap, ap₂, ◌∙◌, arith}
 use Rattle.std.specs.Prelude.{◌/◌, ◌&&◌, ◌||◌, Bool, ◌++◌, codes, decimal, min, nat_lt}
 use Rattle.std.proofs.lemmas.Bool.{cases_lt}
@@ -21,7 +21,7 @@ alike_ends a b at h =
           ap (λ (t : List ℕ). alike (drop at a) t) (drop_all at b (omega (arith, h, lt))) ∙ none_left (drop at a)
     ]
 
--- one list is cut, and none of them ends where they differ
+-- one list is abbreviated, and neither of them ends at the first difference
 abbrev are_apart : List ℕ → List ℕ → ℕ → Bool
 are_apart a b same = (is_long a || is_long b) && nat_lt same (min (length a) (length b))
 

@@ -1,4 +1,4 @@
--- Where the causes of drops begin.
+-- The position at which the causes of drops begin.
 use Rattle.std.proofs.Common.{◌≡◌, ℕ, suc, ◌+◌, ◌<◌, false, List, ◌∷◌, length, drop, get_or, codes, refl, sym, ap, ◌∙◌, arith}
 use Rattle.std.proofs.lemmas.List.{drop_more}
 use Rattle.play_text.specs.Bytes.{begins_with}

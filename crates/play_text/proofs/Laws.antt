@@ -1,4 +1,4 @@
--- A list whose elements are those of another one by a function.
+-- A list whose elements are a function of those of another list.
 use Rattle.std.proofs.Common.{◌≡◌, ℕ, suc, ◌<◌, List, [], ◌∷◌, length, get_or, map, refl, ap₂, arith}
 use Rattle.play_text.specs.declared.table.Row.{Row}
 use Rattle.play_text.specs.declared.table.Table.{Table}

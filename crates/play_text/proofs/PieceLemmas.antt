@@ -11,7 +11,7 @@ behind text front (piece ∷ pieces) =
     ap (λ (t : List ℕ). pieces_after t pieces) (append_assoc text front (piece_text piece))
     ∙ behind text (front ++ piece_text piece) pieces
 
--- once all pieces stand behind the text
+-- all pieces were appended to the text
 pub all_put : (pieces : List Piece) (i : ℕ) (old new : List ℕ) → length pieces ≤ i
     → pieces_after new (drop i pieces) ≡ pieces_after old pieces
     → new ≡ old ++ text_of pieces
@@ -30,12 +30,12 @@ next_room : (pieces : List Piece) (i : ℕ) (d : Piece) → i < length pieces
     → pieces_room (drop i pieces) ≡ piece_room (get_or pieces i d) + pieces_room (drop (i + 1) pieces)
 next_room pieces i d lt = ap pieces_room (drop_more pieces i d lt)
 
--- there is room for the next piece
+-- there is space for the next piece
 pub next_fits : (pieces : List Piece) (i : ℕ) (d : Piece) (mid whole n : ℕ) → i < length pieces
     → mid + pieces_room (drop i pieces) ≤ whole → whole ≤ n → mid + piece_room (get_or pieces i d) ≤ n
 next_fits pieces i d mid whole n lt h le = omega (arith, next_room pieces i d lt)
 
--- and for those behind it
+-- and for the pieces after it
 pub others_fit : (pieces : List Piece) (i : ℕ) (d : Piece) (mid new whole : ℕ) → i < length pieces
     → mid + pieces_room (drop i pieces) ≤ whole → new ≤ mid + piece_room (get_or pieces i d)
     → new + pieces_room (drop (i + 1) pieces) ≤ whole

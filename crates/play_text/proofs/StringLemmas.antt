@@ -1,4 +1,4 @@
--- A string is read back.
+-- A string can be read back.
 use Rattle.std.proofs.Common.{◌≡◌, ℕ, suc, ◌/◌, ◌%◌, ◌<◌, ◌≤◌, ◌⊎◌, List, [], ◌∷◌, ◌++◌, All, Some, inl, inr, refl, sym, ap, ◌∙◌, subst, arith, append_assoc, flat_map}
 use Rattle.std.proofs.lemmas.Bool.{cases_eq, cases_lt, ne_eqb, le-ltb, lt-ltb, lt-leb}
 use Rattle.std.proofs.lemmas.Str.{digit_value-digit_char, encode_ascii}
@@ -25,7 +25,7 @@ coded : (byte : ℕ) (r : List ℕ) → byte < 256
 unfolding content
 coded byte r h = rw (unit byte h, lt-leb 55296 byte (omega (arith, h)), lt-leb 56320 byte (omega (arith, h))) refl
 
--- what is read of the escape of a byte, before any text
+-- reading the escape of a byte before any text gives the byte, and then the text
 abbrev Reads : ℕ → Type 0
 Reads byte = (r : List ℕ) → content plain (escaped_byte byte ++ r) ≡ prepend (encode_utf8 byte) (content plain r)
 

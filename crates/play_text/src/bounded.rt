@@ -12,7 +12,7 @@ use crate::time::{TIME, put_time};
 use params::IP_MAX_PACKET;
 use script_loop::Buffer;
 
-/// The line that ends a text from which something is left out for want of room.
+/// The line that ends a text from which something was left out because the buffer was full.
 const CUT: &[u8] = b"    (cut)\n";
 
 /// The size of a buffer for a packet in words, for what happened to its fragment, and for a frame in words.
@@ -22,7 +22,7 @@ const FATE: usize = 100;
 
 const FRAME: usize = 214;
 
-/// Returns whether a piece has no more bytes than there is room for.
+/// Returns whether there is space for a piece.
 fn fits(piece: &Piece<'_>, space: usize) -> bool
     ensures { IsTrue result → piece_room piece.now ≤ space }
 {
@@ -42,22 +42,22 @@ fn is_cut<const N: usize>(text: &Buffer<N>) -> bool {
     text.as_slice().ends_with(CUT)
 }
 
-/// Returns how many more bytes fit, besides the line that ends a text that is cut.
+/// Returns how many more bytes fit, before the line that ends a text that was cut.
 fn space_in<const N: usize>(text: &Buffer<N>) -> usize
     ensures { result + length text.now ≤ N }
 {
     (N - text.len()).saturating_sub(CUT.len())
 }
 
-/// Ends a text from which something is left out.
+/// Ends a text from which something was left out.
 fn cut<const N: usize>(text: &mut Buffer<N>) {
     if N - text.len() >= CUT.len() {
         text.append(CUT);
     }
 }
 
-/// Appends pieces, one after another, as far as there is room for them. If a piece has no room, the line `(cut)` ends
-/// the text, and nothing is put after it any more.
+/// Appends pieces, one after another, as long as there is space for them. If there is no space for a piece, the line
+/// `(cut)` ends the text, and nothing more is appended.
 pub fn add<const N: usize>(text: &mut Buffer<N>, pieces: &[Piece<'_>]) {
     if is_cut(text) {
         return;

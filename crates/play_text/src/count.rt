@@ -1,4 +1,4 @@
-//! How often something came, and in which record first.
+//! How often something occurred, and in which record first.
 ghost use Rattle.std.specs.Prelude.{◌≡◌, ◌+◌, ◌≤◌, ◌++◌, length};
 ghost use Rattle.play_text.specs.Tables as tables;
 ghost use Rattle.play_text.specs.Tables.{drops_line, never};
@@ -10,17 +10,17 @@ use script_loop::Buffer;
 /// How many bytes more than its words the line of a count has at most.
 pub const COUNT: usize = 80;
 
-/// How often something came, and in which record first.
+/// How often something occurred, and in which record first.
 #[derive(Clone, Copy)]
 pub struct Count {
-    /// How often. At its greatest value it stays there.
+    /// How often. It stays at its greatest value.
     pub count: u64,
-    /// The number of the first record, or 0 if it never came.
+    /// The number of the first record, or 0 if it never occurred.
     pub first: u64,
 }
 
 impl Count {
-    /// It never came.
+    /// It never occurred.
     pub fn never() -> Count
         ensures { result ≡ never }
     {
@@ -38,8 +38,8 @@ impl Count {
     }
 }
 
-/// Appends a line that says how many packets were dropped for a cause, and in which record first; or nothing if none
-/// was.
+/// Appends a line that says how many packets were dropped for a cause, and in which record first. If no packet was
+/// dropped for it, nothing is appended.
 pub fn put_count<const N: usize>(text: &mut Buffer<N>, count: Count, what: &[u8])
     requires { length text.old + (length what.now + COUNT) ≤ N }
     ensures items { text.new ≡ text.old ++ drops_line count what.now }

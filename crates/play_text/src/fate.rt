@@ -12,7 +12,7 @@ pub enum Fate {
     Whole,
     /// The machine keeps it until its datagram is whole.
     Kept,
-    /// It was dropped, or the packet is no fragment.
+    /// It was dropped, or the packet isn't a fragment.
     Other,
 }
 

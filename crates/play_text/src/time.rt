@@ -25,7 +25,7 @@ fn six_digits(n: u32) -> [u8; 6]
     ]
 }
 
-/// Appends a time in nanoseconds as seconds with six decimals; the rest is cut off.
+/// Appends a time in nanoseconds as seconds with six decimals, rounded down.
 #[tactic(auto, unfolding(crate::specs::Times::time_text))]
 pub fn put_time<const N: usize>(text: &mut Buffer<N>, time: u64)
     requires { length text.old + TIME ≤ N }

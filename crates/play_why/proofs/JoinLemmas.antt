@@ -64,7 +64,7 @@ unfolding overlay
 lies_outside bytes f k None e w = rw (e, w) refl
 lies_outside bytes f k (Some held) e w = rw (e, w) refl
 
--- there is nothing past the fragment where nothing was
+-- if no byte was at an offset after the fragment, there still is none
 pub none_past : (bytes : Map) (f : Fragment) (k : ℕ) → fragment_end f ≤ k → bytes k ≡ None → overlay bytes f k ≡ None
 none_past bytes f k past none =
     sym (lies_outside bytes f k None none (outside_range (nat_le f.offset k) (nat_lt k (fragment_end f))
@@ -74,7 +74,7 @@ none_past bytes f k past none =
     outside_range true b e = e
     outside_range false b e = refl
 
--- a fragment behind all bytes changes nothing in front of it
+-- a fragment after all bytes changes nothing before it
 pub unchanged : (bytes : Map) (f : Fragment) (k n : ℕ) → IfSome (bytes k) (λ held. held.piece.first ≤ n) → n ≤ f.offset
     → k < f.offset → bytes k ≡ overlay bytes f k
 unchanged bytes f k n first behind before = go (bytes k) refl first
@@ -118,7 +118,7 @@ first_most bytes f k n first end = go (is_within f k) (bytes k) first
         (if s then record held { piece = record (held.piece) { first = fragment_end f } } else held).piece.first ≤ n)
         [ true ↦ end | false ↦ h ]
 
--- the bytes are within what the fragments reach
+-- all pieces begin within the reach of the fragments
 pub firsts_most : (old new : List (Option Spot)) (reach later : ℕ) (f : Fragment)
     → ((k : ℕ) → spots_map new k ≡ overlay (spots_map old) f k) → later ≡ max reach (fragment_end f)
     → IsWithin old reach → (k : ℕ) → IfSome (spots_map new k) (λ held. held.piece.first ≤ later)
@@ -131,7 +131,7 @@ firsts_most old new reach later f laid is within k =
     further None h = tt
     further (Some it) h = omega (arith, is, h)
 
--- ---- the same bytes give the same
+-- ---- equal maps give equal results
 
 first_same : (a b : Map) (f : Fragment) → ((k : ℕ) → a k ≡ b k) → first_owned a f ≡ first_owned b f
 unfolding first_owned
@@ -156,7 +156,7 @@ overlay_same a b f k same =
     ap (λ (old : Option Held). lies a f k (is_within f k) old) (same k)
     ∙ lies_same a b f k (is_within f k) (b k) (first_same a b f same)
 
--- ---- one fragment more
+-- ---- one more fragment
 
 laid_more : (bytes : Map) (fs : List Fragment) (f : Fragment) (k : ℕ)
     → overlay (laid_over bytes fs) f k ≡ laid_over bytes (fs ++ f ∷ []) k

@@ -1,4 +1,4 @@
--- One unfinished datagram more.
+-- One more unfinished datagram.
 use Rattle.std.proofs.Common.{◌≡◌, ℕ, ◌+◌, Bool, false, List, refl, sym, ap, ◌∙◌, add-one}
 use Rattle.std.specs.Prelude.{◌||◌}
 use Rattle.flat_model.specs.Machine.State.{Unfinished}

@@ -5,7 +5,7 @@ use Rattle.flat_model.specs.Machine.State.{State}
 use Rattle.play_why.specs.Judged.{IsTick, Led}
 use Rattle.stack_call.specs.Moves.{StackSteps}
 
--- a tick in front of others
+-- one tick before others
 pub Led-tick : (n m : ℕ) (a b c : State) → 0 < n → m ≡ n - 1 → StackSteps a Tick Done b
     → Led IsTick (replicate m Tick) b c → Led IsTick (replicate n Tick) a c
 Led-tick zero m a b c some is step rest = absurd (omega (arith, some))

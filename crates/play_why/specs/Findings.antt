@@ -1,5 +1,5 @@
--- The verdict on a packet (this project's own). `a` and `b` are what was counted before it and after it, and `s` is the
--- state after it, in which only the datagrams wait that it brought.
+-- The verdict on a packet (this project's own). `a` and `b` are the counters before it and after it, and `s` is the
+-- state after it, whose sockets have only datagrams that it brought.
 use Rattle.std.specs.Prelude.{◌≡◌, ◌≤◌, ◌<◌, ℕ, ◌+◌, ◌==◌, ◌&&◌, nat_le, nat_lt, List, length, map, get_or, if◌then◌else◌, Option, Some, None, Result, Ok, Err}
 use Rattle.params.specs.declared.TheConstants.{FIRST_DESCRIPTOR, MAX_SOCKETS}
 use Rattle.flat_model.specs.Machine.Count.{counter_of}
@@ -29,8 +29,8 @@ pub record IsSeen (r : Seen) : Type 0 where
 
 -- ---- causes
 
--- Who is to blame for a cause: a capture that kept a part of the record, a sender's card that was to fill in the
--- checksum, or the packet as it was on the wire.
+-- Who is to blame for a cause: the capture, if it has only a part of the packet; the sender's network card, if that
+-- should have filled in the checksum; or the packet as it was on the wire.
 abbrev pub blame_short : Seen → Blame
 blame_short r = if nat_lt r.captured r.original then Capture else Packet
 
@@ -55,7 +55,7 @@ finding_if r a b ours why =
     })
     else None
 
--- what is found of each cause
+-- the finding for each cause
 abbrev pub findings_of : Seen → Counters → Counters → ℕ → List (Option Finding)
 findings_of r a b ours = map (finding_if r a b ours) all_causes
 

@@ -1,4 +1,4 @@
--- The bytes of a datagram, reassembled from its fragments. Each is laid over those before it as the stack does it
+-- The bytes of a datagram, reassembled from its fragments. Each is laid over those before it, as in the stack
 -- (`overlay` of flat_model; volume 2, chapter 10).
 use Rattle.std.specs.Prelude.{◌≡◌, ℕ, ◌+◌, ◌≤◌, ◌&&◌, Bool, false, cond, nat_le, nat_lt, List, [], ◌∷◌, ◌++◌, length, slice_index_or, flat_map, max, if◌then◌else◌, Option, Some, None, IfSome}
 use Rattle.flat_model.specs.Amounts.Weight.{nothing}
@@ -17,25 +17,25 @@ use Rattle.play_why.specs.declared.parts.Part.{Part}
 abbrev pub as_fragment : ℕ → List ℕ → Fragment
 as_fragment offset bytes = record { offset = offset; bytes = bytes; more = false; weight = nothing }
 
--- one that ends inside the longest datagram
+-- a fragment that ends within the longest datagram
 abbrev pub fitting : ℕ → List ℕ → List Fragment
 fitting offset bytes = if nat_le (offset + length bytes) DATAGRAM then as_fragment offset bytes ∷ [] else []
 
 abbrev pub fragment_if : FragmentKey → Part → List Fragment
 fragment_if key part = if same_key part.key key then fitting part.offset part.bytes.items else []
 
--- those of a datagram that are kept, in the order in which they arrived
+-- the fragments of a datagram that are kept, in the order in which they arrived
 abbrev pub fragments_of : FragmentKey → List Part → List Fragment
 fragments_of key = flat_map (fragment_if key)
 
--- ---- what they make
+-- ---- the reassembled bytes
 
--- each laid over those before it
+-- each fragment laid over those before it
 abbrev pub laid_over : Map → List Fragment → Map
 laid_over bytes [] = bytes
 laid_over bytes (f ∷ fs) = laid_over (overlay bytes f) fs
 
--- how far they reach
+-- the end of the fragment that reaches furthest
 abbrev pub reach_from : ℕ → List Fragment → ℕ
 reach_from n [] = n
 reach_from n (f ∷ fs) = reach_from (max n (fragment_end f)) fs

@@ -1,4 +1,4 @@
--- What the judge of a capture's records does with its machine, and its verdicts (this project's own).
+-- The steps of the machine that judges a capture's records, and the verdicts (this project's own).
 use Rattle.std.specs.Prelude.{◌≡◌, ℕ, ◌+◌, ◌-◌, ◌/◌, ◌*◌, ◌==◌, ◌||◌, Bool, List, [], ◌∷◌, length, nat_lt, if◌then◌else◌, max, min, not, Option, Some, None, replicate}
 use Rattle.params.specs.declared.TheConstants.{IP_HEADER, LIMITED_BROADCAST, LOOPBACK, MAX_CLUSTERS, MAX_MBUFS}
 use Rattle.flat_model.specs.Amounts.Choice.{Choice}
@@ -39,7 +39,7 @@ last_address ours = ours / 256 * 256 + 255
 abbrev pub broadcast_of : ℕ → ℕ
 broadcast_of ours = if last_address ours == ours then ours - 1 else last_address ours
 
--- what the machine of an address is booted with; one of the loopback network has another address beside it
+-- the configuration of the machine for an address; for the loopback address, the machine has another one
 abbrev pub machine_for : ℕ → ℕ → Config
 machine_for ours broadcast = record {
   addr = if ours == LOOPBACK then 0x0a000001 else ours;
@@ -52,7 +52,7 @@ machine_for ours broadcast = record {
 
 -- ---- its steps
 
--- by these events, each of one kind, the machine is led from a state to another, whatever it replies
+-- these events, each of one kind, lead the machine from a state to another, whatever the replies are
 abbrev pub Led : (Event → Type 0) → List Event → State → State → Type 0
 Led kind [] old new = new ≡ old
 Led kind (event ∷ events) old new =
@@ -63,8 +63,8 @@ abbrev pub IsTick : Event → Type 0
 IsTick Tick = Unit {0}
 IsTick _ = ⊥
 
--- How many ticks are due at a time, in nanoseconds, and how many of them pass if some have passed: after 61 at once
--- each unfinished datagram is gone.
+-- The number of ticks that are due at a time in nanoseconds, and the number that pass if some have passed already: at
+-- most 61, after which each unfinished datagram has expired.
 abbrev pub ticks_due : ℕ → ℕ
 ticks_due time = time / 500_000_000
 
@@ -76,7 +76,7 @@ ticks_to time passed = min (ticks_due time - passed) 61
 abbrev pub none_came : Totals
 none_came = record { packets = 0; delivered = 0; kept = 0; dropped = 0 }
 
--- a judge to which no record came yet, and that may bind this port alone, if there is one
+-- a judge before the first record; if `only` has a port, only this port may be bound
 pub record IsNew (form : Layout) (ours : ℕ) (only : Option ℕ) (judge : Judge) : Type 0 where
   pub machine : state_of judge.host.stack ≡ boot (machine_for ours (broadcast_of ours))
   pub layout : judge.layout ≡ form
@@ -97,7 +97,7 @@ is_for judge p =
     nat_lt (length p) IP_HEADER
     || (u32_at 16 p == judge.host.address || (u32_at 16 p == judge.broadcast || u32_at 16 p == LIMITED_BROADCAST))
 
--- one packet more, which was delivered, kept as a fragment, or dropped
+-- one more packet, which was delivered, kept as a fragment, or dropped
 abbrev pub counted_as : Bool → Bool → Totals → Totals
 counted_as delivered kept t =
     if delivered then record t { packets = more_by 1 t.packets; delivered = more_by 1 t.delivered }
@@ -117,7 +117,7 @@ pub record IsOf (r : Arrival) (parts : Parts) (seen : Seen) : Type 0 where
   pub packet : seen.packet.now ≡ r.packet.now
   pub whole : seen.whole.now ≡ parts.whole.bytes
 
--- The ticks passed that were due at a time. If datagrams were dropped by that, their fragments are lost.
+-- The ticks passed that were due at a time. If datagrams expired, their fragments are lost.
 pub record HasPassed (old : Judge) (time : ℕ) (new : Judge) : Type 0 where
   pub ticks : Led IsTick (replicate (ticks_to time old.ticks) Tick) (state_of old.host.stack) (state_of new.host.stack)
   pub passed : new.ticks ≡ max old.ticks (ticks_due time)
@@ -162,9 +162,9 @@ pub record IsJudged (old : Judge) (r : Arrival) (verdict : Verdict) (new : Judge
   pub address : new.host.address ≡ old.host.address
   pub broadcast : new.broadcast ≡ old.broadcast
 
--- ---- datagrams that aren't whole
+-- ---- datagrams that aren't complete
 
--- the first one is reported that was dropped and wasn't reported yet, with the records of its fragments
+-- the first datagram that was dropped and isn't reported yet is reported, with the records of its fragments
 abbrev pub ReportsLostOf : Option Loss → Option Lost → Type 0
 ReportsLostOf None None = Unit {0}
 ReportsLostOf (Some why) (Some first) = first.why ≡ why

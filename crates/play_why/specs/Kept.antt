@@ -26,11 +26,11 @@ use Rattle.play_why.specs.declared.parts.Parts.{Parts}
 abbrev pub number_if : FragmentKey → Part → List ℕ
 number_if key part = if same_key part.key key then part.number ∷ [] else []
 
--- the records of a datagram's fragments, in the order in which they came
+-- the records of a datagram's fragments, in the order in which they arrived
 abbrev pub numbers_of : FragmentKey → List Part → List ℕ
 numbers_of key = flat_map (number_if key)
 
--- those of the datagram of a packet, if it's a fragment
+-- the records for the datagram of a packet, if it's a fragment
 abbrev pub numbers_by : Option FragmentKey → List Part → List ℕ
 numbers_by None parts = []
 numbers_by (Some key) parts = numbers_of key parts
@@ -46,7 +46,7 @@ unfoldable pub unfinished_below : ℕ → FragmentKey → List Unfinished → Bo
 unfinished_below zero key us = false
 unfinished_below (suc n) key us = unfinished_below n key us || has_same_key key (nth_unfinished n us)
 
--- one of all has it
+-- one of all unfinished datagrams has it
 abbrev pub is_unfinished : FragmentKey → List Unfinished → Bool
 is_unfinished key us = unfinished_below (length us) key us
 
@@ -82,7 +82,7 @@ pub record Gathers (p : List ℕ) (old new : Parts) : Type 0 where
   pub kept : new.kept.items ≡ old.kept.items
   pub lost : new.lost.items ≡ old.lost.items
 
--- those of a datagram were
+-- the records of a datagram's fragments were gathered
 pub record GathersOf (key : FragmentKey) (old new : Parts) : Type 0 where
   pub numbers : new.numbers.items ≡ numbers_of key old.kept.items
   pub kept : new.kept.items ≡ old.kept.items
@@ -103,14 +103,14 @@ abbrev pub joined_by : Option FragmentKey → List ℕ → List Part → List �
 joined_by None p parts = []
 joined_by (Some key) p parts = joined_of key p parts
 
--- A packet arrived: if it completed a datagram that was dropped, that is reassembled.
+-- A packet arrived: if it completed a datagram that was dropped, the datagram's bytes are reassembled.
 pub record Joins (p : List ℕ) (a b : Counters) (old new : Parts) : Type 0 where
   pub bytes : new.whole.bytes ≡ joined_by (dropped_key a b p) p old.kept.items
   pub kept : new.kept.items ≡ old.kept.items
   pub lost : new.lost.items ≡ old.lost.items
   pub numbers : new.numbers.items ≡ old.numbers.items
 
--- Ticks passed that led to state s: if datagrams were dropped, the fragments of those are lost that aren't held.
+-- Ticks led to state s: if datagrams were dropped, their fragments are lost, except those that s still holds.
 pub record HaveExpired (us : List Unfinished) (old new : Parts) : Type 0 where
   pub kept : new.kept.items ≡ filter (λ (part : Part). is_unfinished part.key us) old.kept.items
   pub lost : new.lost.items ≡ old.lost.items ++ expired_of us old.kept.items
@@ -119,7 +119,7 @@ pub record HaveExpired (us : List Unfinished) (old new : Parts) : Type 0 where
 abbrev pub Expires : Counters → Counters → State → Parts → Parts → Type 0
 Expires a b s old new = Choice (rose IpFragtimeout a b) (HaveExpired s.unfinished old new) (IsSame old new)
 
--- A packet came: if buffers were taken back, all fragments are lost but those of the datagram that it completed.
+-- A packet arrived: if buffers were reclaimed, all fragments are lost except those of the datagram that it completed.
 pub record AreReclaimed (whole : Option FragmentKey) (old new : Parts) : Type 0 where
   pub kept : new.kept.items ≡ filter (is_spared whole) old.kept.items
   pub lost : new.lost.items ≡ old.lost.items ++ reclaimed_of whole old.kept.items
@@ -136,7 +136,7 @@ pub record HasFragment (number : ℕ) (key : FragmentKey) (p : List ℕ) (part :
   pub offset : part.offset ≡ offset_of p
   pub bytes : part.bytes.items ≡ carried_of p
 
--- the fragment in a packet is kept behind the others
+-- the fragment in a packet is kept after the others
 pub record KeepsPart (number : ℕ) (key : FragmentKey) (p : List ℕ) (old new : Parts) : Type 0 where
   pub part : Part
   pub is : HasFragment number key p part
@@ -164,13 +164,13 @@ ForgetsBy (Some key) old new = ForgetsPart key old new
 abbrev pub Forgets : List ℕ → Parts → Parts → Type 0
 Forgets p old new = ForgetsBy (key_of p) old new
 
--- by what happened to a packet's fragment
+-- the effect of what happened to a packet's fragment
 abbrev pub Remembers : Fate → ℕ → List ℕ → Parts → Parts → Type 0
 Remembers Whole number p old new = Forgets p old new
 Remembers Kept number p old new = KeepsFragment number p old new
 Remembers Other number p old new = IsSame old new
 
--- ---- what is told of a datagram that was dropped
+-- ---- the reports on datagrams that were dropped
 
 abbrev pub same_loss : Loss → Loss → Bool
 same_loss Expired Expired = true
@@ -188,14 +188,14 @@ lost_number_if first it = if same_lost first it then it.number ∷ [] else []
 abbrev pub lost_numbers_of : Lost → List Lost → List ℕ
 lost_numbers_of first = flat_map (lost_number_if first)
 
--- the first one that isn't told yet, and those that were dropped with it
+-- the first fragment that isn't reported yet, and those that were dropped with it
 pub record TakesFirst (first : Lost) (old new : Parts) : Type 0 where
   pub is : slice_get old.lost.items 0 ≡ Some first
   pub numbers : new.numbers.items ≡ lost_numbers_of first old.lost.items
   pub kept : new.kept.items ≡ old.kept.items
   pub lost : new.lost.items ≡ filter (λ (it : Lost). not (same_lost first it)) old.lost.items
 
--- none is left that isn't told
+-- all of them are reported
 pub record TakesNone (old new : Parts) : Type 0 where
   pub none : slice_get old.lost.items 0 ≡ None
   pub same : IsSame old new

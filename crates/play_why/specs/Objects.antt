@@ -52,7 +52,7 @@ pub record IsObject (time : ℕ) (v : Verdict) (text : List ℕ) : Type 0 where
       ≡ first_members v.number time packet became
       ++ last_members (causes_in v.findings) values (faults_in v.findings)
 
--- what is printed; no definition says which a line is
+-- the output for a record; the lines aren't specified
 abbrev pub IsPrinted : Layout → ℕ → Verdict → List ℕ → Type 0
 IsPrinted Lines time v text = Unit {0}
 IsPrinted Objects time v text = IsObject time v text

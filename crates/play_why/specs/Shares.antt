@@ -7,17 +7,17 @@ use Rattle.play_why.specs.declared.addresses.Busiest.{Busiest}
 use Rattle.play_why.specs.declared.addresses.Share.{Share}
 use Rattle.play_why.specs.declared.addresses.TheConstants.{MOST_ADDRESSES}
 
--- it carries UDP to the address of a host: to one below 224.0.0.0
+-- it carries UDP to the address of a host, which is below 224.0.0.0
 abbrev pub goes_to_host : List ℕ → Bool
 goes_to_host p =
     nat_le IP_HEADER (length p) && (slice_index p 9 == PROTOCOL_UDP && nat_lt (u32_at 16 p) FIRST_MULTICAST)
 
--- one datagram more for the address at a place
+-- one more datagram for the address at an index
 abbrev pub raised : List Share → ℕ → Option Share → List Share
 raised shares at None = shares
 raised shares at (Some share) = slice_set shares at (record share { count = more_by 1 share.count })
 
--- or the first one for an address that wasn't counted before, if fewer than 256 are
+-- or the first datagram for a new address, if there are fewer than 256
 abbrev pub share_counted : ℕ → List Share → Option ℕ → List Share
 share_counted address shares (Some at) = raised shares at (slice_get shares at)
 share_counted address shares None =
@@ -34,7 +34,7 @@ shares_after p shares =
 abbrev pub all_after : List ℕ → ℕ → ℕ
 all_after p all = if goes_to_host p then more_by 1 all else all
 
--- ---- the address to which most go, the first of several
+-- ---- the address to which most go; if there are several, the first
 
 abbrev pub count_in : Option Busiest → ℕ
 count_in None = 0

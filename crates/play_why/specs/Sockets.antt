@@ -12,9 +12,9 @@ use Rattle.play_why.specs.declared.ports.TheConstants.{MOST_PORTS}
 use Rattle.play_why.specs.declared.ports.Bound.{Bound}
 use Rattle.play_why.specs.declared.ports.Ports.{Ports}
 
--- ---- which port is to be bound
+-- ---- which port to bind
 
--- the port to which the front of a UDP datagram goes, behind an IP header without options
+-- the destination port at the front of a UDP datagram, after an IP header without options
 abbrev pub front_port : List ℕ → Option ℕ
 front_port p =
     if nat_lt (length p) IP_UDP_HEADERS || (not (slice_index p 0 == 69) || (not (slice_index p 9 == PROTOCOL_UDP)
@@ -26,7 +26,7 @@ abbrev pub is_bound : ℕ → List Bound → Bool
 is_bound port [] = false
 is_bound port (b ∷ bs) = (b.port == port) || is_bound port bs
 
--- the one port that was asked for, or else each
+-- the only port that may be bound, or any port if there is none
 abbrev pub may_bind : Option ℕ → ℕ → Bool
 may_bind (Some only) port = only == port
 may_bind None port = not (port == 0)
@@ -40,7 +40,7 @@ wanted_of ports (Some port) =
 abbrev pub wanted_port : Ports → List ℕ → Option ℕ
 wanted_port ports p = wanted_of ports (front_port p)
 
--- ---- how it's bound
+-- ---- how a port is bound
 
 -- no port is bound yet
 pub record IsUnbound (port : Option ℕ) (ports : Ports) : Type 0 where
@@ -59,7 +59,7 @@ pub record BindsTo (port : ℕ) (b : Bound) (old new : State) : Type 0 where
   pub opens : StackSteps old Open (Opened b.fd) between
   pub binds : StackSteps between (Bind b.fd (record { ip = 0; port = port })) Done new
 
--- the machine refuses a socket, or to bind it, which is closed then
+-- the machine returns an error for a socket, or for binding it; then the socket is closed
 pub data CantBind (port : ℕ) (old new : State) : Type 0 where
   No_socket : (errno : Errno) → StackSteps old Open (Refused errno) new → CantBind port old new
   Not_bound : (fd : ℕ) (errno : Errno) (opened kept : State) → StackSteps old Open (Opened fd) opened
@@ -78,13 +78,13 @@ abbrev pub ClosesAt : List Bound → ℕ → State → State → Type 0
 ClosesAt bound place old new =
     (oldest : Bound) × (slice_index_or bound place oldest ≡ oldest) × ClosesSocket oldest.fd old new
 
--- the sockets with one more
+-- the sockets, with the new one
 abbrev pub bound_after : Ports → Option Bound → List Bound
 bound_after ports None = ports.bound.items
 bound_after ports (Some b) =
     if are_all_bound ports then slice_set ports.bound.items (ports.next % MOST_PORTS) b else ports.bound.items ++ b ∷ []
 
--- a socket is bound to the port, if the machine lets it be
+-- a socket is bound to the port, unless the machine returns an error
 pub record BindsFor (ports : Ports) (port : ℕ) (later : Ports) (old new : State) : Type 0 where
   pub bound : Option Bound
   pub freed : State
@@ -95,12 +95,12 @@ pub record BindsFor (ports : Ports) (port : ℕ) (later : Ports) (old new : Stat
   pub next : later.next ≡ (if are_all_bound ports then ports.next % MOST_PORTS + 1 else ports.next)
   pub only : later.only ≡ ports.only
 
--- the wanted port is bound; if there is none, nothing changes
+-- the wanted port is bound; without one, nothing changes
 abbrev pub BindsIf : Ports → Option ℕ → Ports → State → State → Type 0
 BindsIf ports None later old new = (later ≡ ports) × (new ≡ old)
 BindsIf ports (Some port) later old new = BindsFor ports port later old new
 
--- ---- how they're read
+-- ---- how the sockets are read
 
 -- the next datagram of a socket is read, if it has one
 abbrev pub ReadsSocket : ℕ → ℕ → State → State → Type 0

@@ -11,7 +11,7 @@ use Rattle.play_why.specs.declared.values.Value.TheVariants as value
 
 -- ---- checksums
 
--- what would be right in a header of 20 bytes: its checksum with 0 in the field
+-- the right checksum of a header of 20 bytes, which is computed with 0 in the field
 unfoldable pub right_header_sum : List ℕ → ℕ
 right_header_sum p = checksum (take 10 p ++ 0 ∷ 0 ∷ take 8 (drop 12 p))
 
@@ -19,11 +19,11 @@ right_header_sum p = checksum (take 10 p ++ 0 ∷ 0 ∷ take 8 (drop 12 p))
 unfoldable pub pseudo_of : List ℕ → List ℕ → List ℕ
 pseudo_of p d = pseudo_header (u32_at 12 p) (u32_at 16 p) (u16_at 4 d)
 
--- how many bytes are sent, by the UDP length and by what there is
+-- how many bytes are sent, by the UDP length and the datagram's length
 abbrev pub sent_by : List ℕ → ℕ
 sent_by d = min (u16_at 4 d) (length d) - UDP_HEADER
 
--- what would be right in a datagram of 8 bytes or more: its checksum with 0 in the field
+-- the right checksum of a datagram of 8 bytes or more, which is computed with 0 in the field
 unfoldable pub right_udp_sum : List ℕ → List ℕ → ℕ
 right_udp_sum p d = not_zero (checksum (pseudo_of p d ++ take 6 d ++ 0 ∷ 0 ∷ take (sent_by d) (drop 8 d)))
 
@@ -33,7 +33,7 @@ pseudo_sum p d = folded_sum (pseudo_of p d)
 
 -- ---- the value that shows a cause
 
--- of a packet of 20 bytes or more; `ours` is the host's address
+-- for a packet of 20 bytes or more; `ours` is the host's address
 unfoldable pub header_value : Why → List ℕ → ℕ → Value
 header_value TooSmall p ours = value.Short (length p) IP_HEADER
 header_value BadVersion p ours = value.Version (slice_index p 0 / 16)
@@ -54,7 +54,7 @@ header_value UdpNoPortBroadcast p ours = value.NoneLeft
 header_value UdpFullSocket p ours = value.NoneLeft
 header_value NoBufs p ours = value.NoneLeft
 
--- of a datagram of 8 bytes or more in a packet of 20 or more
+-- for a datagram of 8 bytes or more in a packet of 20 or more
 unfoldable pub datagram_value : Why → List ℕ → List ℕ → Value
 datagram_value UdpBadLength p d = value.Lengths (u16_at 4 d) (length d)
 datagram_value UdpBadSum p d = value.Sums (u16_at 6 d) (right_udp_sum p d)
@@ -70,7 +70,7 @@ is_of_udp UdpNoPortBroadcast = true
 is_of_udp UdpFullSocket = true
 is_of_udp _ = false
 
--- of any packet
+-- for any packet
 unfoldable pub cause_value : Why → List ℕ → List ℕ → ℕ → Value
 cause_value why p d ours =
     if nat_lt (length p) IP_HEADER then value.Short (length p) IP_HEADER

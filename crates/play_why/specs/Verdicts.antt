@@ -1,5 +1,5 @@
--- For which causes packets were dropped, and what that is laid to; and the fragments that were kept and dropped later
--- (this project's own). `a` and `b` are what was counted before and after the packet of a record.
+-- For which causes packets were dropped, and who is to blame; and the fragments that were kept and dropped later
+-- (this project's own). `a` and `b` are the counters before and after the packet of a record.
 use Rattle.std.specs.Prelude.{ℕ, ◌&&◌, Bool, true, false, List, [], ◌∷◌, if◌then◌else◌, map}
 use Rattle.flat_model.specs.Machine.Count.{counter_of}
 use Rattle.flat_model.specs.declared.counters.Counters.{Counters}
@@ -29,11 +29,11 @@ same_blame Card Packet = false
 same_blame Card Capture = false
 same_blame Card Card = true
 
--- the packet was dropped for this cause, and that is laid to this
+-- the packet was dropped for this cause, with this to blame
 abbrev pub is_laid : Blame → Seen → Counters → Counters → Why → Bool
 is_laid blame r a b why = rose (counter_of why) a b && same_blame blame (blame_of r why)
 
--- once more for each of these causes that is laid to this
+-- the count, with one added for each of these causes for which this is to blame
 abbrev pub laid_by : Blame → Seen → Counters → Counters → List Why → Count → Count
 laid_by blame r a b [] c = c
 laid_by blame r a b (why ∷ whys) c =
@@ -65,7 +65,7 @@ judged r a b v = record {
 
 -- ---- fragments that were kept, and dropped later
 
--- once more for each of these records
+-- the count, with one added for each of these records
 abbrev pub once_each : List ℕ → Count → Count
 once_each [] c = c
 once_each (number ∷ numbers) c = once_each numbers (once_more number c)
@@ -74,7 +74,7 @@ once_each (number ∷ numbers) c = once_each numbers (once_more number c)
 abbrev pub none_lost : Losses
 none_lost = record { expired = never; reclaimed = never }
 
--- after those in these records were dropped for this reason
+-- after the fragments in these records were dropped for this reason
 abbrev pub lost_after : Loss → List ℕ → Losses → Losses
 lost_after Expired numbers losses = record losses { expired = once_each numbers losses.expired }
 lost_after Reclaimed numbers losses = record losses { reclaimed = once_each numbers losses.reclaimed }

@@ -18,7 +18,7 @@ pub enum Blame {
     Packet,
     /// The capture, which kept only a part of the record.
     Capture,
-    /// The sender's card, which was to fill in the checksum after the packet was captured.
+    /// The sender's card, which should have filled in the checksum after the packet was captured.
     Card,
 }
 

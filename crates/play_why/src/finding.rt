@@ -29,7 +29,7 @@ pub(crate) struct Counted<'a> {
     pub(crate) after: &'a Counters,
 }
 
-/// Returns what is found of a cause, if its counter went up. `ours` is the host's address.
+/// Returns the finding for a cause, if its counter went up. `ours` is the host's address.
 fn finding_if(
     seen: &Seen<'_>,
     counted: &Counted<'_>,
@@ -51,7 +51,7 @@ fn finding_if(
     }
 }
 
-/// Returns what is found of each cause, in the order of [`causes`].
+/// Returns the finding for each cause, in the order of [`causes`].
 pub(crate) fn findings_of(
     seen: &Seen<'_>,
     counted: &Counted<'_>,

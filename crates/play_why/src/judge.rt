@@ -1,4 +1,4 @@
-//! What judges the records of a capture, one after another.
+//! The judge of the records of a capture, one after another.
 ghost use Rattle.std.specs.Prelude.{◌≡◌, ◌≤◌, IfOk, MatchResult, None, length, replicate};
 ghost use Rattle.params.specs.declared.TheConstants.{IP_MAX_PACKET};
 ghost use Rattle.flat_model.specs.Machine.Event.{Tick};
@@ -36,7 +36,7 @@ use std::alloc::{AllocError, Global};
 /// Half a second, in nanoseconds.
 const TICK: u64 = 500_000_000;
 
-/// More ticks than this at once change nothing: each unfinished datagram is dropped by then.
+/// More ticks than this at once have no further effect: each unfinished datagram has expired by then.
 const MOST_TICKS: u64 = 61;
 
 /// A record with an IPv4 packet.
@@ -160,7 +160,7 @@ fn remember(
 }
 
 impl Totals {
-    /// Counts one packet more, which was delivered, kept as a fragment, or dropped.
+    /// Counts one more packet, which was delivered, kept as a fragment, or dropped.
     fn counted(self, is_delivered: bool, kept_as_fragment: bool) -> Totals
         ensures { result ≡ judged.counted_as is_delivered kept_as_fragment self }
     {
@@ -176,7 +176,7 @@ impl Totals {
         totals
     }
 
-    /// Counts one packet more. `here` is the machine after it.
+    /// Counts one more packet. `here` is the machine after it.
     fn after(self, here: &Stack, before: &Counters, after: &Counters) -> Totals
         ensures { result ≡ judged.totals_after (state_of here.now) before.now after.now self }
     {
@@ -300,7 +300,7 @@ impl Judge {
         self.parts.expire(&self.host.stack, &before, &after)
     }
 
-    /// Lets a record's packet arrive. Returns the verdict on it; `text` then returns what is printed of it, and
+    /// Lets a record's packet arrive. Returns the verdict on it; `text` then returns the output for it, and
     /// `records` the records of the other fragments of its datagram. `report_lost` reports the datagrams that were
     /// dropped for their buffers. Fails if the host has no memory for a fragment; the packet may have arrived then.
     pub fn receive(&mut self, arrival: &Arrival<'_>) -> Result<Verdict, AllocError>

@@ -1,5 +1,5 @@
 //! The datagrams that weren't completed, in English: the missing bytes or why they were dropped, and the records of
-//! their fragments. No contract says which the words are.
+//! their fragments. No contract specifies the words.
 use crate::FATE;
 use crate::layout::Layout;
 use crate::parts::Loss;

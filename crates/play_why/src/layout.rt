@@ -3,8 +3,8 @@
 /// How records are printed.
 #[derive(Clone, Copy, Debug, PartialEq, Eq)]
 pub enum Layout {
-    /// As lines for people.
+    /// As lines of text.
     Lines,
-    /// As one JSON object for each record, for programs.
+    /// As one JSON object for each record.
     Objects,
 }

@@ -79,7 +79,7 @@ fn take(machine: &mut Stack, fd: u32, buffer: &mut [u8])
     let _taken = machine.recvfrom(fd, buffer);
 }
 
-/// Opens a socket and binds it to a port. `None` if the machine refuses.
+/// Opens a socket and binds it to a port. `None` if the machine returns an error.
 fn bound_to(machine: &mut Stack, port: u16) -> Option<Bound>
     ensures { sockets.TriesToBind port result (state_of machine.old) (state_of machine.new) }
 {
@@ -141,7 +141,7 @@ impl Ports {
         }
     }
 
-    /// Closes the socket that was bound first, and binds one to a port in its place.
+    /// Closes the socket that was bound first, and binds a new one to a port.
     fn bind_in_place(&mut self, machine: &mut Stack, port: u16)
         requires { sockets.are_all_bound self.old ≡ true }
         ensures { sockets.BindsFor self.old port self.new (state_of machine.old) (state_of machine.new) }

@@ -1,4 +1,4 @@
-//! A record of a capture, as the judge sees it.
+//! A record of a capture, as the judge gets it.
 
 /// A record with an IPv4 packet that has arrived at a host.
 #[derive(Clone, Copy)]

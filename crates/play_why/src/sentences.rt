@@ -1,4 +1,4 @@
-//! What happened to a packet, in English. No contract says which the words are.
+//! What happened to a packet, in English. No contract specifies the words.
 ghost use Rattle.std.specs.Prelude.{◌≤◌, length};
 ghost use Rattle.params.specs.declared.TheConstants.{IP_MAX_PACKET};
 
@@ -18,7 +18,7 @@ use script_loop::Buffer;
 /// How many records of other fragments a line lists.
 pub(crate) const MOST_LISTED: usize = 64;
 
-/// What is printed of a record.
+/// The context in which a record is printed.
 #[derive(Clone, Copy)]
 pub(crate) struct Report<'a> {
     pub(crate) seen: &'a Seen<'a>,

@@ -11,7 +11,7 @@ use script_loop::Buffer;
 /// The most bytes that a checksum covers.
 pub const COVERED: usize = 65_600;
 
-/// Returns the right checksum of a header of 20 bytes (RFC 791, section 3.1). `covered` is memory to work in.
+/// Returns the right checksum of a header of 20 bytes (RFC 791, section 3.1). `covered` is a buffer for the work.
 #[tactic(auto, unfolding(crate::specs::Values::right_header_sum))]
 pub fn right_header_sum(packet: &[u8], covered: &mut Buffer<COVERED>) -> u16
     requires { IP_HEADER ≤ length packet.now }
@@ -41,7 +41,7 @@ fn not_zero(sum: u16) -> u16
     if sum == 0 { 65_535 } else { sum }
 }
 
-/// Returns the data of a datagram, by the UDP length and by what there is.
+/// Returns the data of a datagram, by the UDP length and the datagram's own length.
 fn sent_by(datagram: &[u8]) -> &[u8]
     requires { UDP_HEADER ≤ length datagram.now }
     ensures is { result.now ≡ take (texts.sent_by datagram.now) (drop 8 datagram.now) }
@@ -53,7 +53,7 @@ fn sent_by(datagram: &[u8]) -> &[u8]
 }
 
 /// Returns the right checksum of a datagram of 8 bytes or more, by its UDP length and the addresses of a packet (RFC
-/// 768). `covered` is memory to work in.
+/// 768). `covered` is a buffer for the work.
 #[tactic(auto, unfolding(crate::specs::Values::right_udp_sum))]
 pub fn right_udp_sum(packet: &[u8], datagram: &[u8], covered: &mut Buffer<COVERED>) -> u16
     requires packet { IP_HEADER ≤ length packet.now }

@@ -102,7 +102,7 @@ fn is_of_udp(why: Why) -> bool
     )
 }
 
-/// Returns the value that shows why a packet was dropped for this cause. `covered` is memory to work in.
+/// Returns the value that shows why a packet was dropped for this cause. `covered` is a buffer for the work.
 #[tactic(auto, unfolding(crate::specs::Values::cause_value))]
 pub(crate) fn value_of(why: Why, seen: &Seen<'_>, ours: u32, covered: &mut Buffer<COVERED>) -> Value
     requires { IsSeen seen.now }

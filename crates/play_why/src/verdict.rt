@@ -20,13 +20,13 @@ pub struct Verdict {
     pub fate: Fate,
     /// What was delivered to each socket, that of the lowest descriptor first.
     pub delivered: [Option<Delivered>; MAX_SOCKETS as usize],
-    /// Why it was dropped: what was found of each cause, in the order of `play_text::causes`.
+    /// Why it was dropped: the finding for each cause, in the order of `play_text::causes`.
     pub findings: [Option<Finding>; CAUSES],
 }
 
 impl Verdict {
-    /// Returns the verdict by the counters before and after the packet, and by the host after it, in which only the
-    /// datagrams wait that the packet brought. `covered` is memory to work in.
+    /// Returns the verdict by the counters before and after the packet, and by the host after it. Its sockets have
+    /// only datagrams that the packet brought. `covered` is a buffer for the work.
     pub(crate) fn of(
         seen: &Seen<'_>,
         counted: &Counted<'_>,

@@ -110,12 +110,12 @@ by_choice v w n later true e choice = moves_not v w (choice.yes e)
 by_choice v w n later false e choice = let more = choice.no e in
     moves_on v more.0 w (carried_moves v more.0 more.1) (later more.0 more.2)
 
--- ---- what changes no stack
+-- ---- acts that change no stack
 
 pub one_act : (v w : SegmentView) (act : Act) → IsAct v act w → AreLedTo v w
 one_act v w act is = (act ∷ [], (w, is, refl))
 
--- ---- the stack of a host, handed over and put back
+-- ---- the stack of a host, exchanged with another one and put back
 
 pub put_back : (place : ℕ) (v mid w : SegmentView) (spare s t other : StackView) (b : Bool)
     → IsExchanged place v spare mid s
@@ -147,7 +147,7 @@ calls_move place v mid w spare s t other b turns first calls back =
 
 -- ---- hosts on an Ethernet
 
--- a host joined, or nothing changed
+-- a host joined the Ethernet, or nothing changed
 pub joins_or_not : (v w : SegmentView) (act : Act) (came : Result Unit JoinFault) (Why : JoinFault → Type 0)
     → MatchResult came (λ _. IsAct v act w) (λ fault. Why fault × (w ≡ v)) → AreLedTo v w
 joins_or_not v w act (Ok done) Why is = one_act v w act is

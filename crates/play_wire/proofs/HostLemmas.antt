@@ -17,7 +17,7 @@ use Rattle.play_wire.specs.Acts.{Outcome, Replied, AreLooks, IsLineExecuted, IsS
 use Rattle.play_wire.specs.Inside.{IsExchanged, IsKept}
 use Rattle.play_wire.proofs.ActLemmas.{put_back}
 
--- what a count of the counters counted
+-- the counters in a reply, or these if it has none
 counts_of : Reply → Counters → Counters
 counts_of (Counted counters) other = counters
 counts_of _ other = other
@@ -26,7 +26,7 @@ pub counted_is : (a b : Counters) → Counted a ≡ Counted b → a ≡ b
 unfolding counts_of
 counted_is a b e = ap (λ r. counts_of r a) e
 
--- a call whose reply was told, and what came of it
+-- a call with a reply, and its effects
 pub answered_by_call : (plain : List ℕ) (s t : StackView) (text below : List ℕ) (event : Event)
     (reply : Reply) (before after : Snapshot)
     → Writes plain (Call event) → Step (state_of s) event reply (state_of t) → AreLooks s t before after
@@ -42,7 +42,7 @@ answered_by_call plain s t text below event reply before after asks step looks i
   ),
 )
 
--- a line of a host, on its stack while that is handed over
+-- a line of a host, executed on its stack while another one is at the host's place
 pub host_line : (place : ℕ) (plain : List ℕ) (v mid w : SegmentView) (spare s t other : StackView)
     (came : Outcome) (turns : List Turn) (b : Bool)
     → IsExchanged place v spare mid s → IsLineExecuted plain s turns came t

@@ -1,4 +1,4 @@
--- Lines that a host's link answers.
+-- Lines that the link of a host executes.
 use Rattle.std.proofs.Common.{◌≡◌, ◌<◌, ◌⊎◌, inl, inr, ℕ, zero, suc, Bool, true, false, List, [], ◌∷◌, ◌++◌, map, replicate, Option, Some, None, refl, sym, ap, ap₂, ◌∙◌, subst, arith}
 use Rattle.std.proofs.Math.Dec.{eqb-suc-zero}
 use Rattle.std.proofs.lemmas.Bool.{lt-ltb}
@@ -65,9 +65,9 @@ host_by_stack place plain v v' w came (others, same) (acts, did) =
     subst (λ (x : SegmentView). IsStackLine place plain x acts came w ⊎ IsMissing place x acts came w) same did in
     (acts, by_stack place plain v w came acts others so)
 
--- ---- what a line asks for
+-- ---- the request of a line
 
--- What a command and the words after it ask for, the line asks for. This and `asks_none` have the form of those in
+-- The request of a command and the words after it is that of the line. This and `asks_none` have the form of those in
 -- WireLemmas. One lemma for both would take the list of commands, both relations and the type of the request.
 pub asks_as : (plain word : List ℕ) (c : Command) (args : List (List ℕ)) (asked : Option Asked)
     → words plain ≡ word ∷ args → find (has_name word) hosted_commands ≡ Some c → ReadsOfLink c args asked
@@ -82,7 +82,7 @@ asks_as plain word c args None cut is none = λ ask h.
     none ask (subst (λ (x : Command). AsksOfLink x args ask) same
     (subst (λ (xs : List (List ℕ)). AsksOfLink h.0 xs ask) rest h.5))
 
--- a line that begins with no command asks for nothing
+-- a line that begins with no command has no request
 pub asks_none : (plain word : List ℕ) (args : List (List ℕ)) → words plain ≡ word ∷ args
     → find (has_name word) hosted_commands ≡ None → AsksLink plain None
 asks_none plain word args cut none = λ ask h.
@@ -123,7 +123,7 @@ none_is f (Some x) e = absurd (never e)
     never : Some (f x) ≡ None → ⊥
     never g = cc
 
--- a host with a link is asked for whatever a link is
+-- a host with a link passes each such request to the link
 pub for_its_link : (links : Option LinkState) (ask : LinkAsk) (link : Link)
     → option_map (λ (l : LinkState). l.link) links ≡ Some link → is_for_link links ask ≡ true
 for_its_link None ask link e = absurd (never e)
@@ -132,7 +132,7 @@ for_its_link None ask link e = absurd (never e)
     never g = cc
 for_its_link (Some l) ask link e = refl
 
--- a host without one for the rest
+-- a host without a link passes on only those that a bare stack can't execute
 pub for_no_link : (links : Option LinkState) (ask : LinkAsk) (b : Bool)
     → option_map (λ (l : LinkState). l.link) links ≡ None → is_of_link ask ≡ b → is_for_link links ask ≡ b
 for_no_link links ask b e is =
@@ -146,7 +146,7 @@ link_there None link e = absurd (never e)
     never g = cc
 link_there (Some l) link e = refl
 
--- a line has a word at least
+-- a line has at least one word
 words-some : (line : List ℕ) → words line ≡ [] → ⊥
 words-some [] e = cc
 words-some (x ∷ xs) e = elim (x == 32) as (λ b. cond b ([] ∷ words xs) (onto_first x (words xs)) ≡ [] → ⊥) [
@@ -158,7 +158,7 @@ words-some (x ∷ xs) e = elim (x == 32) as (λ b. cond b ([] ∷ words xs) (ont
     onto-some [] same = cc
     onto-some (w ∷ ws) same = cc
 
--- a packet by name
+-- a packet that a line describes
 pub packet_spelled : (named : Bool) (packet line : List ℕ) → named ≡ true
     → WritesLink (if named then codes "rx " ++ packet else line) Packets
 packet_spelled true packet line e = (command.Rx, codes "rx", words packet, refl, refl, words-some packet)
@@ -167,7 +167,7 @@ packet_spelled false packet line e = absurd (never e)
     never : false ≡ true → ⊥
     never g = cc
 
--- words that name no packet
+-- words that don't describe a packet
 pub ask_spelled : (named : Bool) (packet line plain : List ℕ) (ask : Option LinkAsk) → named ≡ false → plain ≡ line
     → AsksLink plain ask → AsksLink (if named then codes "rx " ++ packet else line) ask
 ask_spelled true packet line plain ask e same is = absurd (never e)
@@ -201,7 +201,7 @@ not_counted place ask v w same there (inl none) = absurd (never (sym (ap is_some
 not_counted place ask v w same there (inr none) =
     subst (λ (x : SegmentView). IsAtLink place ask v (Refused fault.NoHost) x) (sym same) (no_host place ask v none)
 
--- ---- what is shown
+-- ---- requests to be shown something
 
 some_is : {X Y : Type 0} (f : X → Y) (x : Option X) (y : Y) → option_map f x ≡ Some y
     → (it : X) × (x ≡ Some it) × (f it ≡ y)
@@ -297,7 +297,7 @@ there_lt xs i x e = lt-ltb i (length xs) (there_below xs i x e)
 both_true : (a b : Bool) → a ≡ true → b ≡ true → (a && b) ≡ true
 both_true a b e f = rw (e, f) refl
 
--- a host that has counted is there
+-- a host with counters exists
 pub is_there : (place : ℕ) (v : SegmentView) (counts : HostCounts) → HasCounted place v counts
     → (nat_lt place (length v.stacks) && nat_lt place (length v.links)) ≡ true
 is_there place v counts (s, l, at, stack, link) =
@@ -341,7 +341,7 @@ frame_heard place frame v v' w w' before after b reply_line below same counted i
     (subst (λ (x : SegmentView). IsAtLink place (Frame frame) v' (Replied reply_line below) x) (sym same')
     (subst (λ (xs : List ℕ). IsAtLink place (Frame frame) v' (Replied reply_line xs) w) (sym none) here))
 
--- a host that heard a frame is still there
+-- a host that received a frame still exists
 still_there : (place : ℕ) (frame : List ℕ) (v w : SegmentView) → HasReceived place frame v w → HasNotCounted place w → ⊥
 still_there place frame v w is (inl none) =
     never (sym none ∙ ap (λ (x : SegmentView). slice_get x.links place) is.is
@@ -378,7 +378,7 @@ error_asked place fd v v' w before error reply_line below same (s, l, at, stack,
           (error, is_so, refl, ap₂ Replied text none)),
     )
 
--- a host that is there answers
+-- for a host that exists, the reply isn't `NoHost`
 pub error_never : (place : ℕ) (ask : LinkAsk) (v v' w : SegmentView) (before : HostCounts) → v' ≡ v
     → HasCounted place v before
     → false ≡ (nat_lt place (length v'.stacks) && nat_lt place (length v'.links))
@@ -390,7 +390,7 @@ error_never place ask v v' w before same counted is =
     never : false ≡ true → ⊥
     never g = cc
 
--- what a host with a link has counted
+-- the counters of a host with a link
 pub counted_so : (place : ℕ) (v : SegmentView) (stack : Counters) (link : Tallies)
     → Some stack ≡ option_map (λ (s : StackView). (state_of s).counters) (slice_get v.stacks place)
     → Some link ≡ option_map (λ (l : LinkState). l.tallies) (slice_get v.links place)
@@ -400,7 +400,7 @@ counted_so place v stack link e f =
     let l = some_is (λ (l : LinkState). l.tallies) (slice_get v.links place) link (sym f) in
     (s.0, l.0, (s.1, l.1), sym s.2, sym l.2)
 
--- ticks of a stack that was handed over and put back
+-- ticks of a stack that was exchanged and put back
 pub stack_ticked : (place n : ℕ) (v mid w : SegmentView) (spare s t other : StackView) (b : Bool)
     → IsExchanged place v spare mid s → AreCalls s (replicate n (call_turn Tick Done)) t
     → Choice b (IsExchanged place mid t w other) (IsKept place mid w)

@@ -1,4 +1,4 @@
--- A line, and what it does.
+-- A line, and its effects.
 use Rattle.std.proofs.Common.{◌≡◌, ◌⊎◌, inl, inr, ℕ, zero, suc, ◌&&◌, Bool, true, false, List, [], ◌∷◌, ◌++◌, arith, Option, Some, refl, sym, ap, ◌∙◌, subst, append-nil}
 use Rattle.std.specs.Prelude.{codes, slice_get, None, MatchResult, Result, Ok, Err}
 use Rattle.play_text.specs.Texts.{if_there}
@@ -33,7 +33,7 @@ done_by_wire play named host words plain came v w old new e f is same (acts, are
           (subst (λ (x : SegmentView). AreActs x acts w) (sym e) are, mine),
     )
 
--- a host that joined so, or not
+-- the names after a host was added, or wasn't
 pub host_added : (name : List ℕ) (settings old new : List (List ℕ)) (came : Result Unit Fault) (reply_line below : List
     ℕ)
     → MatchResult came (λ _. new ≡ old ++ name ∷ []) (λ _. new ≡ old)
@@ -44,7 +44,7 @@ host_added name settings old new (Err fault) reply_line below is = is ∙ sym (a
 pub names_kept : (old new : List (List ℕ)) → new ≡ old → new ≡ old ++ []
 names_kept old new is = is ∙ sym (append-nil old)
 
--- packets under way by hand, which were there or not
+-- a packet in flight is moved by hand, if it exists
 pub by_hand : (v w : SegmentView) (act : Act) (seen there : Bool) (came : Outcome) → IsAct v act w → seen ≡ there
     → Choice seen (came ≡ Replied (codes "ok") []) (came ≡ Refused fault.NoPacket)
     → (acts : List Act) × AreActs v acts w × IsByHand there act acts came
@@ -83,7 +83,7 @@ done_by_none play named host plain v old e f is = (
       (sym f, inr (refl, sym e, refl)),
 )
 
--- a packet by name comes to no host
+-- a line that names no host and has no request does nothing
 pub done_by_nobody : (play : WirePlay) (named : Bool) (host plain : List ℕ) (v : SegmentView) (old : List (List ℕ))
     → play.segment ≡ v → play.names ≡ old → named ≡ false → AsksWire plain None
     → (acts : List Act) × IsDone play (if_there named host) plain acts (Refused fault.Nothing) v old
@@ -93,7 +93,7 @@ done_by_nobody play named host plain v old e f is none = (
       (sym e, (None, none, (refl, refl), names_kept play.names old (sym f))),
 )
 
--- a part of a line that is read so
+-- a part of a line with this reading
 pub reported_part : (now new : WirePlay) (host : Option (List ℕ)) (ticks before : ℕ) (read is : Reading) (acts : List
     Act)
     (text : List ℕ) → read ≡ is → ReportsPart now host ticks before is acts text new
@@ -101,7 +101,7 @@ pub reported_part : (now new : WirePlay) (host : Option (List ℕ)) (ticks befor
 reported_part now new host ticks before read is acts text same reports =
     subst (λ (r : Reading). ReportsPart now host ticks before r acts text new) (sym same) reports
 
--- a line whose time was read so
+-- a line with this time
 pub reported_timed : (old now new : WirePlay) (line : List ℕ) (t : Result TimedView SyntaxError) (acts : List Act) (text : List
     ℕ)
     → now ≡ next_wire_line line old → t ≡ timed line → ReportsTimed now line t acts text new → Reports old line text new
@@ -129,7 +129,7 @@ pub and_false : (b : Bool) → false ≡ (b && false)
 and_false true = refl
 and_false false = refl
 
--- ---- the objects behind that of a line
+-- ---- the objects after that of a line
 
 pub not_both : {A : Type 0} → (b : Bool) → b ≡ true → b ≡ false → A
 not_both b t f = absurd (never (sym f ∙ t))

@@ -89,7 +89,7 @@ timed_acts now new line (Err error) acts text (none, is, same) =
 timed_acts now new line (Ok t) acts text (host, part, parted, reports) =
     part_acts now new host t.ticks _ (reading_part line part) acts text reports
 
--- what is printed for lines, with the acts that made it
+-- the output for lines, with the acts that caused it
 pub reported_by_acts : (old new : WirePlay) (lines : List (List ℕ)) (printed : List ℕ) → Prints Reports old lines
     printed new
     → (acts : List Act) × AreReportedBy old lines acts printed new × AreActs old.segment acts new.segment

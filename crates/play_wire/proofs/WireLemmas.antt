@@ -1,4 +1,4 @@
--- What a line asks of the wire.
+-- The request of a line to the wire.
 use Rattle.std.proofs.Common.{◌≡◌, ◌<◌, ◌^◌, ℕ, Bool, true, false, if◌then◌else◌, List, [], ◌∷◌, ◌++◌, codes, Option, Some, None, inl, inr, refl, sym, ap, ap₂, ◌∙◌, subst, arith}
 use Rattle.std.proofs.lemmas.Bool.{false≢true}
 use Rattle.std.proofs.lemmas.Fmt.{decimal_injective, decimal_is_IsNumeral}
@@ -19,7 +19,7 @@ use Rattle.play_wire.specs.declared.wire_ask.WireAsk.{WireAsk as Asked}
 
 -- ---- the first word
 
--- what a command and the words after it ask for, the line asks for
+-- the request of a command and the words after it is that of the line
 pub asks_as : (plain word : List ℕ) (c : Command) (args : List (List ℕ)) (asked : Option Asked)
     → words plain ≡ word ∷ args → find (has_name word) wire_commands ≡ Some c → ReadsAfter c args asked
     → AsksWire plain (wire_asks asked)
@@ -33,7 +33,7 @@ asks_as plain word c args None cut is none = λ ask h.
     none ask (subst (λ (x : Command). AsksAfter x args ask) same
     (subst (λ (xs : List (List ℕ)). AsksAfter h.0 xs ask) rest h.5))
 
--- a line that begins with no command asks for nothing
+-- a line that begins with no command has no request
 pub asks_none : (plain word : List ℕ) (args : List (List ℕ)) → words plain ≡ word ∷ args
     → find (has_name word) wire_commands ≡ None → AsksWire plain None
 asks_none plain word args cut none = λ ask h.
@@ -42,7 +42,7 @@ asks_none plain word args cut none = λ ask h.
     let both : Some h.0 ≡ None = sym h.4 ∙ ap (λ (w : List ℕ). find (has_name w) wire_commands) first ∙ none in
     cc both
 
--- nor does a packet by name
+-- a line that describes a packet has no request to the wire either
 pub packet_asks_none : (named : Bool) (packet line : List ℕ) → named ≡ true
     → AsksWire (if named then codes "rx " ++ packet else line) None
 packet_asks_none true packet line e = asks_none (codes "rx " ++ packet) (codes "rx") (words packet) refl refl
@@ -51,7 +51,7 @@ packet_asks_none false packet line e = absurd (never e)
     never : false ≡ true → ⊥
     never f = cc
 
--- ---- one thing
+-- ---- at most one request
 
 number-same : (most m n : ℕ) (a b : List ℕ) → most < 2 ^ 64 → a ≡ b → IsNumber most a m → IsNumber most b n → m ≡ n
 number-same most m n a b small same h k =
@@ -72,7 +72,7 @@ ticks-same m n args (inr h) (inr k) = one-same 65535 m n args (omega arith) h.0 
 ticks-same m n args (inl h) (inr k) = absurd (nothing-left k.0.0 [] (sym h.0 ∙ k.0.1))
 ticks-same m n args (inr h) (inl k) = absurd (nothing-left h.0.0 [] (sym k.0 ∙ h.0.1))
 
--- `all` is no number
+-- `all` isn't a number
 not_all : (n : ℕ) (word : List ℕ) → word ≡ codes "all" → IsNumber 1000000 word n → ⊥
 not_all n word is h =
     let small : n < 2 ^ 64 = omega (arith, h.0) in
@@ -113,7 +113,7 @@ seed-same m n args h k =
     let word : h.0 ≡ k.0 = cc both in
     h.4 ∙ ap (λ (w : List ℕ). digits_value 10 (without_leading_plus w)) word ∙ sym k.4
 
--- ---- words that ask for nothing
+-- ---- words that aren't a request
 
 pub not_end : (args : List (List ℕ)) (b : Bool) → (IsTrue b ↔ (args ≡ [])) → b ≡ false → args ≡ [] → ⊥
 not_end args b is off none = false≢true (sym off ∙ is.1 none)
@@ -144,7 +144,7 @@ pub no_drop : (args : List (List ℕ)) → ((n : ℕ) → IsOneNumber 65535 args
 no_drop args none (Drop n) h = none n h
 no_drop args none ask h = h
 
--- behind `carry`, words that neither begin with `all` nor are a number
+-- words after `carry` that neither begin with `all` nor are a number
 pub no_bound : (args : List (List ℕ)) (word : List ℕ) (more : List (List ℕ)) → args ≡ word ∷ more
     → (word ≡ codes "all" → ⊥) → ((n : ℕ) → IsOneNumber 1000000 args n → ⊥) → (bound : Bound) → IsBound args bound → ⊥
 no_bound args word more cut other none (Times n) (inl h) = nothing-left word more (sym h.0 ∙ cut)
@@ -154,7 +154,7 @@ no_bound args word more cut other none (Quiet n) (inl h) =
 no_bound args word more cut other none (Quiet n) (inr h) =
     let both : word ∷ more ≡ codes "all" ∷ h.0 ∷ [] = sym cut ∙ h.1 in other (cc both)
 
--- behind `carry all`, words that are no number
+-- words after `carry all` that aren't a number
 pub no_most : (args : List (List ℕ)) (word : List ℕ) (more : List (List ℕ)) → args ≡ word ∷ more
     → (more ≡ [] → ⊥) → ((n : ℕ) → IsOneNumber 1000000 more n → ⊥) → (bound : Bound) → IsBound args bound → ⊥
 no_most args word more cut some none (Times n) (inl h) = nothing-left word more (sym h.0 ∙ cut)
@@ -166,7 +166,7 @@ no_most args word more cut some none (Quiet n) (inr h) =
     let both : word ∷ more ≡ codes "all" ∷ h.0 ∷ [] = sym cut ∙ h.1 in
     let rest : more ≡ h.0 ∷ [] = cc both in none n (h.0, rest, h.2)
 
--- ---- one thing
+-- ---- at most one request
 
 one_after : (v : Command) (args : List (List ℕ)) (a b : WireAsk) → AsksAfter v args a → AsksAfter v args b → a ≡ b
 one_after command.Host args (Host m s) (Host n t) h k = ap₂ Host (h.0 ∙ sym k.0) (h.1 ∙ sym k.1)

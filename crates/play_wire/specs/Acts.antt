@@ -1,4 +1,4 @@
--- What a line does to the hosts and the wire (this project's own).
+-- The effects of a line on the hosts and the wire (this project's own).
 use Rattle.std.specs.Prelude.{◌≡◌, ℕ, List, [], ◌∷◌, codes, map, replicate, slice_get, slice_set, Option, Some, None}
 use Rattle.flat_model.specs.Machine.Event.{Event, Reply, Tick, Done}
 use Rattle.flat_model.specs.Machine.Step.{Step}
@@ -32,7 +32,7 @@ AreLedTo old new = (acts : List Act) × AreActs old acts new
 abbrev pub with_stack_at : ℕ → StackView → SegmentView → SegmentView
 with_stack_at place s v = record v { stacks = slice_set v.stacks place s }
 
--- two looks at a stack, before a line and after it
+-- two snapshots of a stack, before a line and after it
 abbrev pub AreLooks : StackView → StackView → Snapshot → Snapshot → Type 0
 AreLooks s t before after = IsSnapshot Step (state_of s) before × IsSnapshot Step (state_of t) after
 
@@ -50,13 +50,13 @@ Does (Some (Call event)) s turns outcome t =
 Does (Some (Ticks n)) s turns outcome t = (turns ≡ replicate n (call_turn Tick Done)) × IsReplied (codes "ok") outcome
 -- the text isn't specified
 Does (Some (Show topic)) s turns outcome t = (text : List ℕ) × (turns ≡ []) × IsReplied text outcome
--- no capture is played in
+-- no capture is played
 Does (Some (Capture name details)) s turns outcome t = (turns ≡ []) × (outcome ≡ Refused fault.NoCapture)
--- a host has the settings of its line `host`
+-- the settings of a host are in its line `host`
 Does (Some (Settings named)) s turns outcome t = (turns ≡ []) × (outcome ≡ Refused fault.NoSettings)
 Does None s turns outcome t = (turns ≡ []) × (outcome ≡ Refused fault.Nothing)
 
--- a line leads a stack from s to t, and comes out so
+-- a line leads a stack from s to t, with this outcome
 abbrev pub IsLineExecuted : List ℕ → StackView → List Turn → Outcome → StackView → Type 0
 IsLineExecuted plain s turns outcome t =
     (ask : Option Ask) × AsksFor plain ask × AreCalls s turns t × Does ask s turns outcome t

@@ -1,4 +1,4 @@
--- What only this crate reads.
+-- Definitions that only this crate uses.
 use Rattle.std.specs.Prelude.{◌≡◌, ◌⊎◌, ℕ, List, length, slice_get, Option, Some, None, Result, Ok, Err}
 use Rattle.flat_ether.specs.Links.{LinkState}
 use Rattle.net_stack.specs.Stack.{StackView, state_of}
@@ -53,7 +53,7 @@ play_with segment names printer = record {
 
 -- ---- the wire
 
--- what the code's own type for what a line asks of the wire stands for
+-- the request to the wire that a value of the code's own type means
 abbrev pub wire_asked : WireAsk → wires.WireAsk
 wire_asked (ask.Host name settings) = wires.Host name.now (left settings)
 wire_asked (ask.Wire names) = wires.Wire (left names)
@@ -80,7 +80,7 @@ ReadsAfter asked args None = (ask : wires.WireAsk) → AsksAfter asked args ask 
 
 -- ---- links
 
--- what the code's own type for what a line asks of a link stands for
+-- the request to a link that a value of the code's own type means
 abbrev pub link_asked : LinkAsk → links.LinkAsk
 link_asked (Frame frame) = links.Frame frame.now
 link_asked (LastError fd) = links.LastError fd
@@ -89,7 +89,7 @@ link_asked Counts = links.Counts
 link_asked (Ticks n) = links.Ticks n
 link_asked Packets = links.Packets
 
--- how many bytes of the room it takes
+-- how many bytes of the buffer it uses
 abbrev pub bytes_asked : LinkAsk → ℕ
 bytes_asked (Frame frame) = length frame.now
 bytes_asked (LastError fd) = 0
@@ -102,28 +102,28 @@ abbrev pub link_asks : Option LinkAsk → Option links.LinkAsk
 link_asks (Some ask) = Some (link_asked ask)
 link_asks None = None
 
--- the words after this one ask a link for this, or for nothing
+-- the words after this one are this request to a link, or no request
 abbrev pub ReadsOfLink : Command → List (List ℕ) → Option LinkAsk → Type 0
 ReadsOfLink asked args (Some ask) = links.AsksOfLink asked args (link_asked ask)
 ReadsOfLink asked args None = (ask : links.LinkAsk) → links.AsksOfLink asked args ask → ⊥
 
--- a line of a host, or one of a host that isn't there
+-- a line of a host, or one for a host that doesn't exist
 abbrev pub IsAtHost : ℕ → List ℕ → SegmentView → Outcome → SegmentView → Type 0
 IsAtHost place plain v came w =
     (acts : List Act) × (IsHostLine place plain v acts came w ⊎ IsMissing place v acts came w)
 
--- the same of what its stack is asked
+-- the same for a request to its stack
 abbrev pub IsAtStack : ℕ → List ℕ → SegmentView → Outcome → SegmentView → Type 0
 IsAtStack place plain v came w =
     (acts : List Act) × (IsStackLine place plain v acts came w ⊎ IsMissing place v acts came w)
 
--- the same of what its link is asked
+-- the same for a request to its link
 abbrev pub IsAtLink : ℕ → links.LinkAsk → SegmentView → Outcome → SegmentView → Type 0
 IsAtLink place ask v came w =
     (acts : List Act)
     × (DoesLink place ask (slice_get v.links place) v acts came w ⊎ IsMissing place v acts came w)
 
--- what the host at a place has counted
+-- the counters of the host at a place
 abbrev pub HasCounted : ℕ → SegmentView → HostCounts → Type 0
 HasCounted place v counts =
     (s : StackView) × (l : LinkState) × IsHostAt place v s l × (counts.stack ≡ (state_of s).counters)

@@ -1,4 +1,4 @@
--- What a host's link knows and has counted, in words (this project's own).
+-- What a host's link knows and has counted, as text (this project's own).
 use Rattle.std.specs.Prelude.{ℕ, ◌==◌, List, [], ◌∷◌, ◌++◌, length, flat_map, codes, decimal, if◌then◌else◌, nat_lt, Option, Some, None, Result, Ok, Err}
 use Rattle.flat_model.specs.Scripts.Errnos.{errno_number, name_of}
 use Rattle.flat_model.specs.declared.counters.Counters.{Counters}
@@ -88,7 +88,7 @@ state_text state.InUse = codes "uses its address"
 
 -- ---- a frame, and an error
 
--- Why the stack dropped what a frame brought, as of a packet that came, and what the link counted.
+-- Why the stack dropped the contents of a frame, as for a packet that arrived, and what the link counted.
 abbrev pub received_text : Counters → Tallies → Counters → Tallies → List ℕ
 received_text before link_before after link_after =
     reply_line (codes "ok") (drops_text before after) ++ rises_text link_before link_after

@@ -62,7 +62,7 @@ is_of_link Counts = true
 is_of_link (Ticks n) = false
 is_of_link Packets = false
 
--- a host with this link, or with none, doesn't execute it as a bare stack
+-- a host with this link, or without one, doesn't execute the request as a bare stack
 abbrev pub is_for_link : Option LinkState → LinkAsk → Bool
 is_for_link None ask = is_of_link ask
 is_for_link (Some link) ask = true
@@ -88,7 +88,7 @@ IsFrameReceived place frame v acts outcome w =
     × (acts ≡ Ether (ReceivesFrame place frame) ∷ [])
     × (outcome ≡ Replied (received_text (state_of s).counters l.tallies (state_of t).counters m.tallies) [])
 
--- the text says the last error that others reported
+-- the text is the last error that others reported
 abbrev pub IsErrorReported : ℕ → ℕ → SegmentView → List Act → Outcome → SegmentView → Type 0
 IsErrorReported place fd v acts outcome w =
     (error : Result (Option NetFault) Errno) × IsErrorQueried place fd error v w
@@ -98,7 +98,7 @@ IsErrorReported place fd v acts outcome w =
 abbrev pub ticks_at : ℕ → ℕ → List Act
 ticks_at place n = map (Calls place) (replicate n (call_turn Tick Done)) ++ replicate n (Ether (AgesLink place))
 
--- what is asked of this link
+-- the effect of a request to this link
 abbrev pub DoesAtLink : ℕ → LinkAsk → LinkState → SegmentView → List Act → Outcome → SegmentView → Type 0
 DoesAtLink place (Frame frame) link v acts outcome w = IsFrameReceived place frame v acts outcome w
 DoesAtLink place (LastError fd) link v acts outcome w = IsErrorReported place fd v acts outcome w
@@ -123,13 +123,13 @@ IsLinkLine place plain v acts outcome w =
     (ask : LinkAsk) × WritesLink plain ask × (is_for_link (slice_get v.links place) ask ≡ true)
     × DoesLink place ask (slice_get v.links place) v acts outcome w
 
--- a line that no link executes: it is no request to a link, or the host executes it as a bare stack
+-- a line that no link executes: it isn't a request to a link, or the host executes it as a bare stack
 abbrev pub IsForStack : ℕ → List ℕ → SegmentView → Type 0
 IsForStack place plain v =
     AsksLink plain None
     ⊎ ((ask : LinkAsk) × WritesLink plain ask × (is_for_link (slice_get v.links place) ask ≡ false))
 
--- A line of the host at a place leads from v to w by these acts, and comes out so.
+-- A line of the host at a place leads from v to w by these acts, with this outcome.
 abbrev pub IsHostLine : ℕ → List ℕ → SegmentView → List Act → Outcome → SegmentView → Type 0
 IsHostLine place plain v acts outcome w =
     (IsForStack place plain v × IsStackLine place plain v acts outcome w)

@@ -1,4 +1,4 @@
--- What may be printed for a line, and what it leads to (this project's own).
+-- The possible output for a line, and its effects (this project's own).
 use Rattle.std.specs.Prelude.{◌≡◌, ◌⊎◌, ℕ, ◌-◌, ◌&&◌, ◌||◌, zero, suc, Bool, true, false, List, [], ◌∷◌, ◌++◌, length, take, bytes_eq, codes, decimal, if◌then◌else◌, nat_lt, slice_get, Option, Some, None, Result, Ok, Err}
 use Rattle.flat_model.specs.Amounts.Choice.{Choice}
 use Rattle.flat_model.specs.Machine.Count.{more_by}
@@ -54,7 +54,7 @@ IsParted line None part = part ≡ line
 
 -- ---- texts
 
--- a line of the wire by which packets go or come
+-- a line of the wire by which packets leave or arrive
 abbrev pub moves_packets : List ℕ → Bool
 moves_packets plain =
     bytes_eq (codes "carry") (take 5 plain) || bytes_eq plain (codes "collect") || bytes_eq plain (codes "deliver")
@@ -64,7 +64,7 @@ abbrev pub has_objects : Form → Option (List ℕ) → List ℕ → Bool
 has_objects form (Some host) plain = false
 has_objects form None plain = is_json form && moves_packets plain
 
--- what is printed for a line
+-- the output for a line
 abbrev pub IsText : WirePlay → Option (List ℕ) → List ℕ → List ℕ → Option (List ℕ) → Outcome → List ℕ → Type 0
 IsText now host shown plain wanted (Replied reply_line below) text =
     (objects : List ℕ) × (has_objects now.form host plain ≡ false → objects ≡ [])
@@ -84,7 +84,7 @@ abbrev pub left_text : SegmentView → List ℕ
 left_text v =
     if is_quiet_segment v then codes "quiet" else codes "left " ++ decimal (length v.flight) ++ codes " under way"
 
--- the outcome of a carry; without a wire it's refused, and nothing is done
+-- the outcome of a carry; without a wire it's an error, and nothing is done
 abbrev pub ReportsLeft : List Act → Outcome → SegmentView → Type 0
 ReportsLeft acts (Replied reply_line below) segment = reply_line ≡ left_text segment
 ReportsLeft acts (Refused reason) segment = (acts ≡ []) × (reason ≡ fault.NoWire)
@@ -94,12 +94,12 @@ abbrev pub ReportsHalf : List Act → Outcome → Type 0
 ReportsHalf acts (Replied reply_line below) = (reply_line ≡ codes "ok") × (below ≡ [])
 ReportsHalf acts (Refused reason) = (acts ≡ []) × (reason ≡ fault.NoWire)
 
--- by hand: it's refused if a packet isn't there, or there's no room for a copy
+-- by hand: it's an error if a packet doesn't exist, or if there's no space for a copy
 abbrev pub IsByHand : Bool → Act → List Act → Outcome → Type 0
 IsByHand there act acts outcome =
     (acts ≡ act ∷ []) × Choice there (outcome ≡ Replied (codes "ok") []) (outcome ≡ Refused fault.NoPacket)
 
--- what is asked of the wire does these acts, which lead from v to w, and comes out so
+-- the request to the wire does these acts, which lead from v to w, with this outcome
 abbrev pub DoesWire : WireAsk → SegmentView → List Act → Outcome → SegmentView → Type 0
 DoesWire (Carry bound) v acts outcome w = ReportsLeft acts outcome w
 DoesWire Collect v acts outcome w = ReportsHalf acts outcome
@@ -115,23 +115,23 @@ DoesWire (Wire hosts) v acts outcome w = acts ≡ []
 DoesWire Show v acts outcome w = acts ≡ []
 DoesWire _ v acts outcome w = Unit {0}
 
--- the name of a host that joined so
+-- the name of the host that a request added, if it added one
 abbrev pub added_by : Option WireAsk → Outcome → List (List ℕ)
 added_by (Some (Host name settings)) (Replied reply_line below) = name ∷ []
 added_by _ _ = []
 
--- nothing is asked, so nothing is done
+-- without a request, nothing is done
 abbrev pub DoesAsked : Option WireAsk → SegmentView → List Act → Outcome → SegmentView → Type 0
 DoesAsked (Some ask) v acts outcome w = DoesWire ask v acts outcome w
 DoesAsked None v acts outcome w = (acts ≡ []) × (outcome ≡ Refused fault.Nothing)
 
--- a line of the wire does these acts, and comes out so; the names of the hosts before and after it
+-- a line of the wire does these acts, with this outcome; the names of the hosts before and after it
 abbrev pub DoesLine : List ℕ → SegmentView → List Act → Outcome → SegmentView → List (List ℕ) → List (List ℕ) → Type 0
 DoesLine plain v acts outcome w names after =
     (ask : Option WireAsk) × AsksWire plain ask × DoesAsked ask v acts outcome w
     × (after ≡ names ++ added_by ask outcome)
 
--- A line of a host is that of the host with this name. Another line is one of the wire.
+-- A line of a host is executed by the host with this name. Any other line is one of the wire.
 abbrev pub IsDone : WirePlay → Option (List ℕ) → List ℕ → List Act → Outcome → SegmentView → List (List ℕ) → Type 0
 IsDone now (Some host) plain acts outcome segment names =
     (names ≡ now.names)
@@ -142,7 +142,7 @@ IsDone now (Some host) plain acts outcome segment names =
 IsDone now None plain acts outcome segment names =
     AreActs now.segment acts segment × DoesLine plain now.segment acts outcome segment now.names names
 
--- what a line with a request does
+-- the effect of a line with a request
 abbrev pub ReportsAsked : WirePlay → Option (List ℕ) → List ℕ → List ℕ → Option (List ℕ) → List Act → List ℕ → WirePlay
     → Type 0
 ReportsAsked now host shown plain wanted acts text new =
@@ -156,7 +156,7 @@ abbrev pub IsWaited : ℕ → SegmentView → List Act → SegmentView → Type 
 IsWaited zero v acts w = (acts ≡ []) × (w ≡ v)
 IsWaited (suc n) v acts w = AreActs v acts w
 
--- What the part of a line with this reading does, where `now` has its number. If it makes a request, `ticks` pass
+-- The effect of the part of a line with this reading, where `now` has its number. If it makes a request, `ticks` pass
 -- first. The part follows `before` bytes of the line.
 abbrev pub ReportsPart : WirePlay → Option (List ℕ) → ℕ → ℕ → Reading → List Act → List ℕ → WirePlay → Type 0
 ReportsPart now host ticks before Nothing acts text new = (acts ≡ []) × (text ≡ []) × (new ≡ now)
@@ -170,7 +170,7 @@ ReportsPart now host ticks before (Asks shown plain wanted) acts text new =
     (first rest : List Act) × (mid : SegmentView) × (acts ≡ first ++ rest) × IsWaited ticks now.segment first mid
     × ReportsAsked (record now { segment = mid }) host shown plain wanted rest text new
 
--- a line with its time, or what is wrong with that
+-- a line with its time, or the error in the time
 abbrev pub ReportsTimed : WirePlay → List ℕ → Result TimedView SyntaxError → List Act → List ℕ → WirePlay → Type 0
 ReportsTimed now line (Err error) acts text new =
     (acts ≡ []) × (text ≡ line_error_text now.form now.name now.number error) × (new ≡ record now { sound = false })
@@ -178,7 +178,7 @@ ReportsTimed now line (Ok t) acts text new =
     (host : Option (List ℕ)) × (part : List ℕ) × IsParted t.part host part
     × ReportsPart now host t.ticks (length line - length part) (reading_part line part) acts text new
 
--- a line may have this text, by these acts
+-- the output for a line may be this text, by these acts
 abbrev pub ReportsBy : WirePlay → List ℕ → List Act → List ℕ → WirePlay → Type 0
 ReportsBy old line acts text new = ReportsTimed (next_wire_line line old) line (timed line) acts text new
 

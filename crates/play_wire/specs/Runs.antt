@@ -1,4 +1,4 @@
--- What holds of a whole script (this project's own).
+-- The law of a whole script (this project's own).
 use Rattle.std.specs.Prelude.{◌≡◌, ℕ, List, [], ◌∷◌, ◌++◌}
 use Rattle.flat_model.specs.Machine.Event.{Receive, Received}
 use Rattle.flat_model.specs.Machine.Ledger.{exact_ledger}
@@ -13,7 +13,7 @@ use Rattle.play_text.specs.declared.form.Form.{Form}
 use Rattle.play_wire.specs.Reports.{WirePlay, ReportsBy, wire_started}
 use Rattle.play_wire.specs.declared.hosts.TheConstants.{PACKETS}
 
--- these lines have this text by these acts, one line after another
+-- the output for these lines is this text, by these acts, one line after another
 abbrev pub AreReportedBy : WirePlay → List (List ℕ) → List Act → List ℕ → WirePlay → Type 0
 AreReportedBy old [] acts printed new = (acts ≡ []) × (printed ≡ []) × (new ≡ old)
 AreReportedBy old (line ∷ lines) acts printed new =
@@ -33,7 +33,7 @@ IsLawful acts last =
     → sender.ip ≡ first.addr
     → WasSent exact_ledger exact_ledger first second (turns_of i acts) before (state_of s) fd most sender bytes
 
--- What is printed for the lines of a script that begins with this seed is printed by acts, line by line. After the
+-- The output for the lines of a script that begins with this seed is caused by acts, line by line. After the
 -- start of the generator, they lead from a segment without hosts to this one, and the law holds for them.
 pub record IsPlayed (seed : ℕ) (form : Form) (name : List ℕ) (lines : List (List ℕ)) (printed : List ℕ)
     (new : WirePlay) : Type 0 where

@@ -1,4 +1,4 @@
--- What a packet did to a host and to its link (this project's own).
+-- The effect of a packet on a host and its link (this project's own).
 use Rattle.std.specs.Prelude.{ℕ, Bool, List, codes, if◌then◌else◌, map, nat_lt}
 use Rattle.flat_ether.specs.declared.tallies.Tallies.{Tallies}
 use Rattle.play_text.specs.Fates.{is_some_true}
@@ -16,7 +16,7 @@ is_counted before after which = nat_lt (link_count which before) (link_count whi
 abbrev pub counted_between : Tallies → Tallies → List Bool
 counted_between before after = map (is_counted before after) all_link_counts
 
--- what happened to a packet, as an object of JSON names it
+-- the name of what happened to a packet in a JSON object
 abbrev pub kept_word : Fate → List ℕ
 kept_word fate.Kept = codes "kept"
 kept_word fate.Whole = codes "received"

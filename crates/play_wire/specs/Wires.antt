@@ -1,4 +1,4 @@
--- What a line asks of the wire (this project's own).
+-- The request of a line to the wire (this project's own).
 use Rattle.std.specs.Prelude.{◌≡◌, ◌⊎◌, ◌<◌, ◌^◌, ℕ, List, [], ◌∷◌, codes, drop, get_or, Option, Some, None}
 use Rattle.std.specs.List.{find}
 use Rattle.std.specs.Str.Parse.{IsNumeral, digits_value, without_leading_plus}
@@ -56,7 +56,7 @@ AsksAfter command.Seed args (Seed seed) = IsSeed args seed
 AsksAfter command.Drop args (Drop at) = IsOneNumber 65535 args at
 AsksAfter command.Swap args (Swap at other) = ArePlaces args at other
 AsksAfter command.Repeat args (Repeat at) = IsOneNumber 65535 args at
--- what is no place is a chance
+-- words that aren't a place are a chance
 AsksAfter command.Repeat args (Impair kind words) =
     ((at : ℕ) → ¬ IsOneNumber 65535 args at) × (kind ≡ command.Repeat) × (words ≡ args)
 AsksAfter command.Loss args (Impair kind words) = (kind ≡ command.Loss) × (words ≡ args)

@@ -25,7 +25,7 @@ impl<T: Sink + Drop> Capture<T> {
         }
     }
 
-    /// Chooses the link type: frames if the hosts are on an Ethernet, otherwise packets. All hosts of a segment are of
+    /// Sets the link type: frames if the hosts are on an Ethernet, otherwise packets. All hosts of a segment are of
     /// one kind.
     pub(crate) fn choose(&mut self, segment: &Segment) {
         self.trace.choose(if segment.is_ether() {
@@ -49,7 +49,7 @@ impl<T: Sink + Drop> Capture<T> {
         }
     }
 
-    /// Records the packets or frames in flight from a place on.
+    /// Records the packets or frames in flight, from an index on.
     fn keep_from(&mut self, segment: &Segment, first: usize) {
         for at in first..segment.flight_len() {
             if let Some(it) = segment.under_way(at) {

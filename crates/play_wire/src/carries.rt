@@ -33,7 +33,7 @@ pub(crate) fn carry<T: Sink + Drop>(
     carry_on(segment, bound, capture, names, log);
 }
 
-/// Carries this often, once hosts on an Ethernet gave what they have.
+/// Carries this often, after hosts on an Ethernet have transmitted what they have.
 fn carry_on<T: Sink + Drop>(
     segment: &mut Segment,
     bound: Bound,

@@ -20,7 +20,7 @@ pub(crate) enum Part {
 }
 
 impl Part {
-    /// Returns the chances with this part.
+    /// Returns the chances with this one set.
     pub(crate) fn put(self, chances: Chances) -> Chances {
         match self {
             Part::Loss(loss) => Chances { loss, ..chances },
@@ -35,7 +35,7 @@ impl Part {
     }
 }
 
-/// Returns a chance of `part` in `whole`, in parts of 2 to the 32nd, rounded down. `None` if it's none of 0 to 1.
+/// Returns a chance of `part` in `whole`, in units of 2 to the power of -32, rounded down. `None` if it isn't a chance.
 fn limit_of(part: u32, whole: u32) -> Option<u64> {
     if whole == 0 || part > whole {
         return None;
@@ -53,7 +53,7 @@ fn cut(word: &[u8], byte: u8) -> Option<(&[u8], &[u8])> {
     }
 }
 
-/// Returns the number that decimal digits write, at most six of them, with zeros in front or not.
+/// Returns the number that at most six decimal digits write, with or without leading zeros.
 fn digits_in(word: &[u8]) -> Option<u32> {
     if word.is_empty() || word.len() > PLACES {
         return None;

@@ -16,7 +16,7 @@ pub(crate) enum Fault {
     NoName,
     /// A host has this name.
     NameTaken,
-    /// Its settings are refused, for this reason.
+    /// Its settings are invalid, for this reason.
     Setting(SettingFault),
     /// There are 64 hosts.
     TooManyHosts,
@@ -30,7 +30,7 @@ pub(crate) enum Fault {
     NotAll,
     /// The word isn't a chance or a delay.
     NoChance,
-    /// No packet under way has this place, or there's no room for a copy.
+    /// No packet in flight has this place, or there's no space for a copy.
     NoPacket,
     /// It names a capture.
     NoCapture,
@@ -57,7 +57,7 @@ pub(crate) enum Fault {
 }
 
 impl Fault {
-    /// Why, in words.
+    /// Returns the reason in words.
     pub(crate) fn words(self) -> &'static str
         ensures { length result.now ≤ 80 }
     {
@@ -90,7 +90,7 @@ impl Fault {
         }
     }
 
-    /// Returns why a host doesn't join.
+    /// Returns the reason why a host can't join.
     pub(crate) fn of_join(fault: JoinFault) -> Fault {
         match fault {
             JoinFault::TooManyHosts => Fault::TooManyHosts,

@@ -7,7 +7,7 @@ use flat_model::Config;
 use segment::{JoinFault, Link, Segment};
 use std::alloc::Global;
 
-/// Returns a host joins, on an Ethernet if it has a link.
+/// Lets a host join, on an Ethernet if it has a link.
 pub(crate) fn join(
     segment: &mut Segment,
     alloc: Global,

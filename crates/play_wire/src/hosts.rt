@@ -19,7 +19,7 @@ use script_loop::{Buffer, Sink, first_word};
 use segment::{Link, Segment};
 use std::alloc::Global;
 
-/// The most packets that are under way at once.
+/// The most packets that are in flight at once.
 pub(crate) const PACKETS: u16 = 4096;
 
 /// The hosts, by their places, and the wire.
@@ -27,7 +27,7 @@ pub(crate) struct Hosts<T: Sink + Drop> {
     pub(crate) alloc: Global,
     pub(crate) segment: Segment,
     pub(crate) names: Vec<Buffer<NAME>>,
-    /// Whether the line `wire` was there.
+    /// Whether the line `wire` was executed.
     pub(crate) wired: bool,
     /// The capture of the wire.
     pub(crate) capture: Capture<T>,
@@ -111,7 +111,7 @@ fn are_all(words: &[u8], names: &[Buffer<NAME>]) -> bool {
 }
 
 impl<T: Sink + Drop> Hosts<T> {
-    /// Returns no hosts yet, with a wire of this seed. `None` if host memory is lacking.
+    /// Returns hosts before the first one, with a wire of this seed. `None` if host memory runs out.
     pub(crate) fn new(alloc: Global, seed: u64, capture: Capture<T>) -> Option<Hosts<T>>
         ensures { IfSome result (λ h. (view h.segment ≡ record (no_hosts PACKETS) { random = seeded seed })
             × (h.names.items ≡ [])) }
@@ -204,7 +204,7 @@ impl<T: Sink + Drop> Hosts<T> {
         Ok(())
     }
 
-    /// Frees all. Whether the whole capture was written.
+    /// Frees all. Returns whether the whole capture was written.
     pub(crate) fn end(self) -> bool {
         let Hosts {
             alloc: _,

@@ -30,7 +30,7 @@ fn set_all(segment: &mut Segment, part: Part)
 }
 
 impl<T: Sink + Drop> Hosts<T> {
-    /// `loss C`, `repeat C`, `reorder C`, `delay A-B`: of what all hosts send, or, with `from NAME`, of what one sends.
+    /// `loss C`, `repeat C`, `reorder C`, `delay A-B`: for all hosts that send, or, with `from NAME`, for one of them.
     pub(crate) fn impair(&mut self, kind: Command, rest: Option<&[u8]>) -> Result<(), Fault>
         ensures moves { AreLedTo (view self.old.segment) (view self.new.segment) }
         ensures names { self.new.names ≡ self.old.names }

@@ -2,7 +2,7 @@
 ghost use Rattle.std.specs.Prelude.{◌≡◌, ℕ, List};
 ghost use Rattle.play_wire.specs.Wires.{WireAsk, WritesWire};
 
-/// A line asks the wire for one thing at most.
+/// A line makes at most one request to the wire.
 pub fn asks_law()
     ensures { (plain : List ℕ) (a b : WireAsk) → WritesWire plain a → WritesWire plain b → a ≡ b }
 {}

@@ -73,7 +73,7 @@ fn mask_of(word: &[u8]) -> Option<u32> {
     }
 }
 
-/// Returns the link with what this word sets, by the word after it.
+/// Returns the link with the setting of this word, whose value is the word after it.
 fn with_word(link: Link, name: &[u8], value: &[u8]) -> Result<Link, Fault> {
     match name {
         b"mac" => match mac_of(value) {
@@ -95,7 +95,7 @@ fn with_word(link: Link, name: &[u8], value: &[u8]) -> Result<Link, Fault> {
     }
 }
 
-/// Returns the word after a name, which is empty if none is left, and what is left after it.
+/// Returns the word after a name, or an empty word if the line ends, and the rest of the line.
 pub(crate) fn value_in(rest: Option<&[u8]>) -> (&[u8], Option<&[u8]>)
     ensures word { result.0.now ≡ get_or (left rest.entry) 0 [] }
     ensures rest { left result.1 ≡ drop 1 (left rest.entry) }
@@ -108,7 +108,7 @@ pub(crate) fn value_in(rest: Option<&[u8]>) -> (&[u8], Option<&[u8]>)
 }
 
 /// Returns the link of the host at a place by the words after `ether`, and the settings of its stack, which begin with
-/// two dashes. Refused at the first word that is wrong: `NoLinkWord`, `BadMac`, `BadMask`, `BadGateway`.
+/// two dashes. Fails at the first word that is wrong: `NoLinkWord`, `BadMac`, `BadMask`, `BadGateway`.
 pub(crate) fn link_of(words: Option<&[u8]>, place: usize) -> Result<(Link, Option<&[u8]>), Fault> {
     let mut link = link_at(place);
     let mut rest = words;
@@ -129,7 +129,7 @@ pub(crate) fn link_of(words: Option<&[u8]>, place: usize) -> Result<(Link, Optio
     Ok((link, None))
 }
 
-/// Whether a host of this configuration can have a link. Refused: `BadMtu`, then `BadGateway`.
+/// Checks whether a host of this configuration can have a link. Errors: `BadMtu`, then `BadGateway`.
 pub(crate) fn check_link(link: &Link, config: &Config) -> Result<(), Fault> {
     if link.check(config) {
         return Ok(());

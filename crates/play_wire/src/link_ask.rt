@@ -28,7 +28,7 @@ pub(crate) enum LinkAsk<'r> {
     Counts,
     /// This many ticks.
     Ticks(u32),
-    /// A packet without a frame arrives or is taken.
+    /// A packet without a frame arrives or leaves.
     Packets,
 }
 
@@ -74,7 +74,7 @@ fn shown_of(rest: Option<&[u8]>) -> Option<LinkAsk<'static>>
     None
 }
 
-/// Returns the request for a packet that arrives, with its bytes or by name.
+/// Returns the request for a packet that arrives, given by its bytes or by a description.
 fn coming(rest: Option<&[u8]>) -> Option<LinkAsk<'static>>
     ensures is { ReadsOfLink command.Rx (left rest.entry) result }
     ensures fits { IfSome result (λ ask. bytes_asked ask ≤ IP_MAX_PACKET) }
@@ -86,7 +86,7 @@ fn coming(rest: Option<&[u8]>) -> Option<LinkAsk<'static>>
     }
 }
 
-/// Returns a packet that is taken.
+/// Returns the request for a packet that leaves.
 fn taken(rest: Option<&[u8]>) -> Option<LinkAsk<'static>>
     ensures is { ReadsOfLink command.Tx (left rest.entry) result }
     ensures fits { IfSome result (λ ask. bytes_asked ask ≤ IP_MAX_PACKET) }

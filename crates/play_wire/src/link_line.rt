@@ -148,7 +148,7 @@ fn tick(
     }
 }
 
-/// Does what a line asks of the link of the host at a place, which has one.
+/// Executes a request to the link of the host at a place, which has a link.
 fn execute_there(
     segment: &mut Segment,
     counting: &mut Counting,

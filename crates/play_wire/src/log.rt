@@ -28,7 +28,7 @@ const FATES: usize = 4096;
 /// The size of a packet of any link.
 const OUTPUT: usize = MAX_MTU as usize;
 
-/// A packet or a frame that went or came.
+/// A packet or a frame that was sent or delivered.
 #[derive(Clone, Copy)]
 struct Packet {
     sender: usize,
@@ -66,14 +66,14 @@ pub(crate) struct Log {
     /// The packets of half a carry, and what happened to them.
     packets: Vec<Packet>,
     events: Vec<Event>,
-    /// How many packets of each host went once, by the places of the hosts.
+    /// How many packets of each host were sent once, by the places of the hosts.
     sent: [u64; MAX_HOSTS],
     /// How many packets were printed as text, and how many more there were.
     printed: usize,
     more: u64,
-    /// Whether an object is missing.
+    /// Whether an object was left out.
     partial: bool,
-    /// The host to which a packet is about to come.
+    /// The host to which a packet is about to be delivered.
     before: Option<Look>,
     /// Whether the line moves packets, and whether some of them weren't printed as text.
     moved: bool,

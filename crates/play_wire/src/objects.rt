@@ -1,5 +1,5 @@
-//! What happened to packets, as JSON objects. An object that doesn't fit is left out whole, since a part of it would be
-//! no JSON.
+//! What happened to packets, as JSON objects. An object that doesn't fit is left out completely, since a part of it
+//! wouldn't be JSON.
 use crate::add::{add, add_number};
 use crate::names::NAME;
 use crate::show::name_at;
@@ -17,12 +17,12 @@ const OBJECT: usize = 10_240;
 pub(crate) struct Fields<'a> {
     /// The number of the line.
     pub(crate) number: u64,
-    /// The place of the host that has sent it, and of the one to which it came.
+    /// The places of the host that has sent it, and of the host at which it arrived.
     pub(crate) from: usize,
     pub(crate) to: Option<usize>,
     pub(crate) packet: &'a [u8],
     pub(crate) fate: &'static [u8],
-    /// In how many carries it isn't due yet.
+    /// The number of carries before it is due.
     pub(crate) wait: u64,
 }
 

@@ -43,7 +43,7 @@ fn counted_at(segment: &mut Segment, spare: &mut Stack, place: usize) -> Counted
     }
 }
 
-/// Takes down what each host has counted.
+/// Records the counters of each host.
 pub(crate) fn take_counts(segment: &mut Segment, spare: &mut Stack, counts: &mut [Counted])
     ensures { AreLedTo (view segment.old) (view segment.new) }
 {
@@ -53,14 +53,14 @@ pub(crate) fn take_counts(segment: &mut Segment, spare: &mut Stack, counts: &mut
     }
 }
 
-/// Who counted, and of what: of packets or of frames.
+/// The name of a host, and what is counted: packets or frames.
 #[derive(Clone, Copy)]
 struct Counter<'a> {
     name: &'a [u8],
     unit: &'a [u8],
 }
 
-/// Appends how many packets or frames of a host had some fate, as a line, if there are any.
+/// Appends a line that says to how many packets or frames of a host this happened, if it happened to any.
 fn add_fate(text: &mut Buffer<SHOWN>, by: Counter<'_>, fate: &[u8], count: u64) {
     if count == 0 {
         return;

@@ -115,7 +115,7 @@ fn objects_of<'a>(form: Form, target: &Target, line: &Line, log: &'a Log) -> &'a
     }
 }
 
-/// Appends bytes, if there is room for them.
+/// Appends bytes, if there is space for them.
 fn put_fitting(text: &mut Buffer<OUTPUT>, bytes: &[u8])
     ensures { (added : List ℕ) × (bytes.now ≡ [] → added ≡ []) × (text.new ≡ text.old ++ added) }
 {
@@ -177,7 +177,7 @@ impl<T: Sink + Drop> Player<T> {
         }
     }
 
-    /// Spends the player with its hosts. Whether the whole capture was written.
+    /// Consumes the player with its hosts. Returns whether the whole capture was written.
     pub(crate) fn end(self) -> bool {
         let Player {
             hosts,

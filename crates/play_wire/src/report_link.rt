@@ -16,7 +16,7 @@ use segment::{AddressState, Link, Neighbour, NetFault, Segment, Tallies};
 
 // ---- neighbours
 
-/// Appends where a neighbour is; or how often it was requested, and how many packets wait for it.
+/// Appends the hardware address of a neighbour; or how often it was requested, and how many packets wait for it.
 fn add_known(text: &mut Buffer<SHOWN>, it: &Neighbour, waiting: usize) {
     match it.mac {
         Some(mac) => add(
@@ -113,7 +113,7 @@ fn put_link_lines(text: &mut Buffer<SHOWN>, link: &Link, tallies: &Tallies) {
     }
 }
 
-/// How far a host is with its address, in words.
+/// Returns the state of a host's address, in words.
 fn words_for(state: AddressState) -> &'static [u8]
     ensures is { result.now ≡ state_text state }
     ensures short { length result.now ≤ 40 }
@@ -198,7 +198,7 @@ pub(crate) fn report_frame(
     put_rises(reply_line, &before.link, &after.link);
 }
 
-/// Appends a refusal.
+/// Appends the name of an error.
 fn put_refusal(text: &mut Buffer<REPLY_LINE>, errno: Errno)
     ensures { text.new ≡ error_text (Err errno) }
 {

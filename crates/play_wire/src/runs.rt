@@ -32,7 +32,7 @@ struct Parts {
     printer: Printer,
 }
 
-/// Allocates the parts of a player apart from its hosts. Those that are dropped if memory is lacking come first, and
+/// Allocates the parts of a player apart from its hosts. Those that are dropped if memory runs out come first, and
 /// the one with the most pieces last.
 fn parts_for(alloc: Global, style: Style<'_>) -> Result<Parts, AllocError>
     ensures { IfOk result (λ p. (p.printer.form ≡ style.entry.form) × (p.printer.number ≡ 0)
@@ -55,7 +55,7 @@ fn parts_for(alloc: Global, style: Style<'_>) -> Result<Parts, AllocError>
 
 /// How a script begins.
 pub struct Start<T: Sink + Drop> {
-    /// The seed of the wire, until a line `seed` says another one.
+    /// The seed of the wire, until a line `seed` sets another one.
     pub seed: u64,
     /// The writer for the capture of the wire; `play_pcap::Nowhere` for none.
     pub capture: T,
@@ -69,7 +69,7 @@ pub struct PlayedHosts {
     pub kept: bool,
 }
 
-/// Returns a capture that is written to this sink. `None` if host memory is lacking.
+/// Returns a capture that is written to this sink. `None` if the host refuses memory.
 fn capture_for<T: Sink + Drop>(alloc: Global, sink: T) -> Option<Capture<T>> {
     let Ok(buffer) = Buffer::new(alloc) else {
         return None;
@@ -78,7 +78,7 @@ fn capture_for<T: Sink + Drop>(alloc: Global, sink: T) -> Option<Capture<T>> {
 }
 
 /// Returns a player's hosts before the first one, with a wire of this seed, and a capture that is written to this sink.
-/// `None` if host memory is lacking.
+/// `None` if the host refuses memory.
 fn hosts_for<T: Sink + Drop>(alloc: Global, seed: u64, sink: T) -> Option<Hosts<T>>
     ensures { IfSome result (λ h. (view h.segment ≡ record (no_hosts PACKETS) { random = seeded seed })
         × (h.names.items ≡ [])) }
@@ -87,7 +87,7 @@ fn hosts_for<T: Sink + Drop>(alloc: Global, seed: u64, sink: T) -> Option<Hosts<
     Hosts::new(alloc, seed, capture)
 }
 
-/// Returns a player whose script has this style, before its first line. `None` if host memory is lacking.
+/// Returns a player whose script has this style, before its first line. `None` if the host refuses memory.
 fn player_for<T: Sink + Drop>(
     alloc: Global,
     style: Style<'_>,
@@ -133,7 +133,7 @@ fn player_for<T: Sink + Drop>(
 ///
 /// # Errors
 ///
-/// `Memory` if host memory is lacking: nothing was read or written then. `Read`, `Write` and `TooManyLines` as in
+/// `Memory` if the host refuses memory: nothing was read or written then. `Read`, `Write` and `TooManyLines` as in
 /// `play_script::play`.
 pub fn play_hosts<R: Source, W: Sink, T: Sink + Drop>(
     alloc: Global,

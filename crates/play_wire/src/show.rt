@@ -15,7 +15,7 @@ const MOST: usize = 200;
 /// An IP header without options.
 type Header = [u8; IP_HEADER as usize];
 
-/// Returns the first 20 bytes of a packet. A byte that isn't there is 0.
+/// Returns the first 20 bytes of a packet. A missing byte is 0.
 fn header_of(packet: &[u8]) -> Header {
     let mut header = [0; IP_HEADER as usize];
     let len = packet.len().min(header.len());
@@ -33,7 +33,7 @@ fn add_address(text: &mut Buffer<SHOWN>, octets: &[u8]) {
     }
 }
 
-/// Appends what part of a datagram a packet has, if it isn't all of it.
+/// Appends which part of a datagram a packet has, if it doesn't have all of it.
 fn add_part(text: &mut Buffer<SHOWN>, header: &Header) {
     let word = BigEndian::read_u16(&header[6..]);
     let more = word & 0x2000 != 0;
@@ -61,7 +61,7 @@ fn add_packet(text: &mut Buffer<SHOWN>, packet: &[u8]) {
     add_part(text, &header);
 }
 
-/// Appends a packet or a frame that is under way, as a line.
+/// Appends a packet or a frame that is in flight, as a line.
 fn add_under_way(text: &mut Buffer<SHOWN>, at: usize, name: &[u8], it: UnderWay<'_>, ether: bool) {
     add(text, b"    ");
     add_number(text, at as u64);

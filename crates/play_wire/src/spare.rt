@@ -25,7 +25,7 @@ pub(crate) struct Counting {
 }
 
 impl Counting {
-    /// Boots the stack. `None` if host memory is lacking.
+    /// Boots the stack. `None` if the host refuses memory.
     fn new(alloc: Global) -> Option<Counting> {
         let Ok(drops) = Buffer::new(alloc) else {
             return None;
@@ -58,7 +58,7 @@ pub(crate) struct Spare {
 }
 
 impl Spare {
-    /// Boots it. `None` if host memory is lacking.
+    /// Boots it. `None` if the host refuses memory.
     pub(crate) fn new(alloc: Global) -> Option<Spare> {
         let Ok(bytes) = zero_bytes(alloc, PACKET) else {
             return None;

@@ -1,4 +1,4 @@
-//! What a packet did to a host, by snapshots of the host before and after it.
+//! The effect of a packet on a host, by snapshots of the host before and after it.
 ghost use Rattle.std.specs.Prelude.{◌≡◌};
 ghost use Rattle.net_stack.specs.Stack.{state_of};
 ghost use Rattle.play_show.specs.Changes.{IsEffect, IsSnapshot};
@@ -41,7 +41,7 @@ impl Look {
     }
 }
 
-/// What a packet did to a host.
+/// The effect of a packet on a host.
 #[derive(Clone, Copy)]
 pub(crate) struct Verdict {
     effect: Effect,

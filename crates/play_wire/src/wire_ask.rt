@@ -15,7 +15,7 @@ use std::str;
 /// The most carries that a line can request.
 const MOST_CARRIES: u32 = 1_000_000;
 
-/// The most carries of `carry all` if it doesn't say another number.
+/// The most carries of `carry all` if it doesn't give a number.
 const ALL: u32 = 1000;
 
 /// The last place of a packet, and the most ticks.
@@ -38,11 +38,11 @@ pub(crate) enum WireAsk<'l> {
     Tick(u32),
     /// The choices of the wire start with this seed.
     Seed(u64),
-    /// The packet under way at this place, from 0 on, is lost.
+    /// The packet in flight at this place, from 0 on, is lost.
     Drop(usize),
     /// It's duplicated.
     Repeat(usize),
-    /// Two of them change places.
+    /// Two of them are swapped.
     Swap(usize, usize),
     /// A chance or a delay is set, by these words.
     Impair(Command, Option<&'l [u8]>),

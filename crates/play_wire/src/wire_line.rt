@@ -36,7 +36,7 @@ fn report_left(reply_line: &mut Buffer<REPLY_LINE>, segment: &Segment)
     reply_line.append(b" under way");
 }
 
-/// Reports `ok` if all packets were there, and there was room for a copy.
+/// Reports `ok` if all packets exist, and there was space for a copy.
 fn report_there(there: bool, report: &mut Report) -> Result<(), Fault>
     ensures { Choice there (outcome_of result report.new.reply_line report.new.below ≡ Replied (codes "ok") [])
         (outcome_of result report.new.reply_line report.new.below ≡ Refused fault.NoPacket) }

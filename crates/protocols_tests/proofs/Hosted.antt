@@ -1,4 +1,4 @@
--- Sockets and an output queue beside chains in hand, for the tests.
+-- Sockets, an output queue and chains of the caller in one pool, for the tests.
 use Rattle.std.proofs.Common.{◌≡◌, ◌≢◌, ℕ, ◌+◌, ◌≤◌, List, [], ◌++◌, None, sym, ap, subst, arith}
 use Rattle.flat_model.specs.Machine.Event.{Event, Reply}
 use Rattle.mbuf_chain.specs.Chain.{PoolView}
@@ -14,13 +14,13 @@ use Rattle.sock_calls.specs.Sockets.{SocksView, IsSocks, IsCalled, queued_chains
 use Rattle.sock_calls.specs.Outgoing.{CanSend, sending}
 use Rattle.sock_calls.proofs.Laws.{Kept, kept}
 
--- sockets, output queue, and the chains in hand
+-- the sockets, the output queue, and the caller's chains
 pub record Held (p : PoolView) (s : SocksView) (t : TrainView) (xs : List ℕ) : Type 0 where
   pub socks : IsSocks p s
   pub out : IsOutputQueue p t
   pub owned : IsOwned p (xs ++ (numbers p t ++ queued_chains p s.queues))
 
--- the chains in hand became others
+-- the caller's chains were replaced by others
 pub in_hand : {p q : PoolView} {s : SocksView} {t : TrainView} {xs ys : List ℕ} → Held p s t xs → Moves p xs q ys
     → Held q s t ys
 in_hand {p} {q} {s} {t} {xs} {ys} is m =
@@ -50,7 +50,7 @@ in_hand {p} {q} {s} {t} {xs} {ys} is m =
       );
     }
 
--- the sockets took a step, by which chains in hand became others
+-- the sockets took a step that replaced some of the caller's chains
 pub of_socks : {p q : PoolView} {s w : SocksView} {t : TrainView} (xs ys : List ℕ) → Held p s t xs → IsSocks q w
     → Moves p (xs ++ queued_chains p s.queues) q (ys ++ queued_chains q w.queues) → Held q w t ys
 of_socks {p} {q} {s} {w} {t} xs ys is ready m =
@@ -82,7 +82,7 @@ of_socks {p} {q} {s} {w} {t} xs ys is ready m =
       );
     }
 
--- the output queue took a step, by which chains in hand became others
+-- the output queue took a step that replaced some of the caller's chains
 pub of_queue : {p q : PoolView} {s : SocksView} {t u : TrainView} (xs ys : List ℕ) → Held p s t xs → IsOutputQueue q u
     → Moves p (xs ++ numbers p t) q (ys ++ numbers q u) → Held q s u ys
 of_queue {p} {q} {s} {t} {u} xs ys is queue m =
@@ -166,7 +166,7 @@ can_send {p} {s} {n} h mtu apart outside = record {
   outside = outside;
 }
 
--- the queue beside the end of the sockets
+-- the output queue stays valid when the sockets' chains are freed
 pub queue_left : {p q : PoolView} {s : SocksView} (n : Net) → Parts p s n → Moves p (queued_chains p s.queues) q []
     → IsOutputQueue q n.out
 queue_left {p} {q} {s} n h m =

@@ -25,7 +25,7 @@ enum Became {
     Whole(&'static [u8]),
 }
 
-/// What happens, and what is seen then.
+/// What happens, and what is checked then.
 enum Event {
     /// A packet arrives.
     Arrives(&'static [u8], Became),
@@ -108,7 +108,7 @@ static CASES: [(&str, &[Event]); 3] = [
     ),
 ];
 
-/// Receives a packet into the pool, beside a table. Also returns its header.
+/// Receives a packet into the pool of a table. Also returns its header.
 fn fragment_in(rt: &impl Abort, pool: &mut Pool, table: &Reass, packet: &[u8]) -> (Chain, IpHead)
     requires { IsReady pool.old table.now }
     ensures ready { IsReady pool.new table.now }

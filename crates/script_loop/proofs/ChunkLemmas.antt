@@ -1,4 +1,4 @@
--- What stands in hand after one more byte.
+-- The unfinished line after one more byte.
 use Rattle.std.proofs.Common.{◌≡◌, ◌≢◌, ℕ, zero, suc, ◌+◌, ◌<◌, ◌≤◌, ◌==◌, true, List, [], ◌∷◌, ◌++◌, length, take, drop, get_or, inl, inr, Option, refl, sym, ap, ◌∙◌, arith, append_assoc, append-nil, length-append, subst}
 use Rattle.flat_model.specs.Scripts.Lines.{whole_lines, begun_line}
 use Rattle.std.proofs.Common.{Ok, Err, Some, None}
@@ -16,7 +16,7 @@ use Rattle.script_loop.proofs.PrintLemmas.{Prints-push, Prints-same}
 
 -- ---- limits
 
--- what holds at each place of a list, and of one more byte
+-- one more byte that exceeds no limit keeps the input within the limits
 StaysWithin-push : (seen : List ℕ) (b : ℕ) → StaysWithin seen → (GoesTooFar seen b → ⊥) → StaysWithin (seen ++ b ∷ [])
 StaysWithin-push seen b within far k h too_far =
     elim (cases_lt k (length seen)) [
@@ -31,7 +31,7 @@ StaysWithin-push seen b within far k h too_far =
           far (rw front at (rw at at too_far))
     ]
 
--- a byte that neither follows the last line nor makes a line too long
+-- a byte that neither follows the last line that is allowed nor makes a line too long
 not_too_far : {S : Type 0} (gives : S → List ℕ → List ℕ → S → Type 0) (begin now : S) (seen line : List ℕ) (count : ℕ)
     (written : List ℕ) (b : ℕ) → Answered gives begin now seen line count written → count ≢ 10000000
     → (b ≢ 10 → length line ≢ 1048576) → GoesTooFar seen b → ⊥
@@ -39,7 +39,7 @@ not_too_far gives begin now seen line count written b h room short (inl full) = 
 not_too_far gives begin now seen line count written b h room short (inr long) =
     short long.1 (ap length h.begun ∙ long.0)
 
--- ---- one byte more
+-- ---- one more byte
 
 -- a byte within a line
 pub Answered-more : {S : Type 0} (gives : S → List ℕ → List ℕ → S → Type 0) (begin now : S) (seen line : List ℕ)
@@ -81,9 +81,9 @@ Answered-same gives begin now seen seen' line count written written' e e' h =
     subst (λ (s : List ℕ). Answered gives begin now s line count written') e
     (subst (λ (t : List ℕ). Answered gives begin now seen line count t) e' h)
 
--- ---- several bytes more
+-- ---- several more bytes
 
--- the bytes in front of the first line end
+-- the bytes before the first line end
 pub no_end-take : (hay : List ℕ) (at : ℕ) → ((k : ℕ) → k < at → get_or hay k 0 ≢ 10) → EndsNoLine (take at hay)
 no_end-take hay zero none = tt
 no_end-take [] (suc at) none = tt
@@ -101,7 +101,7 @@ first-none hay at none k below is = none k (omega arith) below (rw is refl)
 is_ten : (n : ℕ) → (n == 10) ≡ true → n ≡ 10
 is_ten n e = grind arith
 
--- and the byte 10 that it found
+-- the byte 10 that it found
 pub cut-at : (hay : List ℕ) (at : ℕ) → at < length hay → (get_or hay at 0 == 10) ≡ true
     → hay ≡ (take at hay ++ 10 ∷ []) ++ drop (suc at) hay
 cut-at [] at below is = absurd (omega arith)
@@ -114,7 +114,7 @@ cut-length hay part after cut =
     let all = ap length cut in
     omega (arith, all, length-append (part ++ 10 ∷ []) after, length-append part (10 ∷ []))
 
--- bytes that end no line, and go nowhere too far
+-- bytes that don't end a line and are within the limits
 pub Answered-part : {S : Type 0} (gives : S → List ℕ → List ℕ → S → Type 0) (begin now : S) (seen line : List ℕ)
     (count : ℕ)
     (written part : List ℕ) → Answered gives begin now seen line count written → EndsNoLine part
@@ -132,7 +132,7 @@ Answered-part gives begin now seen line count written (b ∷ part) h other (inr 
     in
     rw (append_assoc seen (b ∷ []) part, append_assoc line (b ∷ []) part) at more
 
--- a first byte that goes too far
+-- a first byte that exceeds a limit
 breaks-first : {S : Type 0} (gives : S → List ℕ → List ℕ → S → Type 0) (begin now : S) (seen line : List ℕ) (count : ℕ)
     (written : List ℕ) (b : ℕ) (rest : List ℕ) → Answered gives begin now seen line count written → GoesTooFar seen b
     → BreaksLimit seen (b ∷ rest)
@@ -146,7 +146,7 @@ breaks-first gives begin now seen line count written b rest h far = record {
   same = ap whole_lines (append-nil seen);
 }
 
--- after the last line every byte does
+-- after the last line that is allowed, each byte exceeds a limit
 pub Breaks-last : {S : Type 0} (gives : S → List ℕ → List ℕ → S → Type 0) (begin now : S) (seen line : List ℕ)
     (count : ℕ)
     (written part : List ℕ) → Answered gives begin now seen line count written → count ≡ 10000000
@@ -163,7 +163,7 @@ room-more : (count : ℕ) (line part : List ℕ) (b : ℕ) → length line ≤ 1
 room-more count line part b fits short (inl none) = let len : length part ≡ 0 = ap length none in omega (arith, len)
 room-more count line part b fits short (inr room) = omega (arith, room.1, length-append line (b ∷ []))
 
--- bytes that end no line, of which one goes too far
+-- bytes that don't end a line, one of which exceeds a limit
 pub Breaks-part : {S : Type 0} (gives : S → List ℕ → List ℕ → S → Type 0) (begin now : S) (seen line : List ℕ)
     (count : ℕ)
     (written part rest : List ℕ) → Answered gives begin now seen line count written → EndsNoLine part
@@ -198,7 +198,7 @@ Breaks-part gives begin now seen line count written (b ∷ part) rest h other fi
           ]
     ]
 
--- ---- texts that are written
+-- ---- replies that are written
 
 pub Takes-no_room : {S : Type 0} (gives : S → List ℕ → List ℕ → S → Type 0) (begin now : S) (seen line : List ℕ)
     (count : ℕ)
@@ -226,7 +226,7 @@ Takes-no_room gives begin now seen line count written text full left held line' 
 Takes-no_room gives begin now seen line count written text full left held line' piece w w' BadConfig h sent =
     absurd sent
 
--- where a byte goes too far, all of it is
+-- a piece exceeds a limit, and the replies before it are written
 pub Takes-too_far : {S : Type 0} (gives : S → List ℕ → List ℕ → S → Type 0) (begin now : S) (seen line : List ℕ)
     (written text full held line' piece : List ℕ) (w w' : Option (List ℕ)) → StaysWithin seen
     → TakesPiece gives begin now seen piece (written ++ text) text full line None → Appends w w' full
@@ -266,7 +266,7 @@ Takes-too_far-cut gives begin now seen line written text full held line' piece w
 Takes-too_far-cut gives begin now seen line written text full held line' piece w w' BadConfig within h sent =
     absurd sent
 
--- after a chunk, all that is held is written
+-- after a chunk, all replies that were held are written
 pub Takes-sent : {S : Type 0} (gives : S → List ℕ → List ℕ → S → Type 0) (begin now : S) (seen chunk line : List ℕ)
     (count : ℕ)
     (written held : List ℕ) (w w' w'' : Option (List ℕ))
@@ -300,7 +300,7 @@ Takes-unsent gives begin now seen chunk line count written held line' w w' w'' T
 Takes-unsent gives begin now seen chunk line count written held line' w w' w'' BadSizes h sent = absurd sent
 Takes-unsent gives begin now seen chunk line count written held line' w w' w'' BadConfig h sent = absurd sent
 
--- a fault in a piece is one of the chunk
+-- a fault in a piece is a fault of the chunk
 pub Takes-stop : {S : Type 0} (gives : S → List ℕ → List ℕ → S → Type 0) (begin new : S)
     (seen front piece rest : List ℕ)
     (chunk written more : List ℕ) (w w' w'' : Option (List ℕ)) (held held' line : List ℕ) (e : RunFault)
@@ -336,7 +336,7 @@ Takes-stop gives begin new seen front piece rest chunk written more w w' w'' hel
 Takes-stop gives begin new seen front piece rest chunk written more w w' w'' held held' line BadConfig cut sent h =
     absurd h
 
--- a piece taken goes on with the chunk
+-- the chunk up to a piece, and then that piece
 pub Takes-on : {S : Type 0} (gives : S → List ℕ → List ℕ → S → Type 0) (begin now : S)
     (seen front front' piece : List ℕ)
     (written more : List ℕ) (w w' w'' : Option (List ℕ)) (held line : List ℕ) (count : ℕ)
@@ -350,7 +350,7 @@ Takes-on gives begin now seen front front' piece written more w w' w'' held line
       (ap (λ (t : List ℕ). t ++ held) (append_assoc written more h.0)) h.2,
 )
 
--- a fault in a front of the chunk is one of it
+-- a fault in a prefix of the chunk is a fault of the chunk
 pub Takes-longer : {S : Type 0} (gives : S → List ℕ → List ℕ → S → Type 0) (begin new : S)
     (seen front rest chunk written : List ℕ)
     (w w' : Option (List ℕ)) (held held' line : List ℕ) (e : RunFault) → chunk ≡ front ++ rest
@@ -363,7 +363,7 @@ Takes-longer gives begin new seen front rest chunk written w w' held held' line 
     (subst (λ (t : List ℕ). TakesChunk gives begin new seen front t w w' held line (Err e)) (sym (append-nil written))
     h))
 
--- the last piece of a chunk goes too far, and all that is held was written
+-- the last piece of a chunk exceeds a limit, and all replies that were held are written
 pub Takes-broken : {S : Type 0} (gives : S → List ℕ → List ℕ → S → Type 0) (begin now : S)
     (seen front part chunk line : List ℕ) (count : ℕ)
     (written more held held' line' : List ℕ) (w w' w'' : Option (List ℕ)) → chunk ≡ front ++ part

@@ -1,4 +1,4 @@
--- What is printed for one line more.
+-- The output for one more line.
 use Rattle.std.proofs.Common.{◌≡◌, ℕ, List, [], ◌∷◌, ◌++◌, refl, sym, ap, ◌∙◌, append_assoc, append-nil, subst}
 use Rattle.script_loop.specs.Printed.{Prints}
 

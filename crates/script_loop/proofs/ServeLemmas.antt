@@ -1,4 +1,4 @@
--- From what stands in hand to what serving a script did.
+-- From the unfinished line to the outcome of serving a script.
 use Rattle.std.proofs.Common.{◌≡◌, ℕ, List, [], ◌∷◌, ◌++◌, Option, Result, Ok, Err, inl, inr, refl, sym, ap, ◌∙◌, append_assoc, append-nil, arith, subst}
 use Rattle.std.specs.Io.KnownBytes.{Appends, Consumes, IsAtEnd}
 use Rattle.std.proofs.KnownBytes.{Appends-trans, Consumes-trans}
@@ -75,7 +75,7 @@ Serves-stop gives begin now a b c w v u seen chunk written line Memory m read h 
 Serves-stop gives begin now a b c w v u seen chunk written line BadSizes m read h = absurd h
 Serves-stop gives begin now a b c w v u seen chunk written line BadConfig m read h = absurd h
 
--- the rest after the last byte 10, where the reader gave no more
+-- the bytes after the last byte 10, if the reader has no more
 pub Serves-last : {S : Type 0} (gives : S → List ℕ → List ℕ → S → Type 0) (begin now new : S)
     (a b c w v u : Option (List ℕ))
     (seen line written : List ℕ) (count : ℕ) (text : List ℕ) (r : Result Unit RunFault)
@@ -119,7 +119,7 @@ Serves-last gives begin now new a b c w v u seen line written count text (Err Ba
 Serves-last gives begin now new a b c w v u seen line written count text (Err BadConfig) m read end h some to sent =
     absurd sent
 
--- a chunk ends by no fault of the reader, and by no refusal of boot
+-- a chunk doesn't end with a fault of the reader or of boot
 pub chunk-fault : {S : Type 0} (gives : S → List ℕ → List ℕ → S → Type 0) (begin now : S) (seen chunk written : List ℕ)
     (w v : Option (List ℕ)) (line : List ℕ) (e : RunFault)
     → TakesChunk gives begin now seen chunk written w v [] line (Err e)

@@ -1,4 +1,4 @@
--- How many failures a stream has told of, after more calls.
+-- How many failures a stream has reported after more calls.
 use Rattle.std.proofs.Common.{◌≡◌, ℕ, zero, suc, ◌+◌, ◌<◌, Option, Some, None, arith}
 use Rattle.script_loop.specs.Streams.{MoreBy, taking_failures}
 
@@ -12,7 +12,7 @@ MoreBy-then m k n (Some x) None c e first second = absurd first
 MoreBy-then m k n (Some x) (Some y) None e first second = absurd second
 MoreBy-then m k n (Some x) (Some y) (Some z) e first second = omega arith
 
--- a write that took some bytes didn't fail
+-- a write of at least one byte didn't fail
 pub MoreBy-some : (n : ℕ) (a b : Option ℕ) → 0 < n → MoreBy (taking_failures n) a b → MoreBy 0 a b
 MoreBy-some zero a b some h = absurd (omega arith)
 MoreBy-some (suc n) a b some h = h

@@ -17,7 +17,7 @@ pub record Answered {S : Type 0} (gives : S → List ℕ → List ℕ → S → 
   pub printed : Prints gives begin (whole_lines seen) written now
   pub last : count ≡ MOST_LINES → line ≡ []
 
--- how many more bytes may come
+-- how many more bytes may follow
 abbrev pub budget : ℕ → List ℕ → ℕ
 budget count line = (MOST_LINES - count) * (LONGEST + 1) + (LONGEST + 1 - length line)
 

@@ -56,7 +56,7 @@ Serves gives old new unread rest before after (Err BadSizes) =
 Serves gives old new unread rest before after (Err BadConfig) =
     ReadsAndWrites unread rest [] before after [] × (new ≡ old)
 
--- an error of boot is no outcome of serving
+-- serving never returns an error of boot
 abbrev pub IsServed : Result Unit RunFault → Type 0
 IsServed (Err BadSizes) = ⊥
 IsServed (Err BadConfig) = ⊥

@@ -9,10 +9,10 @@ use thiserror::Error;
 /// What is wrong with a file.
 #[derive(Clone, Copy, Debug, PartialEq, Eq, Error)]
 pub enum Why {
-    /// It has fewer than the 24 bytes of a file header.
+    /// It has fewer bytes than a file header, which has 24.
     #[error("file header cut short")]
     HeaderCut,
-    /// Its first four bytes are no magic number of a classic capture file. A pcapng file is one of these.
+    /// Its first four bytes aren't the magic number of a classic capture file. A pcapng file has this fault.
     #[error("bad magic number")]
     BadMagic,
     /// Its version isn't 2.4.
@@ -35,8 +35,8 @@ pub enum Why {
 pub struct Fault {
     /// What is wrong.
     pub why: Why,
-    /// Bytes from the start of the file to the field that is wrong: 0 for `HeaderCut` and `BadMagic`, 4 for
-    /// `BadVersion`, 20 for `BadLinkType`, the start of the record for `RecordCut`, its captured length for `BytesCut`.
+    /// The offset in the file of the field that is wrong: 0 for `HeaderCut` and `BadMagic`, 4 for `BadVersion`, 20 for
+    /// `BadLinkType`, the start of the record for `RecordCut`, its captured length for `BytesCut`.
     pub offset: usize,
 }
 
@@ -49,13 +49,13 @@ impl Why {
     }
 }
 
-/// Why [`crate::pcap::read`] read no file.
+/// Why [`crate::pcap::read`] couldn't read a file.
 #[derive(Debug, Drop, PartialEq, Eq, Error)]
 pub enum ReadError {
-    /// Host memory was lacking.
+    /// Host memory ran out.
     #[error("no memory")]
     Memory,
-    /// The file is no capture file that the reader takes.
+    /// The file isn't a capture file that the reader knows.
     #[error("{0}")]
     Fault(Fault),
 }

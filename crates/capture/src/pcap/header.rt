@@ -9,7 +9,7 @@ use crate::pcap::numbers::{u16_at, u32_at};
 /// Bytes of a file header.
 pub(crate) const HEADER_BYTES: usize = 24;
 
-/// The order in which a file has the bytes of its numbers.
+/// The byte order of a file's numbers.
 #[derive(Clone, Copy, Debug, PartialEq, Eq)]
 pub enum Order {
     /// The low byte first.
@@ -32,14 +32,14 @@ pub enum Resolution {
 pub struct Header {
     pub order: Order,
     pub resolution: Resolution,
-    /// 0 in today's files, and of no meaning here.
+    /// 0 in today's files; ignored.
     pub time_zone: u32,
-    /// 0 in today's files, and of no meaning here.
+    /// 0 in today's files; ignored.
     pub accuracy: u32,
-    /// The most bytes that the writer kept of a packet. The reader takes longer ones too.
+    /// The most bytes that the writer kept of a packet. The reader accepts longer ones too.
     pub snap_len: u32,
-    /// The link type in the low 16 bits. What the draft puts above them, a frame check sequence's length, is of no
-    /// meaning here.
+    /// The link type in the low 16 bits. The high bits are ignored: the draft puts the length of a frame check sequence
+    /// there.
     pub link_field: u32,
     /// The link type.
     pub link: LinkType,

@@ -8,21 +8,21 @@ ghost use Rattle.capture.specs.Records.{FitsFields, Reads, Whole, records_bytes}
 ghost use Rattle.capture.specs.declared.pcap.header.Header.{Header};
 ghost use Rattle.capture.specs.declared.pcap.fault.Fault.{Fault};
 
-/// A header as the format spells it, in either byte order and of either resolution, is read as it is.
+/// A header as the format defines it, in either byte order and of either resolution, is read back.
 #[tactic(auto, using(crate::proofs::Headers::header_again))]
 pub fn headers_are_read()
     ensures { (h : Header) (rest : List ℕ) → IsHeader h
         → (header_of (file_header_bytes h ++ rest) ≡ Ok h) × (drop 24 (file_header_bytes h ++ rest) ≡ rest) }
 {}
 
-/// A header and records as the format spells them read as these and no others, by `one_reading`.
+/// A header and records as the format defines them are read as these and no others, by `one_reading`.
 #[tactic(auto, using(crate::proofs::Headers::spelled_reads))]
 pub fn written_is_read()
     ensures { (w : Whole) → IsHeader w.header → AllByRecursion FitsFields w.records
         → Reads (file_header_bytes w.header ++ records_bytes w.header.order w.records) (Ok w) }
 {}
 
-/// A file reads in one way: as one header with one list of records, or with one fault.
+/// A file can be read in only one way: as one header with one list of records, or with one fault.
 #[tactic(auto, using(crate::proofs::Unique::same_reading))]
 pub fn one_reading()
     ensures { (file : List ℕ) (a b : Result Whole Fault) → Reads file a → Reads file b → a ≡ b }

@@ -12,7 +12,7 @@ use thiserror::Error;
 /// Why there is no IPv4 packet in a frame.
 #[derive(Clone, Copy, Debug, PartialEq, Eq, Error)]
 pub enum NoPacket {
-    /// The frame ends within its link-layer header, or within a VLAN tag. A raw packet has no byte.
+    /// The frame ends within its link-layer header, or within a VLAN tag; or a raw packet has no bytes.
     #[error("frame cut short")]
     FrameCut,
     /// The protocol (the "ethertype"), after at most two VLAN tags, isn't that of IPv4, 0x0800.
@@ -37,7 +37,7 @@ const OUTER_VLAN: u16 = 0x88a8;
 /// The protocol family of IPv4.
 const FAMILY_IPV4: u32 = 2;
 
-/// Bytes of the least IPv4 header.
+/// The number of bytes of the shortest IPv4 header.
 const IP_HEADER: usize = 20;
 
 /// Returns a packet without the bytes after its total length.

@@ -1,4 +1,4 @@
-//! The link types that the reader takes.
+//! The link types that the reader knows.
 ghost use Rattle.std.specs.Prelude.{◌≡◌};
 ghost use Rattle.capture.specs.Types.{link_number, link_type_of};
 
@@ -22,7 +22,7 @@ pub enum LinkType {
 }
 
 impl LinkType {
-    /// Returns the link type of a number, or `None` for one that isn't taken.
+    /// Returns the link type with a number, or `None` if the reader doesn't know it.
     pub fn of(number: u16) -> Option<LinkType>
         ensures { result ≡ link_type_of number }
     {

@@ -1,4 +1,4 @@
-//! Numbers of 16 and 32 bits, in either order of their bytes.
+//! Numbers of 16 and 32 bits, in either byte order.
 ghost use Rattle.std.specs.Prelude.{◌≡◌, ◌+◌, ◌≤◌, ◌++◌, length, drop};
 ghost use Rattle.std.specs.Int.{w16, w32};
 ghost use Rattle.capture.specs.File.{number, number_of};

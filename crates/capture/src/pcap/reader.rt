@@ -1,4 +1,4 @@
-//! Files read, record by record or whole.
+//! Reading files, record by record or as a whole.
 ghost use Rattle.std.specs.Prelude.{◌≡◌, ◌+◌, ◌*◌, ◌^◌, ◌<◌, ◌≤◌, ◌++◌, drop, length, IfOk, IfErr, OnErr, Result};
 ghost use Rattle.std.specs.Int.{w32};
 ghost use Rattle.capture.specs.File.{ReturnsBy, header_of, number_of};
@@ -20,16 +20,16 @@ const RECORD_HEADER_BYTES: usize = 16;
 pub struct Record<'a> {
     /// Seconds since 1970-01-01, 00:00 UTC.
     pub seconds: u32,
-    /// Microseconds or nanoseconds since that second, as the file's header says. A writer's word: it may be a second or
+    /// Microseconds or nanoseconds since that second, as the file's header says. Not checked: it may be a second or
     /// more.
     pub fraction: u32,
-    /// How many bytes the packet had. A writer's word: it may be less than what was captured.
+    /// How many bytes the packet had. Not checked: it may be less than what was captured.
     pub original_len: u32,
     /// The bytes that were captured.
     pub bytes: &'a [u8],
 }
 
-/// A reader of a file's records, in the order of the file. It takes no memory.
+/// A reader of a file's records, in the order of the file. It allocates no memory.
 #[derive(Drop)]
 pub struct Reader<'a> {
     header: Header,
@@ -55,8 +55,8 @@ pub struct Capture<'a> {
     pub records: Vec<Record<'a>>,
 }
 
-/// Returns how many bytes were captured in the record that begins these bytes, as its header says. There are 16 at
-/// least.
+/// Returns how many bytes were captured in the record that begins these bytes, as its header says. There must be at
+/// least 16 bytes.
 pub fn captured_len(order: Order, bytes: &[u8]) -> usize
     requires { 16 ≤ length bytes.now }
     ensures is { result ≡ number_of order w32 (drop 8 bytes.now) }

@@ -1,4 +1,4 @@
-//! Blocks, one after the other.
+//! Blocks, one after another.
 ghost use Rattle.std.specs.Prelude.{◌≡◌, ◌+◌, ◌<◌, ◌≤◌, ◌^◌, ◌++◌, None, Ok, IfOk, IfErr, length};
 ghost use Rattle.capture.specs.File.{ReturnsBy};
 ghost use Rattle.capture.specs.Blocks.{Reading, Steps, block_bytes, head_of, next_of, order_at, size};
@@ -8,29 +8,29 @@ use crate::pcap::{Order, first_u32, u32_at};
 use crate::pcapng::fault::{Fault, Why};
 use std::marker::Model;
 
-/// The type of a section's header (section 4.1). It's the same in both orders of bytes.
+/// The type of a section's header (section 4.1). It's the same in both byte orders.
 pub const SECTION_HEADER: u32 = 0x0a0d_0d0a;
 
 /// The number after the first length of a section's header, in the byte order of the section.
 pub const BYTE_ORDER_MAGIC: u32 = 0x1a2b_3c4d;
 
-/// The same, turned round.
+/// The same number, as a host of the other byte order reads it.
 const MAGIC_TURNED: u32 = 0x4d3c_2b1a;
 
 /// Bytes of a block without a body.
 const EMPTY_BLOCK: usize = 12;
 
-/// A block (section 3.1): its type, and its body between the two lengths, with what fills it up to a multiple of 4.
+/// A block (section 3.1): its type, and its body between the two lengths, with its padding to a multiple of 4.
 #[derive(Clone, Copy, Debug)]
 pub struct Block<'a> {
-    /// The order of the numbers in its section.
+    /// The byte order of the numbers in its section.
     pub order: Order,
     /// Its type.
     pub kind: u32,
     pub body: &'a [u8],
 }
 
-/// A reader of a file's blocks, in the order of the file. It takes no memory.
+/// A reader of a file's blocks, in the order of the file. It allocates no memory.
 #[derive(Drop)]
 pub struct Reader<'a> {
     order: Option<Order>,
@@ -49,7 +49,7 @@ impl<'a> Model for Reader<'a> {
     ghost invariant = { λ r. length r.rest.now ≤ r.file_len };
 }
 
-/// Returns the order of the block that begins these bytes, in a section of this one.
+/// Returns the byte order of the block that begins these bytes, in a section of this order.
 fn order_of(current: Option<Order>, bytes: &[u8]) -> Result<Order, Fault>
     requires { 12 ≤ length bytes.now }
     ensures order { result ≡ order_at current bytes.now }
@@ -74,7 +74,7 @@ fn order_of(current: Option<Order>, bytes: &[u8]) -> Result<Order, Fault>
     }
 }
 
-/// Returns the order of the numbers and the total length of the block that begins these bytes, 12 at least, in a
+/// Returns the byte order and the total length of the block that begins these bytes, at least 12, in a
 /// section of this order; `None` is before the first section. A length is 12 or more, and a multiple of 4. Fails with
 /// `NoSection`, `BadMagic` or `BadLength`, by the offset in these bytes.
 #[tactic(auto, unfolding(crate::specs::Blocks::head_of))]

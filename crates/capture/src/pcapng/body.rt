@@ -36,17 +36,17 @@ pub struct Interface {
 /// An enhanced packet (section 4.3).
 #[derive(Clone, Copy, Debug)]
 pub struct EnhancedPacket<'a> {
-    /// Which of the section's interfaces saw it, from 0 on. A writer's word: there may be none of this number.
+    /// The index of the section's interface that captured it. Not checked: the section may not have that interface.
     pub interface: u32,
-    /// When it was seen, in ticks of the interface since 1970-01-01, 00:00 UTC.
+    /// When it was captured, in ticks of the interface since 1970-01-01, 00:00 UTC.
     pub ticks: u64,
-    /// How many bytes the packet had. A writer's word: it may be less than what was captured.
+    /// How many bytes the packet had. Not checked: it may be less than what was captured.
     pub original_len: u32,
     /// The bytes that were captured. They are those of the interface's link type.
     pub bytes: &'a [u8],
 }
 
-/// A simple packet (section 4.4): the section's first interface saw it, and when isn't said.
+/// A simple packet (section 4.4): the section's first interface captured it, and it has no time.
 #[derive(Clone, Copy, Debug)]
 pub struct SimplePacket<'a> {
     /// How many bytes the packet had.
@@ -69,7 +69,7 @@ fn ticks_of(byte: u8) -> Result<u64, BodyFault>
     }
 }
 
-/// The ticks of a second if an interface doesn't say: microseconds.
+/// The ticks of a second if an interface doesn't give them: microseconds.
 const MICROSECONDS: u64 = 1_000_000;
 
 /// Returns the bytes after the first option, if a later one may give the ticks of a second; otherwise the result of the
@@ -98,7 +98,7 @@ fn pass_option(order: Order, options: &[u8]) -> Result<&[u8], Result<u64, BodyFa
     Err(ticks_of(options[4]))
 }
 
-/// Returns the ticks of a second that the first `most` options of an interface say.
+/// Returns the ticks of a second that the first `most` options of an interface give.
 #[tactic(auto, using(crate::proofs::Options::ticks_more))]
 fn ticks_in(order: Order, options: &[u8], most: usize) -> Result<u64, BodyFault>
     ensures { result ≡ ticks_by most order options.now }

@@ -10,10 +10,10 @@ pub enum Why {
     /// A section's header has no byte order magic. A file that begins with such a block is damaged.
     #[error("bad byte order magic")]
     BadMagic,
-    /// The file doesn't begin with a section's header: it's no pcapng file.
+    /// The file doesn't begin with a section's header, so it isn't a pcapng file.
     #[error("no section header")]
     NoSection,
-    /// A block's total length is below 12, or no multiple of 4.
+    /// A block's total length is below 12, or not a multiple of 4.
     #[error("bad block length")]
     BadLength,
     /// The total lengths before and after a block's body differ.
@@ -27,17 +27,17 @@ pub enum Why {
 pub struct Fault {
     /// What is wrong.
     pub why: Why,
-    /// Bytes from the start of the file to what shows it.
+    /// The offset in the file of the field that shows it.
     pub offset: usize,
 }
 
-/// Why a block's body isn't what its type says.
+/// Why a block's body doesn't match its type.
 #[derive(Clone, Copy, Debug, PartialEq, Eq, Error)]
 pub enum BodyFault {
-    /// It has fewer bytes than its fields take, or than the packet in it had captured.
+    /// It has fewer bytes than its fields need, or than the captured length of the packet in it.
     #[error("block body cut short")]
     BodyCut,
-    /// A section's version isn't 1.0, nor 1.2, which some writers have for it.
+    /// A section's version is neither 1.0 nor 1.2, which some writers use for the same format.
     #[error("unknown version")]
     BadVersion,
     /// An option is longer than what is left of the block.

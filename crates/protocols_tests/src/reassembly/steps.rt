@@ -33,7 +33,7 @@ pub(super) fn booted(rt: &impl Abort, alloc: Global, mbufs: u32, clusters: u32) 
     }
 }
 
-/// Receives a packet into the pool, beside a table.
+/// Receives a packet into the pool of a table.
 pub(super) fn received(rt: &impl Abort, pool: &mut Pool, table: &Reass, bytes: &[u8]) -> Chain
     requires ready { IsReady pool.old table.now }
     requires short { length bytes.now < 65536 }

@@ -4,7 +4,7 @@ use Rattle.mbuf_pool.specs.Store.{StoreView, ClusterView, cluster_count}
 use Rattle.mbuf_pool.proofs.Laws.{cluster_here, count_held, count_released}
 use Rattle.callers.proofs.cluster_counts.free_again.Goals as goal
 
--- Two hold the cluster, and one gives it back.
+-- The cluster has two references, and one of them is released.
 pub release-requires-in-Ok : goal.release-requires-in-Ok
 release-requires-in-Ok c =
     let k = c.in-Ok.cluster in

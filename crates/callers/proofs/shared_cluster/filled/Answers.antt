@@ -2,7 +2,7 @@ use Rattle.mbuf_chain.proofs.Laws.Steps.{filled}
 use Rattle.mbuf_chain.proofs.Laws.Accounts.{unshared_new}
 use Rattle.callers.proofs.shared_cluster.filled.Goals as goal
 
--- Nobody else shares a cluster that was just taken.
+-- A cluster that was just allocated has one reference.
 pub put_back-requires-clause-unshared : goal.put_back-requires-clause-unshared
 put_back-requires-clause-unshared c =
     unshared_new _ _ _ c.in_ok-chain.ensures.ok.0 _ _ _ c.in_ok-chain.ensures.ok.3 c.in_ok-chain.ensures.ok.2

@@ -1,4 +1,4 @@
--- `open` hands the box to `into_raw_with_allocator`, and puts together what that gives.
+-- `open` passes the box to `into_raw_with_allocator`, and makes a pair of the results.
 use Rattle.std.proofs.Common.{◌≡◌, List, [], ◌∷◌, ◌++◌, refl, sym, subst}
 use mir.Syntax.{Fn, a_type, dcons, dnil}
 use mir.Val.{Val}

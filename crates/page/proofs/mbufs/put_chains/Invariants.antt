@@ -3,7 +3,7 @@ use Rattle.net_stack.specs.Questions.{chains_held}
 use Rattle.page.specs.States.{chain_objects}
 use Rattle.page.proofs.mbufs.put_chains.Given as goal
 
--- the lines of the chains from here on are left
+-- the lines of this chain and those after it are still to be written
 abbrev pub invariant-chains : goal.invariant-chains
 invariant-chains l =
     l.text.items ++ chain_objects l.stack.pool (drop l.i (chains_held l.stack l.holder))

@@ -8,7 +8,7 @@ use Rattle.play_script.specs.declared.draft.Draft.{Draft}
 use Rattle.play_script.specs.declared.fault.SettingFault.{SettingFault}
 use Rattle.play_script.proofs.settings.settings_of.Goals as goal
 
--- a name and a value in front of other words
+-- a name and a value before other words
 pub set-one : (old mid : Draft) (name value : List ℕ) (more ws : List (List ℕ)) (outcome : Result Config SettingFault)
     → ws ≡ name ∷ value ∷ more → SetsNamed (setting_named name) old value (Ok mid) → SetsAll mid more outcome
     → SetsAll old ws outcome

@@ -5,7 +5,7 @@ use Rattle.play_why.specs.Joined.{as_fragment, spots_map}
 use Rattle.play_why.specs.declared.joined.Spot.{Spot}
 use Rattle.play_why.proofs.joined.lay.Given as goal
 
--- the offsets below i have their new bytes, the others their old ones
+-- the offsets below i have their new bytes, and all others the old ones
 pub record IsLaid (old new : List (Option Spot)) (f : Fragment) (i : ℕ) : Type 0 where
   pub below : (k : ℕ) → k < i → spots_map new k ≡ overlay (spots_map old) f k
   pub ahead : (k : ℕ) → i ≤ k → slice_index_or new k None ≡ slice_index_or old k None

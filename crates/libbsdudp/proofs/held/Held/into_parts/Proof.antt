@@ -1,4 +1,4 @@
--- `into_parts` moves two fields, and the box that the mark tells of goes with them.
+-- `into_parts` moves two fields, and with them the box that the mark stands for.
 use Rattle.std.proofs.Common.{[], ◌∷◌, ◌++◌, List, refl, sym, subst}
 use mir.Val.{Val}
 use base.Logic.{SProp, ent, id⊢}

@@ -1,4 +1,4 @@
--- `nothing` puts null beside the allocator, and owns nothing.
+-- `nothing` has a null pointer and the allocator, and owns nothing.
 use Rattle.std.proofs.Common.{[], ◌∷◌, ◌++◌, List, refl, sym, subst, lit<, None}
 use mir.Val.{Val, vstruct, of_list, has_ty}
 use Rattle.std_alloc.proofs.ResultValues.{and_tt}

@@ -6,7 +6,7 @@ use Rattle.ip_reass.specs.Table.{TableView, IsReady, held_all}
 use Rattle.ip_reass.specs.Same.{held_all_same, ready_same}
 use Rattle.protocols_tests.proofs.reassembly.steps.received.Goals as goal
 
--- a chain that came leaves the table
+-- a chain was received: the table stays ready, and doesn't hold the chain
 record Came (p q : PoolView) (n : ℕ) (r : TableView) : Type 0 where
   ready : IsReady q r
   owned : IsOwned q (n ∷ held_all q r.datagrams)
