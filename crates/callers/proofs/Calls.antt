@@ -155,11 +155,11 @@ both a a1 b b1 b2 {a2} {a3} {a4} {a5} {a6} {s} {b3} {b4} {mid} {opened} {bound} 
       came = (λ from. early_out from.long, (λ from. late_out from.long, (λ from. early_out from.long, tt)));
     }
 
-pub received : (calls : CallsLaw) (received : ReceivedBy) → IsConfig FIRST → IsConfig SECOND
+pub all_received : (calls : CallsLaw) (received : ReceivedBy) → IsConfig FIRST → IsConfig SECOND
     → {a s b mid : StackView} (t : StackView) {lost late early : List ℕ} → AreBoth a s b mid lost late early
     → {most count : ℕ} {reply : Reply} → Step (state_of mid) (Receive SOCKET most) reply (state_of t)
     → value_of IpLocalout s.counters ≡ count → IsReceivedInOrder lost late early most count reply
-received calls received boots_first boots_second {a} {s} {b} {mid} t {lost} {late} {early} w {most} {count} {reply} last
+all_received calls received boots_first boots_second {a} {s} {b} {mid} t {lost} {late} {early} w {most} {count} {reply} last
     counts = record {
       sent = w.sent;
       before = w.before;

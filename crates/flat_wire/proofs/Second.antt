@@ -222,9 +222,9 @@ module _ (S A B mtu : ℕ) (P : Sending → Part → Type 0) (Answered : Sending
         go None None (Some to) ex ey ez = (youngest_hears q port at 2 sockets to g ez, tt)
         go None None None ex ey ez = tt
 
-    each_matching : (s : State) (destination : ℕ) (q : LookupKey) (port : ℕ) → q.port ≡ Some port → IsGood ports s
+    each_receiver : (s : State) (destination : ℕ) (q : LookupKey) (port : ℕ) → q.port ≡ Some port → IsGood ports s
         → Each (Hears port) (Arrival.matching_sockets s destination q)
-    each_matching s destination q port at good = go (Arrival.is_broadcast s.config destination)
+    each_receiver s destination q port at good = go (Arrival.is_broadcast s.config destination)
       where
         go : (b : Bool) → Each (Hears port) (cond b (receivers q s.sockets) (option_to_list (best q s.sockets)))
         go true = each-up_to_first (Hears port) _ _ (each_matching q port at s.sockets good.sockets)
@@ -265,7 +265,7 @@ module _ (S A B mtu : ℕ) (P : Sending → Part → Type 0) (Answered : Sending
         by_choice h
         (λ t c. by_case c
         (λ e g. good_goes held _ _ destination (u16_at 2 item.bytes) _ old new good
-        (each_matching old destination _ (u16_at 2 item.bytes) refl good)
+        (each_receiver old destination _ (u16_at 2 item.bytes) refl good)
         (λ w. record { sent = λ at. sent w (is at (eqb-true protocol 17 t)) }) g)
         (λ why e g. good_ends old good new why g))
         (λ e g. good_ends old good new _ g)

@@ -1,7 +1,7 @@
 use Rattle.std.proofs.Common.{ap, sym, ◌∙◌}
 use Rattle.flat_model.specs.Machine.Count.{value_of}
 use Rattle.flat_model.specs.declared.counter.Counter.TheVariants.{IpLocalout}
-use Rattle.callers.proofs.Calls.{both, counted, received}
+use Rattle.callers.proofs.Calls.{both, counted, all_received}
 use Rattle.callers.proofs.laws_on_a_wire.receive_out_of_order.Goals as goal
 
 pub returns : goal.returns
@@ -12,6 +12,6 @@ returns c =
     c.give.ensures.given c.give-late_len.ensures.given c.give-early_len.ensures.given
     c.in-Ok.ensures.booted.1 c.socket-2.ensures c.bind.ensures c.hand_over.ensures c.hand_over-2.ensures
     c.hand_over-3.ensures in
-    received c.calls_are_run.ensures c.stacks_on_a_wire.ensures.received c.in_ok-first.ensures.booted.0
+    all_received c.calls_are_run.ensures c.stacks_on_a_wire.ensures.received c.in_ok-first.ensures.booted.0
     c.in-Ok.ensures.booted.0 c.recvfrom-answer.new.self calls c.recvfrom-answer.ensures.step
     (ap (value_of IpLocalout) (sym (counted _ _ c.counters.ensures.0)) ∙ sym c.value-sends.ensures)
