@@ -28,7 +28,7 @@ one_room is_large n = if is_large then Cluster n else Plain n
 
 -- A packet of n bytes takes one mbuf, with or without a cluster. These are free, and so is a second mbuf.
 pub record HasOne (p : PoolView) (n : ℕ) (is_large : Bool) : Type 0 where
-  pub buffer : wire n ≡ one_room is_large n ∷ []
+  pub room : wire n ≡ one_room is_large n ∷ []
   pub mbufs : held_mbufs p + 2 ≤ p.mbufs
   pub clusters : (if is_large then 1 else 0) ≤ free_clusters p
   pub fits : n ≤ (if is_large then MCLBYTES else MHLEN)
