@@ -18,10 +18,10 @@ differs_once word name =
     || (bytes_eq word (drop 1 name) || (bytes_eq (drop 1 word) name || is_swapped word name))
 
 -- they differ by one edit at any byte, or are equal
-abbrev pub is_syntax_error : List ℕ → List ℕ → Bool
-is_syntax_error [] name = differs_once [] name
-is_syntax_error (a ∷ word) [] = differs_once (a ∷ word) []
-is_syntax_error (a ∷ word) (b ∷ name) = if a == b then is_syntax_error word name else differs_once (a ∷ word) (b ∷ name)
+abbrev pub is_typo : List ℕ → List ℕ → Bool
+is_typo [] name = differs_once [] name
+is_typo (a ∷ word) [] = differs_once (a ∷ word) []
+is_typo (a ∷ word) (b ∷ name) = if a == b then is_typo word name else differs_once (a ∷ word) (b ∷ name)
 
 -- the second begins with the first, which has three bytes or more
 abbrev pub is_front : List ℕ → List ℕ → Bool
@@ -29,7 +29,7 @@ is_front front word = nat_le 3 (length front) && bytes_eq front (take (length fr
 
 -- A word is near to a name if one edit turns it into the name, or if one of the two begins with the other.
 abbrev pub is_near : List ℕ → List ℕ → Bool
-is_near word name = is_syntax_error word name || (is_front word name || is_front name word)
+is_near word name = is_typo word name || (is_front word name || is_front name word)
 
 -- the word is the command's name
 abbrev pub has_name : List ℕ → Command → Bool

@@ -32,11 +32,11 @@ fn differs_once(word: &[u8], name: &[u8]) -> bool
 }
 
 /// Returns whether two words differ by one edit at any byte, or are equal.
-fn is_syntax_error(word: &[u8], name: &[u8]) -> bool
-    ensures { result ≡ near.is_syntax_error word.now name.now }
+fn is_typo(word: &[u8], name: &[u8]) -> bool
+    ensures { result ≡ near.is_typo word.now name.now }
 {
     match (word, name) {
-        ([a, more @ ..], [b, rest @ ..]) if *a == *b => is_syntax_error(more, rest),
+        ([a, more @ ..], [b, rest @ ..]) if *a == *b => is_typo(more, rest),
         _ => differs_once(word, name),
     }
 }
@@ -52,7 +52,7 @@ fn is_front(front: &[u8], word: &[u8]) -> bool
 fn is_near(word: &[u8], name: &[u8]) -> bool
     ensures { result ≡ near.is_near word.now name.now }
 {
-    is_syntax_error(word, name) || (is_front(word, name) || is_front(name, word))
+    is_typo(word, name) || (is_front(word, name) || is_front(name, word))
 }
 
 /// Returns whether a word is the command's.
