@@ -44,7 +44,7 @@ impl PacketBuffer {
 
     /// Its bytes.
     pub(crate) fn bytes(&self) -> &[u8]
-        ensures is { result.now ≡ take self.now.len self.now.room }
+        ensures is { result.now ≡ take self.now.len self.now.buffer }
         ensures long { length result.now ≡ self.now.len }
         ensures most { length result.now ≤ ETHER_MTU }
     {

@@ -23,7 +23,7 @@ returns-clause-link c =
     ap (map held_in) c.drop_at.ensures.items ∙ held_remove ps c.in_ok-at.at in
     ap (λ (hs : List WaitingPacket). record s { held = hs }) left
     ∙ sym (ap (λ (g : Gives). g.1)
-    (held_given s ps c.in_ok-at.at c.in_ok-at.mac c.index-buffer.result.now refl found within c.index-buffer.ensures))
+    (held_given s ps c.in_ok-at.at c.in_ok-at.mac c.index-waiting.result.now refl found within c.index-waiting.ensures))
 
 pub returns-clause-frame : goal.returns-clause-frame
 returns-clause-frame c =
@@ -38,4 +38,4 @@ returns-clause-frame c =
     ap (λ (f : List ℕ). Some f) (c.framed.ensures.frame
     ∙ ap (frame c.in_ok-at.mac s.link.mac 0x0800) (c.put_body.ensures ∙ c.bytes-bytes.ensures.is))
     ∙ sym (ap (λ (g : Gives). g.0)
-    (held_given s ps c.in_ok-at.at c.in_ok-at.mac c.index-buffer.result.now refl found within c.index-buffer.ensures))
+    (held_given s ps c.in_ok-at.at c.in_ok-at.mac c.index-waiting.result.now refl found within c.index-waiting.ensures))
