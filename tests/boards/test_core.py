@@ -235,6 +235,7 @@ def costs(core_for, once):
 
 
 @on_board
+@pytest.mark.xdist_group("costs")
 @pytest.mark.parametrize("level", COSTS)
 def test_costs_of_an_echo(level, costs):
     row = next(it for it in costs.splitlines() if it.startswith(f"| `portable/core {level}` |"))

@@ -38,6 +38,11 @@ BUILDS = {
 }  # fmt: skip
 
 
+def row(of, *more):
+    """Returns a row of a test's table. One worker has all rows of a build: others would wait until it's compiled."""
+    return pytest.param(of, *more, marks=[pytest.mark.needs(*BUILDS[of][1]), pytest.mark.xdist_group(f"portable-{of}")])
+
+
 @pytest.fixture
 def builds(portable_c, compiled, once):
     """builds(BUILD, NAME, COMPILER'S ARGUMENTS ..) compiles a program with the file, and returns the command that runs
@@ -68,24 +73,29 @@ def test_compiles_in_an_empty_folder(portable_c, tmp_path):
 
 
 @pytest.fixture
-def symbols(portable_c, compiled):
+def symbols(portable_c, compiled, once):
     """The symbols of the file compiled for a board, as nm prints them: a letter and a name."""
     how = ["-std=c99", "-O2", "-ffreestanding", "-fno-stack-protector", "-DBSDUDP_MALLOC=0"]
-    unit = compiled("portable.o", CC, *how, "-c", portable_c)
-    said = subprocess.run(["nm", unit], capture_output=True, text=True, check=True).stdout
+    folder = once(
+        "portable-board", lambda room: shutil.copy(compiled("portable.o", CC, *how, "-c", portable_c), room)
+    )
+    said = subprocess.run(["nm", folder / "portable.o"], capture_output=True, text=True, check=True).stdout
     return [it.split()[-2:] for it in said.splitlines()]
 
 
+@pytest.mark.xdist_group("portable-board")
 @pytest.mark.needs("objdump")
 def test_asks_for_four_functions(symbols):
     assert {name for kind, name in symbols if kind == "U"} <= ASKED
 
 
+@pytest.mark.xdist_group("portable-board")
 @pytest.mark.needs("objdump")
 def test_no_variable(symbols):
     assert not [name for kind, name in symbols if kind in "bBcC"]
 
 
+@pytest.mark.xdist_group("portable-board")
 @pytest.mark.needs("objdump")
 def test_shows_what_the_header_has(symbols):
     header = (TOP / "capi/include/bsdudp.h").read_text(encoding="utf-8")
@@ -93,11 +103,11 @@ def test_shows_what_the_header_has(symbols):
     assert {name for kind, name in symbols if kind.isupper() and kind != "U"} == declared
 
 
-@pytest.mark.needs("asan")
 @pytest.mark.parametrize(
     "of, name",
-    [("tested", "calls"), ("tested", "ether"), ("tested", "wire"), ("untested", "calls"), ("untested", "ether")],
-)
+    [row("tested", "calls"), row("tested", "ether"), row("tested", "wire"), row("untested", "calls"),
+     row("untested", "ether")],
+)  # fmt: skip
 def test_calls(of, name, builds, runs):
     runs(*builds(of, name, PROGRAMS[name]))
 
@@ -109,6 +119,6 @@ def test_accesses(portable_c, compiled, runs):
     runs(compiled("access", CC, *words))
 
 
-@pytest.mark.parametrize("of", [pytest.param(it, marks=pytest.mark.needs(*BUILDS[it][1])) for it in BUILDS])
+@pytest.mark.parametrize("of", map(row, BUILDS))
 def test_scripts(of, builds, plays):
     plays(builds(of, "driver", "-O1", *DRIVER), BUILDS[of][0].scripts)

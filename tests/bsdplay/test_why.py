@@ -331,11 +331,18 @@ def of_tcpdump(once):
     return [it for it in sorted(folder.glob("tcpdump-*/tests/*.pcap*")) if may_have_datagrams(it)]
 
 
+# The first bytes of an IPv4 header with the protocol number of UDP, or with the flag MF.
+COMPARED = rb"[\x45-\x4f](?:.{8}\x11|.{5}[\x20-\x3f\x60-\x7f\xa0-\xbf\xe0-\xff])"
+
+
 def may_have_datagrams(path: pathlib.Path):
-    """Returns whether a capture has a link type that bsdplay knows and, on an Ethernet, the bytes of an IPv4 type."""
+    """Returns whether a capture has a link type that bsdplay knows and bytes that can be a header of `busiest`; on an
+    Ethernet also those of an IPv4 type."""
     data = path.read_bytes()
     (link,) = struct.unpack(">H" if data[:1] == b"\xa1" else "<H", data[22:24] if data[:1] == b"\xa1" else data[20:22])
-    return link in (0, 12, 14, 101, 108, 113, 228, 276) or (link == 1 and b"\x08\x00\x45" in data)
+    if link == 1:
+        return b"\x08\x00\x45" in data and re.search(rb"\x08\x00" + COMPARED, data, re.DOTALL)
+    return link in (0, 12, 14, 101, 108, 113, 228, 276) and re.search(COMPARED, data, re.DOTALL)
 
 
 def busiest(rows):

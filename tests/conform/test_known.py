@@ -55,6 +55,7 @@ def peers(once):
     return once("peers", make)
 
 
+@pytest.mark.xdist_group("peers")
 @pytest.mark.needs("cc", "apt-get")
 @pytest.mark.parametrize("name", ["lwip", pytest.param("libslirp", marks=pytest.mark.needs("glib", "pkg-config"))])
 def test_peer(name, deviates, peers):
@@ -65,6 +66,7 @@ def test_peer(name, deviates, peers):
     deviates(name, "--", peers / name)
 
 
+@pytest.mark.long
 @ON_LINUX
 def test_linux(judged):
     """A kernel whose version isn't that in conform/known may have other deviations."""

@@ -13,6 +13,8 @@ import pytest
 from tests.cases import TOP
 
 pytestmark = [pytest.mark.slow, pytest.mark.needs("cc", "c++", "cmake", "pkg-config", "ns-3 3.37")]
+pytestmark += [pytest.mark.xdist_group("ns3")]
+WITH_SANITIZERS = [pytest.mark.needs("asan"), pytest.mark.xdist_group("ns3-sanitized"), pytest.mark.long]
 HOME = TOP / "simulators/ns3"
 SANITIZED = ["-DBSDUDP_EXAMPLES=OFF", "-DCMAKE_BUILD_TYPE=None"]
 SANITIZED += ["-DCMAKE_CXX_FLAGS=-O1 -g1 -fsanitize=address,undefined -fno-sanitize-recover=all"]
@@ -80,7 +82,7 @@ def plain(built):
 
 
 @pytest.mark.parametrize(
-    "name, words", [("plain", []), pytest.param("sanitized", SANITIZED, marks=pytest.mark.needs("asan"))]
+    "name, words", [("plain", []), pytest.param("sanitized", SANITIZED, marks=WITH_SANITIZERS)]
 )
 def test_cases(name, words, built):
     passed(built(name, *words) / "bsdudp-cases")

@@ -22,6 +22,7 @@ def test_module_in_node(page, bsdudp, bsdplay):
     silent("node", "page/test/replies.js", page.with_name("page.wasm"), *SCRIPTS, bsdudp, bsdplay)
 
 
+@pytest.mark.long
 @pytest.mark.needs("chromium")
 def test_page_in_chromium(page):
     silent("page/test/browser.py", page, *SCRIPTS, page.with_name("shots"))
