@@ -1,7 +1,7 @@
 -- A chain of bytes can be output when 28 bytes were prepended.
 use Rattle.std.proofs.Common.{◌≡◌, ℕ, ◌+◌, ◌≤◌, Bool, true, false, cond, List, [], ◌++◌, length, count_by, ap, ◌∙◌, arith}
 use Rattle.std.proofs.lemmas.List.{length-append}
-use Rattle.flat_model.specs.Amounts.Layout.{is_cluster, user, sent, laid_on}
+use Rattle.flat_model.specs.Amounts.Layout.{is_cluster, user, sent, entries_on}
 use Rattle.mbuf_chain.specs.Chain.{ChainView, PoolView, alone, chain_of, string, without}
 use Rattle.chain_ops.specs.Makes.{Makes}
 use Rattle.chain_ops.specs.Prepends.{has_front, prepended, prepended_front}
@@ -22,7 +22,7 @@ SentLayout = (cs xs hs : List ℕ) → length cs ≡ count_by is_cluster (user (
       front = alone true;
       entries = stored_first 56 true cs (user (length xs)) xs;
       cells = [];
-    }) hs) ≡ laid_on cs (sent (length xs))
+    }) hs) ≡ entries_on cs (sent (length xs))
 
 headed_front : (v : ChainView) (n : ℕ) → v.front ≡ alone true → (prepended_front v n).header ≡ true
 headed_front v n e = go (has_front v n)

@@ -42,7 +42,7 @@ pub(crate) fn busiest_of<S: Source>(
             }
         };
         if let Some(packet) = packet_in(record, records.bytes()) {
-            if addresses.note(packet).is_err() {
+            if addresses.count_packet(packet).is_err() {
                 return Err(End::Memory);
             }
         }

@@ -46,7 +46,7 @@ pub(crate) fn first_fault<'a>(written: &'a [u8], name: &[u8]) -> &'a [u8] {
 }
 
 /// Prints the first fault of a seed.
-fn tell(
+fn report_seed(
     out: &mut impl Write,
     seed: u64,
     played: &Played,
@@ -83,7 +83,7 @@ pub(crate) fn sweep(
         let played = play_uncaptured(rt, style, seed, &mut reader, &mut written).played;
         let status = played.status();
         if status != 0 {
-            tell(&mut rt.stdout(), seed, &played, written.as_slice(), name)?;
+            report_seed(&mut rt.stdout(), seed, &played, written.as_slice(), name)?;
         }
         if status > worst {
             worst = status;

@@ -9,7 +9,7 @@ const HERE: u32 = 0x0a00_0001;
 const EVERYBODY: u32 = 0x0a00_00ff;
 
 /// Returns a socket that is bound to port 7, and the socket that receives a packet to that port: they are the same.
-pub fn heard_by() -> Result<(u32, Option<u32>), Errno> {
+pub fn received_by() -> Result<(u32, Option<u32>), Errno> {
     let mut table = Pcbs::new(HERE, EVERYBODY);
     let fd = table.open()?;
     table.bind(fd, Addr { ip: 0, port: 7 })?;

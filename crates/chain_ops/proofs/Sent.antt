@@ -5,12 +5,12 @@ use Rattle.std.proofs.lemmas.Bool.{cases_lt, le-leb, lt-leb, cond-true, cond-fal
 use Rattle.std.proofs.lemmas.List.{length-append, take_all}
 use Rattle.mbuf_chain.specs.Chain.{Entry, ChainView, alone, leading_space}
 use Rattle.flat_model.specs.Amounts.Layout as flat
-use Rattle.flat_model.specs.Amounts.Layout.{Room, Plain, Cluster, is_cluster, next_room, size_of, laid_on, user, sent}
+use Rattle.flat_model.specs.Amounts.Layout.{Room, Plain, Cluster, is_cluster, next_room, size_of, entries_on, user, sent}
 use Rattle.chain_ops.specs.Prepends.{prepended}
 use Rattle.chain_ops.specs.Stored.{stored_first, first_start}
 use Rattle.chain_ops.specs.Weights.{layout_entries}
 use Rattle.chain_ops.proofs.Laws.Rooms.{rest_rooms, rest_none}
-use Rattle.chain_ops.proofs.Stored.{rooms_begin, user_laid}
+use Rattle.chain_ops.proofs.Stored.{rooms_begin, user_placed}
 
 -- a chain with these entries; the headers fit into its leading space if it has at most 72 bytes to send
 abbrev view : List Entry → ChainView
@@ -72,21 +72,22 @@ user_front cs xs n h =
     go false rooms = room_small cs (min n 100) rooms xs (omega arith) (omega arith)
 
 -- the headers and the bytes to send have the layout of the flat machine
-pub sent_laid : (cs xs hs : List ℕ) → length cs ≡ count_by is_cluster (user (length xs)) → length hs ≡ 28
-    → layout_entries (prepended (view (stored_first 56 true cs (user (length xs)) xs)) hs) ≡ laid_on cs (sent (length xs))
-unfolding laid_on
-sent_laid cs xs hs e len = go (cases_lt 72 (length xs))
+pub sent_placed : (cs xs hs : List ℕ) → length cs ≡ count_by is_cluster (user (length xs)) → length hs ≡ 28
+    → layout_entries (prepended (view (stored_first 56 true cs (user (length xs)) xs)) hs) ≡ entries_on cs
+    (sent (length xs))
+unfolding entries_on
+sent_placed cs xs hs e len = go (cases_lt 72 (length xs))
   where
     go : (72 < length xs) ⊎ (length xs ≤ 72)
         → layout_entries (prepended (view (stored_first 56 true cs (user (length xs)) xs)) hs)
-        ≡ laid_on cs (sent (length xs))
+        ≡ entries_on cs (sent (length xs))
     go (inl h) =
         let sent' : sent (length xs) ≡ Plain 28 ∷ user (length xs) =
         cond-false {A = List Room} _ _ _ (lt-leb (length xs) 72 h) in
         apart hs (stored_first 56 true cs (user (length xs)) xs) len (user_front cs xs (length xs) h)
         ∙ ap (λ (es : List flat.LayoutEntry). let x : flat.LayoutEntry = record { size = 28; cluster = None } in x ∷ es)
-        (user_laid cs xs e)
-        ∙ ap (laid_on cs) (sym sent')
+        (user_placed cs xs e)
+        ∙ ap (entries_on cs) (sym sent')
     go (inr h) =
         let n : ℕ = length xs in
         let sent' : sent n ≡ Plain (28 + n) ∷ [] = cond-true {A = List Room} _ _ _ (le-leb n 72 h) in
@@ -97,4 +98,4 @@ sent_laid cs xs hs e len = go (cases_lt 72 (length xs))
         ∙ within hs (record { bytes = take n xs; start = first_start true n; cluster = None }) [] len
         (room_large cs n [] xs h)
         ∙ ap (λ (k : ℕ). let x : flat.LayoutEntry = record { size = k; cluster = None } in x ∷ []) size
-        ∙ ap (laid_on cs) (sym sent')
+        ∙ ap (entries_on cs) (sym sent')

@@ -11,7 +11,7 @@ use Rattle.mbuf_chain.specs.Owners.{times_among}
 use Rattle.mbuf_chain.proofs.Laws.Owners.{times-append}
 use Rattle.mbuf_chain.proofs.Laws.Accounts.{references-with, free-same, free-taken}
 use Rattle.flat_model.specs.Amounts.Layout as flat
-use Rattle.flat_model.specs.Amounts.Layout.{Room, Plain, Cluster, filled, or_empty, is_cluster, next_room, size_of, laid_on, user, wire}
+use Rattle.flat_model.specs.Amounts.Layout.{Room, Plain, Cluster, filled, or_empty, is_cluster, next_room, size_of, entries_on, user, wire}
 use Rattle.chain_ops.specs.Weights.{layout_entries}
 use Rattle.chain_ops.proofs.Laws.Rooms.{next_some, next_most, rest_rooms, rest_none, rooms_step}
 use Rattle.chain_ops.specs.Stored.{AreFree, IsClusterTaken, stored, stored_first, first_start, rooms_for}
@@ -388,49 +388,49 @@ first_bytes large ends (c ∷ cs) (Cluster n ∷ rooms) xs e z =
 sized : (n : ℕ) (rooms : List Room) (xs : List ℕ) → n + room_sum rooms ≡ length xs → length (take n xs) ≡ n
 sized n rooms xs z = omega (arith, z, length-take n xs)
 
-stored_laid : (cs : List ℕ) (rooms : List Room) (xs : List ℕ) → length cs ≡ count_by is_cluster rooms
-    → room_sum rooms ≡ length xs → layout_entries (stored cs rooms xs) ≡ laid_on cs rooms
-unfolding laid_on
-stored_laid cs [] xs e z = refl
-stored_laid cs (Plain n ∷ rooms) xs e z =
+stored_placed : (cs : List ℕ) (rooms : List Room) (xs : List ℕ) → length cs ≡ count_by is_cluster rooms
+    → room_sum rooms ≡ length xs → layout_entries (stored cs rooms xs) ≡ entries_on cs rooms
+unfolding entries_on
+stored_placed cs [] xs e z = refl
+stored_placed cs (Plain n ∷ rooms) xs e z =
     let rest =
-    stored_laid cs rooms (drop n xs)
+    stored_placed cs rooms (drop n xs)
     (omega (arith, e, sum_by-cons (λ (r : Room). cond {A = ℕ} (is_cluster r) 1 0) (Plain n) rooms))
     (omega (arith, z, length-drop n xs)) in
     λ j. let x : flat.LayoutEntry = record { size = sized n rooms xs z j; cluster = None } in x ∷ rest j
-stored_laid [] (Cluster n ∷ rooms) xs e z =
+stored_placed [] (Cluster n ∷ rooms) xs e z =
     absurd (omega (arith, e, sum_by-cons (λ (r : Room). cond {A = ℕ} (is_cluster r) 1 0) (Cluster n) rooms))
-stored_laid (c ∷ cs) (Cluster n ∷ rooms) xs e z =
+stored_placed (c ∷ cs) (Cluster n ∷ rooms) xs e z =
     let rest =
-    stored_laid cs rooms (drop n xs)
+    stored_placed cs rooms (drop n xs)
     (omega (arith, e, sum_by-cons (λ (r : Room). cond {A = ℕ} (is_cluster r) 1 0) (Cluster n) rooms))
     (omega (arith, z, length-drop n xs)) in
     λ j. let x : flat.LayoutEntry = record { size = sized n rooms xs z j; cluster = Some c } in x ∷ rest j
 
-pub first_laid : (large : ℕ) (ends : Bool) (cs : List ℕ) (rooms : List Room) (xs : List ℕ)
+pub first_placed : (large : ℕ) (ends : Bool) (cs : List ℕ) (rooms : List Room) (xs : List ℕ)
     → length cs ≡ count_by is_cluster rooms → room_sum rooms ≡ length xs
-    → layout_entries (stored_first large ends cs rooms xs) ≡ laid_on cs rooms
-unfolding laid_on
-first_laid large ends cs [] xs e z = refl
-first_laid large ends cs (Plain n ∷ rooms) xs e z =
+    → layout_entries (stored_first large ends cs rooms xs) ≡ entries_on cs rooms
+unfolding entries_on
+first_placed large ends cs [] xs e z = refl
+first_placed large ends cs (Plain n ∷ rooms) xs e z =
     let rest =
-    stored_laid cs rooms (drop n xs)
+    stored_placed cs rooms (drop n xs)
     (omega (arith, e, sum_by-cons (λ (r : Room). cond {A = ℕ} (is_cluster r) 1 0) (Plain n) rooms))
     (omega (arith, z, length-drop n xs)) in
     λ j. let x : flat.LayoutEntry = record { size = sized n rooms xs z j; cluster = None } in x ∷ rest j
-first_laid large ends [] (Cluster n ∷ rooms) xs e z =
+first_placed large ends [] (Cluster n ∷ rooms) xs e z =
     absurd (omega (arith, e, sum_by-cons (λ (r : Room). cond {A = ℕ} (is_cluster r) 1 0) (Cluster n) rooms))
-first_laid large ends (c ∷ cs) (Cluster n ∷ rooms) xs e z =
+first_placed large ends (c ∷ cs) (Cluster n ∷ rooms) xs e z =
     let rest =
-    stored_laid cs rooms (drop n xs)
+    stored_placed cs rooms (drop n xs)
     (omega (arith, e, sum_by-cons (λ (r : Room). cond {A = ℕ} (is_cluster r) 1 0) (Cluster n) rooms))
     (omega (arith, z, length-drop n xs)) in
     λ j. let x : flat.LayoutEntry = record { size = sized n rooms xs z j; cluster = Some c } in x ∷ rest j
 
-pub user_laid : (cs : List ℕ) (xs : List ℕ) → length cs ≡ count_by is_cluster (user (length xs))
-    → layout_entries (stored_first 56 true cs (user (length xs)) xs) ≡ laid_on cs (user (length xs))
-user_laid cs xs e = first_laid 56 true cs (user (length xs)) xs e (rooms_sum 56 (length xs) (omega arith))
+pub user_placed : (cs : List ℕ) (xs : List ℕ) → length cs ≡ count_by is_cluster (user (length xs))
+    → layout_entries (stored_first 56 true cs (user (length xs)) xs) ≡ entries_on cs (user (length xs))
+user_placed cs xs e = first_placed 56 true cs (user (length xs)) xs e (rooms_sum 56 (length xs) (omega arith))
 
-pub wire_laid : (cs : List ℕ) (xs : List ℕ) → length cs ≡ count_by is_cluster (wire (length xs))
-    → layout_entries (stored_first 0 false cs (wire (length xs)) xs) ≡ laid_on cs (wire (length xs))
-wire_laid cs xs e = first_laid 0 false cs (wire (length xs)) xs e (rooms_sum 0 (length xs) (omega arith))
+pub wire_placed : (cs : List ℕ) (xs : List ℕ) → length cs ≡ count_by is_cluster (wire (length xs))
+    → layout_entries (stored_first 0 false cs (wire (length xs)) xs) ≡ entries_on cs (wire (length xs))
+wire_placed cs xs e = first_placed 0 false cs (wire (length xs)) xs e (rooms_sum 0 (length xs) (omega arith))

@@ -4,7 +4,7 @@ ghost use Rattle.mbuf_chain.specs.Chain.{Entry, Front, PoolView, IsLive, without
 ghost use Rattle.mbuf_chain.specs.Owners.{Moves};
 ghost use Rattle.chain_ops.specs.Makes.{Makes};
 ghost use Rattle.flat_model.specs.Amounts.Weight.{Covers, IsSubBag, ◌⊕◌};
-ghost use Rattle.flat_model.specs.Amounts.Layout.{weight_of, entries_met, user, sent, wire, is_cluster, laid_on};
+ghost use Rattle.flat_model.specs.Amounts.Layout.{weight_of, entries_met, user, sent, wire, is_cluster, entries_on};
 ghost use Rattle.chain_ops.specs.Copies.{copied, copied_all};
 ghost use Rattle.chain_ops.specs.Rooms.{room_low};
 ghost use Rattle.chain_ops.specs.Joins.{cat};
@@ -43,10 +43,10 @@ pub fn join_weight()
 /// Stored bytes have the layout of the flat machine.
 pub fn stored_layout()
     ensures user { (cs xs : List ℕ) → length cs ≡ count_by is_cluster (user (length xs)) →
-        layout_entries (stored_first CLUSTER_LEADING_SPACE true cs (user (length xs)) xs) ≡ laid_on cs (user
+        layout_entries (stored_first CLUSTER_LEADING_SPACE true cs (user (length xs)) xs) ≡ entries_on cs (user
         (length xs)) }
     ensures wire { (cs xs : List ℕ) → length cs ≡ count_by is_cluster (wire (length xs)) →
-        layout_entries (stored_first 0 false cs (wire (length xs)) xs) ≡ laid_on cs (wire (length xs)) }
+        layout_entries (stored_first 0 false cs (wire (length xs)) xs) ≡ entries_on cs (wire (length xs)) }
 {}
 
 /// The owners' chains after an operation: a new chain, a changed chain, perhaps under another number, and two joined
@@ -68,5 +68,5 @@ pub fn sent_layout()
           front = alone true;
           entries = stored_first CLUSTER_LEADING_SPACE true cs (user (length xs)) xs;
           cells = [];
-        }) hs) ≡ laid_on cs (sent (length xs)) }
+        }) hs) ≡ entries_on cs (sent (length xs)) }
 {}

@@ -4,33 +4,35 @@ use Rattle.std.specs.Prelude.{IfOk, IfSome, Result, Ok, Err}
 use Rattle.std.specs.Result.{result_ok}
 use Rattle.mbuf_chain.specs.Chain.{PoolView, chain_of}
 use Rattle.chain_script.specs.Machines.{entries_in}
-use Rattle.chain_script.specs.Drawings.{noted_all, noted_slots}
+use Rattle.chain_script.specs.Drawings.{collected_all, collected_slots}
 use Rattle.chain_script.specs.Inside.Slots.{slot_of}
 
 -- slot i, and those after it
-pub noted_next : (p : PoolView) (seen : List ℕ) (slots : List (Option ℕ)) (i : ℕ) → i < length slots
-    → noted_slots seen (drop i (map (slot_of p) slots))
-    ≡ noted_slots (noted_all seen (entries_in (slot_of p (get_or slots i None))))
+pub collected_next : (p : PoolView) (seen : List ℕ) (slots : List (Option ℕ)) (i : ℕ) → i < length slots
+    → collected_slots seen (drop i (map (slot_of p) slots))
+    ≡ collected_slots (collected_all seen (entries_in (slot_of p (get_or slots i None))))
     (drop (i + 1) (map (slot_of p) slots))
-noted_next p seen [] i within = absurd (omega (arith, within))
-noted_next p seen (slot ∷ slots) zero within = refl
-noted_next p seen (slot ∷ slots) (suc i) within = search (arith, noted_next p seen slots i (omega (arith, within)))
+collected_next p seen [] i within = absurd (omega (arith, within))
+collected_next p seen (slot ∷ slots) zero within = refl
+collected_next p seen (slot ∷ slots) (suc i) within = search
+    (arith, collected_next p seen slots i (omega (arith, within)))
 
-pub noted_held : (p : PoolView) (seen : List ℕ) (slots : List (Option ℕ)) (i c : ℕ) → i < length slots
+pub collected_held : (p : PoolView) (seen : List ℕ) (slots : List (Option ℕ)) (i c : ℕ) → i < length slots
     → get_or slots i None ≡ Some c
-    → noted_slots seen (drop i (map (slot_of p) slots))
-    ≡ noted_slots (noted_all seen (chain_of p c).entries) (drop (i + 1) (map (slot_of p) slots))
-noted_held p seen slots i c within is =
-    noted_next p seen slots i within
-    ∙ ap (λ (o : Option ℕ). noted_slots (noted_all seen (entries_in (slot_of p o)))
+    → collected_slots seen (drop i (map (slot_of p) slots))
+    ≡ collected_slots (collected_all seen (chain_of p c).entries) (drop (i + 1) (map (slot_of p) slots))
+collected_held p seen slots i c within is =
+    collected_next p seen slots i within
+    ∙ ap (λ (o : Option ℕ). collected_slots (collected_all seen (entries_in (slot_of p o)))
     (drop (i + 1) (map (slot_of p) slots))) is
 
-pub noted_none : (p : PoolView) (seen : List ℕ) (slots : List (Option ℕ)) (i : ℕ) → i < length slots
+pub collected_none : (p : PoolView) (seen : List ℕ) (slots : List (Option ℕ)) (i : ℕ) → i < length slots
     → get_or slots i None ≡ None
-    → noted_slots seen (drop i (map (slot_of p) slots)) ≡ noted_slots seen (drop (i + 1) (map (slot_of p) slots))
-noted_none p seen slots i within is =
-    noted_next p seen slots i within
-    ∙ ap (λ (o : Option ℕ). noted_slots (noted_all seen (entries_in (slot_of p o)))
+    → collected_slots seen (drop i (map (slot_of p) slots)) ≡ collected_slots seen
+    (drop (i + 1) (map (slot_of p) slots))
+collected_none p seen slots i within is =
+    collected_next p seen slots i within
+    ∙ ap (λ (o : Option ℕ). collected_slots (collected_all seen (entries_in (slot_of p o)))
     (drop (i + 1) (map (slot_of p) slots))) is
 
 -- what holds for a drawing holds for it as an option

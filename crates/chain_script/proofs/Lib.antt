@@ -8,5 +8,5 @@ mod Joined
 mod Signs
 mod Shown
 mod Booted
-mod Told
+mod Reported
 mod Drawn

@@ -6,7 +6,7 @@ use Rattle.mbuf_chain.specs.Chain.{PoolView, IsLive, chain_of, without, string, 
 use Rattle.mbuf_chain.specs.Frames.{IsBounded}
 use Rattle.mbuf_chain.proofs.Laws.Accounts.{held-without}
 use Rattle.chain_script.specs.Machines.{slots_usage}
-use Rattle.chain_script.specs.Steps.{Laid, Wrong_chain, ChainStep, shapes_of}
+use Rattle.chain_script.specs.Steps.{Layout_shown, Wrong_chain, ChainStep, shapes_of}
 use Rattle.chain_script.specs.Lines.{Show}
 use Rattle.chain_script.specs.Inside.Slots.{machine_of, FitsSlots}
 use Rattle.chain_script.proofs.Accounts.{held_is, count_is, free_is}
@@ -51,10 +51,11 @@ few_mbufs p c live b = omega (arith, held-without p (without p c) c live refl, b
 -- ---- the steps
 pub show_done : (p : PoolView) (slots : List (Option ℕ)) (i c : ℕ) → FitsSlots p slots → get_or slots i None ≡ Some c
     → ChainStep (machine_of p slots) (Show i)
-    (Laid (length (string (chain_of p c))) (shapes_of (references p) (chain_of p c).entries)) (machine_of p slots)
+    (Layout_shown (length (string (chain_of p c))) (shapes_of (references p) (chain_of p c).entries))
+    (machine_of p slots)
 show_done p slots i c fits is =
     done (machine_of p slots) (Show i) _ _ (is_there p slots i c is) refl refl refl refl refl (
-      (λ j. Laid (sym (length_is p slots i c is) j)
+      (λ j. Layout_shown (sym (length_is p slots i c is) j)
           (shapes_of (λ n. sym (count_is p slots n fits) j) (sym (entries_are p slots i c is) j))),
       refl,
     )

@@ -14,23 +14,23 @@ place_in seen None = None
 place_in seen (Some c) = position (λ d. d == c) seen
 
 -- the clusters that were seen, followed by this one if it is new
-abbrev pub noted : List ℕ → Option ℕ → List ℕ
-noted seen None = seen
-noted seen (Some c) = if is_some (position (λ d. d == c) seen) then seen else seen ++ c ∷ []
+abbrev pub found_after : List ℕ → Option ℕ → List ℕ
+found_after seen None = seen
+found_after seen (Some c) = if is_some (position (λ d. d == c) seen) then seen else seen ++ c ∷ []
 
 -- the same after all mbufs of a chain
-abbrev pub noted_all : List ℕ → List Entry → List ℕ
-noted_all seen [] = seen
-noted_all seen (e ∷ es) = noted_all (noted seen e.cluster) es
+abbrev pub collected_all : List ℕ → List Entry → List ℕ
+collected_all seen [] = seen
+collected_all seen (e ∷ es) = collected_all (found_after seen e.cluster) es
 
 -- the same after all slots
-abbrev pub noted_slots : List ℕ → List (Option Slot) → List ℕ
-noted_slots seen [] = seen
-noted_slots seen (s ∷ ss) = noted_slots (noted_all seen (entries_in s)) ss
+abbrev pub collected_slots : List ℕ → List (Option Slot) → List ℕ
+collected_slots seen [] = seen
+collected_slots seen (s ∷ ss) = collected_slots (collected_all seen (entries_in s)) ss
 
 -- the clusters of all slots, each once, by their first appearance
 abbrev pub clusters_seen : Machine → List ℕ
-clusters_seen b = noted_slots [] b.slots
+clusters_seen b = collected_slots [] b.slots
 
 -- ---- the text
 abbrev pub header_text : Bool → List ℕ

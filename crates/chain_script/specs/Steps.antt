@@ -24,7 +24,7 @@ pub record Shape : Type 0 where
 pub data ChainReply : Type 0 where
   Ready : ChainReply
   Held : (bytes : List ℕ) → ChainReply
-  Laid : (len : ℕ) (shapes : List Shape) → ChainReply
+  Layout_shown : (len : ℕ) (shapes : List Shape) → ChainReply
   Shown : (usage : Mbstat) → ChainReply
   Wrong_chain : ChainReply
   Wrong_range : ChainReply
@@ -90,7 +90,7 @@ DoesRequest b (Write_over slot off bytes) reply new =
 DoesRequest b (Read_out slot off len) reply new =
     (reply ≡ Held (take len (drop off (flat_bytes (entries_at b slot))))) × (new ≡ b)
 DoesRequest b (Show slot) reply new =
-    (reply ≡ Laid (length_at b slot) (shapes_of (times_referred b) (entries_at b slot))) × (new ≡ b)
+    (reply ≡ Layout_shown (length_at b slot) (shapes_of (times_referred b) (entries_at b slot))) × (new ≡ b)
 DoesRequest b (Free slot) reply new = (reply ≡ Ready) × (new ≡ emptied b slot)
 DoesRequest b Ask_usage reply new = (reply ≡ Shown (slots_usage b)) × (new ≡ b)
 
@@ -113,7 +113,7 @@ shape_text s = mbuf_text s.size s.count
 abbrev pub chain_reply_text : ChainReply → List ℕ
 chain_reply_text Ready = codes "ok"
 chain_reply_text (Held bytes) = codes "data " ++ hex_text bytes
-chain_reply_text (Laid len shapes) = codes "len " ++ decimal len ++ flat_map shape_text shapes
+chain_reply_text (Layout_shown len shapes) = codes "len " ++ decimal len ++ flat_map shape_text shapes
 chain_reply_text (Shown usage) = usage_text usage
 chain_reply_text Wrong_chain = codes "? chain"
 chain_reply_text Wrong_range = codes "? range"

@@ -8,7 +8,7 @@ use Rattle.chain_ops.specs.Trims.{adjusted_bytes}
 use Rattle.chain_ops.specs.Writes.{written_bytes}
 use Rattle.chain_script.specs.Lines.{Request, IsRequest, User, Wire, Copy, Prepend, Pull_up, Adjust, Split, Join, Write_over, Read_out, Show, Free, Ask_usage}
 use Rattle.chain_script.specs.Machines.{Machine, Slot, slots_fit, lengths_fit, is_too_long}
-use Rattle.chain_script.specs.Steps.{Shape, ChainReply, Ready, Held, Laid, Shown, Wrong_chain, Wrong_range, Shared, Too_long, Too_short, No_buffers, first_true, chain_answer_text}
+use Rattle.chain_script.specs.Steps.{Shape, ChainReply, Ready, Held, Layout_shown, Shown, Wrong_chain, Wrong_range, Shared, Too_long, Too_short, No_buffers, first_true, chain_answer_text}
 
 -- ---- the strings of a machine
 abbrev pub string_in : Option Slot → Option (List ℕ)
@@ -64,25 +64,25 @@ strings_after ss (Free slot) = slice_set ss slot None
 strings_after ss request = ss
 
 -- the reply of a request that is carried out; the strings determine nothing about layouts and the pool
-abbrev pub TellsDone : List (Option (List ℕ)) → Request → ChainReply → Type 0
-TellsDone ss (Read_out slot off len) reply = reply ≡ Held (take len (drop off (bytes_at ss slot)))
-TellsDone ss (Show slot) reply = (shapes : List Shape) × (reply ≡ Laid (length (bytes_at ss slot)) shapes)
-TellsDone ss Ask_usage reply = (usage : Mbstat) × (reply ≡ Shown usage)
-TellsDone ss request reply = reply ≡ Ready
+abbrev pub RepliesDone : List (Option (List ℕ)) → Request → ChainReply → Type 0
+RepliesDone ss (Read_out slot off len) reply = reply ≡ Held (take len (drop off (bytes_at ss slot)))
+RepliesDone ss (Show slot) reply = (shapes : List Shape) × (reply ≡ Layout_shown (length (bytes_at ss slot)) shapes)
+RepliesDone ss Ask_usage reply = (usage : Mbstat) × (reply ≡ Shown usage)
+RepliesDone ss request reply = reply ≡ Ready
 
 -- it failed for lack of buffers or because of a shared cluster, which the strings don't determine, and nothing changed
 abbrev pub IsSilent : List (Option (List ℕ)) → ChainReply → List (Option (List ℕ)) → Type 0
 IsSilent old reply new = ((reply ≡ No_buffers) ⊎ (reply ≡ Shared)) × (new ≡ old)
 
-abbrev pub TellsUnless : Option ChainReply → List (Option (List ℕ)) → Request → ChainReply → List (Option (List ℕ))
+abbrev pub RepliesUnless : Option ChainReply → List (Option (List ℕ)) → Request → ChainReply → List (Option (List ℕ))
     → Type 0
-TellsUnless (Some fault) old request reply new = (reply ≡ fault) × (new ≡ old)
-TellsUnless None old request reply new =
-    IsSilent old reply new ⊎ (TellsDone old request reply × (new ≡ strings_after old request))
+RepliesUnless (Some fault) old request reply new = (reply ≡ fault) × (new ≡ old)
+RepliesUnless None old request reply new =
+    IsSilent old reply new ⊎ (RepliesDone old request reply × (new ≡ strings_after old request))
 
 -- from the strings old a request may have this reply and lead to the strings new
 abbrev pub StringStep : List (Option (List ℕ)) → Request → ChainReply → List (Option (List ℕ)) → Type 0
-StringStep old request reply new = TellsUnless (string_fault old request) old request reply new
+StringStep old request reply new = RepliesUnless (string_fault old request) old request reply new
 
 -- ---- lines
 abbrev pub StringAnswers : List (Option (List ℕ)) → List ℕ → Option ChainReply → List (Option (List ℕ)) → Type 0

@@ -6,7 +6,7 @@ ghost use Rattle.mbuf_chain.specs.Chain.{IsLive, IsPlace, chain_of, entry_in};
 ghost use Rattle.script_loop.specs.Serves.{Serves};
 ghost use Rattle.script_loop.specs.Streams.{MoreBy, reader_failures, writer_failures};
 ghost use Rattle.chain_script.specs.Boots.{BootsChains};
-ghost use Rattle.chain_script.specs.Drawings.{cluster_text, drawing, mbuf_line, mbuf_lines, noted, noted_all, noted_slots, place_in, served};
+ghost use Rattle.chain_script.specs.Drawings.{cluster_text, drawing, mbuf_line, mbuf_lines, found_after, collected_all, collected_slots, place_in, served};
 ghost use Rattle.chain_script.specs.Inside.Slots.{machine_of, FitsSlots};
 ghost use Rattle.chain_script.specs.Machines.{Machine, booted};
 ghost use Rattle.chain_script.specs.Steps.{Says};
@@ -38,8 +38,8 @@ fn place_in(seen: &[u32], cluster: Option<u32>) -> Option<usize>
 }
 
 /// Appends a cluster to those that were seen, if it is new.
-fn note(seen: &mut Vec<u32>, cluster: Option<u32>) -> Result<(), AllocError>
-    ensures { OnOk result (seen.new.items ≡ noted seen.old.items cluster) }
+fn collect(seen: &mut Vec<u32>, cluster: Option<u32>) -> Result<(), AllocError>
+    ensures { OnOk result (seen.new.items ≡ found_after seen.old.items cluster) }
 {
     let Some(number) = cluster else {
         return Ok(());
@@ -51,13 +51,13 @@ fn note(seen: &mut Vec<u32>, cluster: Option<u32>) -> Result<(), AllocError>
 }
 
 /// Does the same for all mbufs of a chain.
-fn note_chain(pool: &Pool, chain: &Chain, seen: &mut Vec<u32>) -> Result<(), AllocError>
+fn collect_chain(pool: &Pool, chain: &Chain, seen: &mut Vec<u32>) -> Result<(), AllocError>
     requires { IsLive pool.now chain.now }
-    ensures { OnOk result (seen.new.items ≡ noted_all seen.old.items (chain_of pool.now chain.now).entries) }
+    ensures { OnOk result (seen.new.items ≡ collected_all seen.old.items (chain_of pool.now chain.now).entries) }
 {
     let mut at = pool.first(chain);
     'mbufs: loop {
-        note(seen, pool.segment(chain, at).cluster)?;
+        collect(seen, pool.segment(chain, at).cluster)?;
         let Some(place) = pool.next(chain, at) else {
             return Ok(());
         };
@@ -66,13 +66,17 @@ fn note_chain(pool: &Pool, chain: &Chain, seen: &mut Vec<u32>) -> Result<(), All
 }
 
 /// Does the same for all slots.
-fn note_slots(pool: &Pool, chains: &[Option<Chain>], seen: &mut Vec<u32>) -> Result<(), AllocError>
+fn collect_slots(
+    pool: &Pool,
+    chains: &[Option<Chain>],
+    seen: &mut Vec<u32>,
+) -> Result<(), AllocError>
     requires { FitsSlots pool.now chains.now }
-    ensures { OnOk result (seen.new.items ≡ noted_slots seen.old.items (machine_of pool.now chains.now).slots) }
+    ensures { OnOk result (seen.new.items ≡ collected_slots seen.old.items (machine_of pool.now chains.now).slots) }
 {
     'slots: for slot in 0..chains.len() {
         if let Some(chain) = &chains[slot] {
-            note_chain(pool, chain, seen)?;
+            collect_chain(pool, chain, seen)?;
         }
     }
     Ok(())
@@ -164,7 +168,7 @@ pub(crate) fn draw(
     ensures { IfOk result (λ text. text.items ≡ drawing (machine_of pool.now chains.now) slot) }
 {
     let mut seen = Vec::new(alloc);
-    note_slots(pool, chains, &mut seen)?;
+    collect_slots(pool, chains, &mut seen)?;
     let mut text = Vec::new(alloc);
     if slot < chains.len() {
         if let Some(chain) = &chains[slot] {

@@ -2,7 +2,7 @@
 ghost use Rattle.std.specs.Prelude.{◌≡◌, ℕ, ◌+◌, ◌*◌, ◌<◌, ◌≤◌, ◌++◌, length, flat_map, Some};
 ghost use Rattle.mbuf_chain.specs.Chain.{IsLive, chain_of, references, string};
 ghost use Rattle.chain_script.specs.Lines.{Show, Ask_usage};
-ghost use Rattle.chain_script.specs.Steps.{ChainReply, Laid, ChainStep, chain_answer_text, shape_text, shapes_of, count_in};
+ghost use Rattle.chain_script.specs.Steps.{ChainReply, Layout_shown, ChainStep, chain_answer_text, shape_text, shapes_of, count_in};
 ghost use Rattle.chain_script.specs.Inside.Slots.{machine_of, FitsSlots};
 
 use crate::fault::Fault;
@@ -44,7 +44,8 @@ fn put_mbufs(text: &mut Buffer<TEXT>, pool: &Pool, chain: &Chain)
 fn put_layout(text: &mut Buffer<TEXT>, pool: &Pool, chain: &Chain)
     requires live { IsLive pool.now chain.now }
     requires text { length text.old ≤ HELD }
-    ensures { text.new ≡ text.old ++ chain_answer_text (Some (Laid (length (string (chain_of pool.now chain.now)))
+    ensures { text.new ≡ text.old ++ chain_answer_text (Some (
+        Layout_shown (length (string (chain_of pool.now chain.now)))
         (shapes_of (references pool.now) (chain_of pool.now chain.now).entries))) }
 {
     pool.laws();

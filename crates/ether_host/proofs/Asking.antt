@@ -13,8 +13,8 @@ use Rattle.sock_calls.specs.Questions.{name_or_fault, socket_name}
 use Rattle.sock_calls.specs.declared.questions.SocketName.{SocketName}
 
 -- the result of a query for an error of the socket with this name, and the host after it
-abbrev pub told : Host → SocketName → Result (Option NetFault) Errno × Host
-told h n = (Ok (takes_error n.port n.peer h.link).0, record h { link = (takes_error n.port n.peer h.link).1 })
+abbrev pub reported : Host → SocketName → Result (Option NetFault) Errno × Host
+reported h n = (Ok (takes_error n.port n.peer h.link).0, record h { link = (takes_error n.port n.peer h.link).1 })
 
 name_in : Result SocketName Errno → SocketName → SocketName
 name_in (Ok n) other = n
@@ -25,13 +25,13 @@ errno_in (Ok n) = BadDescriptor
 errno_in (Err e) = e
 
 pub asked_ok : (h : Host) (fd : ℕ) (name : SocketName) → socket_name fd h.machine ≡ Ok name
-    → last_error fd h ≡ told h name
+    → last_error fd h ≡ reported h name
 unfolding name_in
 asked_ok h fd name = go (socket_at fd h.machine)
   where
-    go : (me : Option Socket) → name_or_fault me ≡ Ok name → error_of_socket me h ≡ told h name
+    go : (me : Option Socket) → name_or_fault me ≡ Ok name → error_of_socket me h ≡ reported h name
     go None e = absurd (false≢true (ap is_ok e))
-    go (Some me) e = ap (told h) (ap (λ (r : Result SocketName Errno). name_in r name) e)
+    go (Some me) e = ap (reported h) (ap (λ (r : Result SocketName Errno). name_in r name) e)
 
 pub asked_err : (h : Host) (fd : ℕ) (errno : Errno) → socket_name fd h.machine ≡ Err errno
     → last_error fd h ≡ (Err errno, h)

@@ -1,8 +1,8 @@
 //! Errors that other hosts report for datagrams of this host (`udp_ctlinput` of volume 2, chapter 23).
 ghost use Rattle.std.specs.Prelude.{◌≡◌, ◌≤◌, length};
 ghost use Rattle.flat_ether.specs.declared.sizes.TheConstants.{ICMP_ERROR};
-ghost use Rattle.flat_ether.specs.Errors.{error_at, error_in, error_of, error_fault, is_error, is_icmp, is_error_of, note};
-ghost use Rattle.flat_ether.specs.Links.{notes, takes_error};
+ghost use Rattle.flat_ether.specs.Errors.{error_at, error_in, error_of, error_fault, is_error, is_icmp, is_error_of, add_error};
+ghost use Rattle.flat_ether.specs.Links.{adds_error_if, takes_error};
 
 use crate::answer::{HEADER, carried};
 use crate::bytes::{u16_at, u32_at};
@@ -96,8 +96,8 @@ fn error_at(errors: &[SocketError], port: u16, peer: Addr) -> Option<usize>
 }
 
 /// Replaces the error for the same port and address, or adds it at the end; a full list loses its first element.
-fn note(errors: &mut ArrayVec<SocketError, SOCKET_ERRORS>, error: SocketError)
-    ensures { errors.new.items ≡ note error errors.old.items }
+fn add_error(errors: &mut ArrayVec<SocketError, SOCKET_ERRORS>, error: SocketError)
+    ensures { errors.new.items ≡ add_error error errors.old.items }
 {
     let peer = Addr {
         ip: error.peer_ip,
@@ -118,14 +118,14 @@ impl LinkLayer {
     ghost use Rattle.ether_host.specs.Inside.{link_seen};
 
     /// A packet arrived that the stack dropped, for an unknown protocol or otherwise: it may report an error.
-    pub(crate) fn note(&mut self, no_protocol: bool, came: &[u8])
-        ensures { link_seen self.new ≡ notes no_protocol came.now (link_seen self.old) }
+    pub(crate) fn add_error(&mut self, no_protocol: bool, came: &[u8])
+        ensures { link_seen self.new ≡ adds_error_if no_protocol came.now (link_seen self.old) }
     {
         if !no_protocol {
             return;
         }
         if let Some(error) = error_in(&self.config, came) {
-            note(&mut self.errors, error);
+            add_error(&mut self.errors, error);
         }
     }
 

@@ -49,7 +49,7 @@ pub(crate) fn take_packet(stack: &mut Stack, layer: &mut LinkLayer, frame: &[u8]
     if mac_at(frame, 0).is(layer.link.mac) {
         let answer = answer_by(&layer.config, packet, no_port, no_protocol);
         layer.answer_with(answer, packet);
-        layer.note(no_protocol, packet);
+        layer.add_error(no_protocol, packet);
     }
 }
 

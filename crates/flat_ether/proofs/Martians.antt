@@ -17,7 +17,7 @@ use Rattle.flat_ether.specs.Frames.{arp_of, body_of, is_addressed, is_martian, k
 use Rattle.flat_ether.specs.Hosts.{HostAct, AreHostActs, Asks_error, Ages, Calls, Clock, Comes_in, Drained, Goes_out, ReceivesKind, Host, IsHostAct, drained, error_of_socket, gives, gives_claimed, gives_drained, gives_probe, host_up, is_to_us, or_drains}
 use Rattle.flat_ether.specs.Icmp.{answer_to, counted_more}
 use Rattle.flat_ether.specs.Laws.{martian_if, martian_in, martians_in, packet_if, packets_in}
-use Rattle.flat_ether.specs.Links.{Gives, WaitingPacket, LinkState, answers_with, asks, asks_at, by_route, claim_frame, drops_first, counts_conflict, first_ready, gives_answer, gives_claim, gives_held, gives_own, gives_reply, gives_request, receives_arp, holds_packet, is_answering, is_asked, is_conflict, is_request_due, is_learned, is_sound_arp, learns, mac_of, notes, notes_error, or_then, queues_reply, neighbour_place, replies_to, route_of, sends, sends_answer, sends_at, sends_held, takes_at, takes_error, to_hop}
+use Rattle.flat_ether.specs.Links.{Gives, WaitingPacket, LinkState, answers_with, asks, asks_at, by_route, claim_frame, drops_first, counts_conflict, first_ready, gives_answer, gives_claim, gives_held, gives_own, gives_reply, gives_request, receives_arp, holds_packet, is_answering, is_asked, is_conflict, is_request_due, is_learned, is_sound_arp, learns, mac_of, adds_error_if, adds_error, or_then, queues_reply, neighbour_place, replies_to, route_of, sends, sends_answer, sends_at, sends_held, takes_at, takes_error, to_hop}
 use Rattle.flat_ether.specs.declared.answer.Answer.{Answer}
 use Rattle.flat_ether.specs.declared.answer.Answer.TheVariants.{Echo, Unreachable, Silence}
 use Rattle.flat_ether.specs.declared.arp.Arp.{Arp}
@@ -63,10 +63,10 @@ answers_same Echo came s = by_cond (is_answering s) s _ _ refl refl
 answers_same Unreachable came s =
     by_cond (is_answering s) s _ _ refl (by_cond (nat_lt 0 s.unreachables) s _ _ refl refl)
 
-notes_same : (b : Bool) (came : List ℕ) (s : LinkState) → tally (notes b came s) ≡ tally s
-notes_same b came s = by_cond b s _ _ (go (error_in s.config came)) refl
+adds_error_if_same : (b : Bool) (came : List ℕ) (s : LinkState) → tally (adds_error_if b came s) ≡ tally s
+adds_error_if_same b came s = by_cond b s _ _ (go (error_in s.config came)) refl
   where
-    go : (e : Option SocketError) → tally (notes_error e s) ≡ tally s
+    go : (e : Option SocketError) → tally (adds_error e s) ≡ tally s
     go None = refl
     go (Some e) = refl
 
@@ -76,8 +76,8 @@ owes_same a s = by_cond (is_asked s a) s _ _ (by_cond (nat_lt (length s.replies)
 learns_same : (a : Arp) (s : LinkState) → tally (learns a s) ≡ tally s
 learns_same a s = by_cond (is_learned s a) s _ _ refl refl
 
-hears_same : (b : List ℕ) (s : LinkState) → tally (receives_arp b s) ≡ tally s
-hears_same b s =
+receives_same : (b : List ℕ) (s : LinkState) → tally (receives_arp b s) ≡ tally s
+receives_same b s =
     by_cond (is_sound_arp s.link b) s _ _
     (by_cond (is_conflict s (arp_of b)) s _ _ (owes_same (arp_of b) (counts_conflict s))
     (owes_same (arp_of b) (learns (arp_of b) s) ∙ learns_same (arp_of b) s))
@@ -211,24 +211,25 @@ module _ (c : Config) (l : Link) where
   same_counts : (k : ℕ) (old new : Host) → Counts k old → tally new.link ≡ tally old.link → Counts (k + 0) new
   same_counts k old new is e = e ∙ is ∙ ap (λ (n : ℕ). (c, l, more_by n 0)) (omega (arith))
 
-  heard_counts : (k : ℕ) (f : List ℕ) (old new : Host) (kind : FrameKind) → Counts k old → ReceivesKind kind f old new
+  received_counts : (k : ℕ) (f : List ℕ) (old new : Host) (kind : FrameKind) → Counts k old → ReceivesKind kind f old
+      new
       → Counts (k + martian_if kind) new
-  heard_counts k f old new Packet is h =
+  received_counts k f old new Packet is h =
       same_counts k old new is (ap tally h.link ∙ by_cond (is_to_us old.link f) old.link _ _
-      (notes_same (counted_more IpNoproto old.machine new.machine) (body_of f) _
+      (adds_error_if_same (counted_more IpNoproto old.machine new.machine) (body_of f) _
       ∙ answers_same (answer_to old.link.config (body_of f) old.machine new.machine) (body_of f) old.link)
       refl)
-  heard_counts k f old new Martian is h =
+  received_counts k f old new Martian is h =
       ap (λ (x : Host). tally x.link) h ∙ ap (λ (x : Tally). (x.0, x.1, more_by 1 x.2)) is
       ∙ ap (λ (n : ℕ). (c, l, n)) (one_more k 1)
-  heard_counts k f old new Of_arp is h =
-      same_counts k old new is (ap (λ (x : Host). tally x.link) h ∙ hears_same (body_of f) old.link)
-  heard_counts k f old new Other is h = same_counts k old new is (ap (λ (x : Host). tally x.link) h)
+  received_counts k f old new Of_arp is h =
+      same_counts k old new is (ap (λ (x : Host). tally x.link) h ∙ receives_same (body_of f) old.link)
+  received_counts k f old new Other is h = same_counts k old new is (ap (λ (x : Host). tally x.link) h)
 
   act_counts : (k : ℕ) (old new : Host) (act : HostAct) → Counts k old → IsHostAct old act new
       → Counts (k + martian_in c l.mac act) new
   act_counts k old new (Comes_in f) is h =
-      heard_counts k f old new (kind_of c l.mac f) is
+      received_counts k f old new (kind_of c l.mac f) is
       (subst (λ (x : Tally). ReceivesKind (kind_of x.0 x.1.mac f) f old new) is h.2)
   act_counts k old new (Goes_out f) is h =
       same_counts k old new is (subst (λ (x : Option (List ℕ) × Host). tally x.1.link ≡ tally old.link) (sym h)
@@ -257,7 +258,7 @@ module _ (c : Config) (l : Link) where
 
 pub no_martian : (c : Config) (mac : Mac) (f : List ℕ)
     → All (λ packet. is_martian c packet ≡ false) (packets_in c mac (Comes_in f))
-no_martian c mac f = All-from_recursion _ (packet_if (kind_of c mac f) f) (heard (is_addressed mac f))
+no_martian c mac f = All-from_recursion _ (packet_if (kind_of c mac f) f) (received (is_addressed mac f))
   where
     Free : FrameKind → Type 0
     Free kind = Each (λ packet. is_martian c packet ≡ false) (packet_if kind f)
@@ -274,8 +275,8 @@ no_martian c mac f = All-from_recursion _ (packet_if (kind_of c mac f) f) (heard
     typed true = of_packet (is_martian c (body_of f)) refl
     typed false = of_other (u16_at 12 f == ETHER_TYPE_ARP)
 
-    heard : (b : Bool)
+    received : (b : Bool)
         → Free (cond b (cond (u16_at 12 f == ETHER_TYPE_IP) (packet_kind c (body_of f))
         (cond (u16_at 12 f == ETHER_TYPE_ARP) Of_arp Other)) Other)
-    heard true = typed (u16_at 12 f == ETHER_TYPE_IP)
-    heard false = tt
+    received true = typed (u16_at 12 f == ETHER_TYPE_IP)
+    received false = tt

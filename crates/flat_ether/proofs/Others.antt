@@ -64,8 +64,8 @@ no_arp e = cc
 no_other : Other ≡ Packet → ⊥
 no_other e = cc
 
-is_ip : (heard ip arp : Bool) (kind : FrameKind)
-    → (if heard then (if ip then kind else if arp then Arp else Other) else Other) ≡ Packet → ip ≡ true
+is_ip : (received ip arp : Bool) (kind : FrameKind)
+    → (if received then (if ip then kind else if arp then Arp else Other) else Other) ≡ Packet → ip ≡ true
 is_ip true true arp kind e = refl
 is_ip true false true kind e = absurd (no_arp e)
 is_ip true false false kind e = absurd (no_other e)

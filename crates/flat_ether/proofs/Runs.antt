@@ -19,7 +19,7 @@ use Rattle.flat_ether.specs.declared.error.NetFault.{NetFault}
 use Rattle.flat_model.specs.declared.counter.Counter.TheVariants.{IpNoproto}
 use Rattle.flat_model.specs.declared.errno.Errno.{Errno}
 use Rattle.flat_ether.specs.Laws.{AreSent, IsFrameSent, MakesTurns, arp_if, frame_out, frames_then, packet_if, packets_in, packets_to}
-use Rattle.flat_ether.specs.Links.{Gives, LinkState, answers_with, gives_claim, gives_own, notes, sends, ticks}
+use Rattle.flat_ether.specs.Links.{Gives, LinkState, answers_with, gives_claim, gives_own, adds_error_if, sends, ticks}
 use Rattle.flat_ether.specs.declared.link.Link.{Link}
 use Rattle.flat_ether.specs.declared.link.FrameKind.{FrameKind}
 use Rattle.flat_ether.specs.declared.link.FrameKind.TheVariants.{Packet, Martian, Arp, Other}
@@ -35,7 +35,7 @@ module _ (c : Config) (l : Link) where
   more_good F G G' s good = record {
     config = good.config;
     link = good.link;
-    neighbours = each-weaker (λ n is. record { told = is.told; near = is.near }) s.neighbours good.neighbours;
+    neighbours = each-weaker (λ n is. record { learned = is.learned; near = is.near }) s.neighbours good.neighbours;
     distinct = good.distinct;
     held =
         each-weaker (λ h is. record { made = Sent.more_made c l F G G' h.packet is.made; route = is.route }) s.held
@@ -205,11 +205,11 @@ module _ (c : Config) (l : Link) where
 
       taken : Good (f ∷ F) (G ++ []) old.link → (b : Bool)
           → Good (f ∷ F) (G ++ []) (cond b
-          (notes (counted_more IpNoproto old.machine new.machine) (body_of f)
+          (adds_error_if (counted_more IpNoproto old.machine new.machine) (body_of f)
           (answers_with (answer_to old.link.config (body_of f) old.machine new.machine) (body_of f)
           old.link)) old.link)
       taken wide true =
-          Sent.notes_good c l (f ∷ F) (G ++ []) (counted_more IpNoproto old.machine new.machine) (body_of f) _
+          Sent.adds_error_if_good c l (f ∷ F) (G ++ []) (counted_more IpNoproto old.machine new.machine) (body_of f) _
           (Sent.answers_good c l (f ∷ F) (G ++ []) f (answer_to old.link.config (body_of f) old.machine new.machine)
           old.link wide here)
       taken wide false = wide
@@ -245,7 +245,7 @@ module _ (c : Config) (l : Link) where
               still _ h (Sent.refuses_good c l (f ∷ F) (G ++ []) old.link
               (wider (ap (λ (x : FrameKind). arp_if x f) k)))
           by Arp k h =
-              still _ h (same (f ∷ F) G _ (Sent.hears_good c l F G f (ap (λ (x : FrameKind). arp_if x f) k) old.link
+              still _ h (same (f ∷ F) G _ (Sent.receives_good c l F G f (ap (λ (x : FrameKind). arp_if x f) k) old.link
               good))
           by Other k h =
               still _ h (Sent.ignores_good c l (f ∷ F) (G ++ []) old.link

@@ -15,8 +15,8 @@ use Rattle.flat_ether.specs.declared.error.SocketError.{SocketError}
 use Rattle.flat_model.specs.declared.address.Addr.{Addr}
 use Rattle.flat_ether.specs.Frames.{arp_bytes, arp_of, body_of, ether_broadcast, frame, kind_of, no_mac}
 use Rattle.flat_ether.specs.Icmp.{echo_reply, port_unreachable}
-use Rattle.flat_ether.specs.Laws.{IsMade, IsRoute, IsFrameSent, arp_if, last_given, tells, given_in}
-use Rattle.flat_ether.specs.Links.{Gives, WaitingPacket, LinkState, neighbour_aged, answers_with, asked_at, asks, asks_at, by_route, claim_frame, counts_echo, counts_unreachable, drops_first, counts_bad_arp, counts_conflict, counts_too_long, counts_no_place, first_ready, gives_answer, gives_claim, gives_held, gives_own, gives_reply, gives_request, is_resolvable, has_ip, neighbour_from, receives_arp, holds_packet, ignores, is_answering, is_asked, is_conflict, is_request_due, is_rival, is_sound_arp, learns, limits, mac_known, mac_in, notes, notes_error, takes_at, takes_error, mac_of, or_then, queues_reply, neighbour_place, put, puts_answer, ready_or, refuses, replies_to, sends, sends_answer, sends_at, sends_held, neighbour_stays, takes_place, reports_unreachable, ticks, to_hop, unknown, route_of, route_to}
+use Rattle.flat_ether.specs.Laws.{IsMade, IsRoute, IsFrameSent, arp_if, last_given, is_arp_from, given_in}
+use Rattle.flat_ether.specs.Links.{Gives, WaitingPacket, LinkState, neighbour_aged, answers_with, asked_at, asks, asks_at, by_route, claim_frame, counts_echo, counts_unreachable, drops_first, counts_bad_arp, counts_conflict, counts_too_long, counts_no_place, first_ready, gives_answer, gives_claim, gives_held, gives_own, gives_reply, gives_request, is_resolvable, has_ip, neighbour_from, receives_arp, holds_packet, ignores, is_answering, is_asked, is_conflict, is_request_due, is_rival, is_sound_arp, learns, limits, mac_known, mac_in, adds_error_if, adds_error, takes_at, takes_error, mac_of, or_then, queues_reply, neighbour_place, put, puts_answer, ready_or, refuses, replies_to, sends, sends_answer, sends_at, sends_held, neighbour_stays, takes_place, reports_unreachable, ticks, to_hop, unknown, route_of, route_to}
 use Rattle.flat_ether.specs.Routes.{is_near, is_neighbour}
 use Rattle.flat_ether.specs.declared.answer.Answer.{Answer}
 use Rattle.flat_ether.specs.declared.answer.Answer.TheVariants.{Echo, Unreachable, Silence}
@@ -69,7 +69,7 @@ module _ (c : Config) (F G : List (List ℕ)) (f : List ℕ) where
 
 module _ (c : Config) (l : Link) (F G : List (List ℕ)) where
   pub record IsKnown (n : Neighbour) : Type 0 where
-    pub told : (mac : Mac) → n.mac ≡ Some mac → last_given c l n.ip F ≡ Some mac
+    pub learned : (mac : Mac) → n.mac ≡ Some mac → last_given c l n.ip F ≡ Some mac
     pub near : (mac : Mac) → n.mac ≡ Some mac → is_neighbour c l n.ip ≡ true
 
   pub record IsWaiting (h : WaitingPacket) : Type 0 where
@@ -114,7 +114,7 @@ module _ (c : Config) (l : Link) (F G : List (List ℕ)) where
           subst (λ (x : Neighbour). has_ip hop x ≡ true) (get_or_of_get ns at n g)
           (position-Some (has_ip hop) ns at n p).1 in
           let known : IsKnown n = each-get IsKnown ns at n h g in
-          subst (λ ip. last_given c l ip F ≡ Some mac) (eqb-true n.ip hop passes) (known.told mac is)
+          subst (λ ip. last_given c l ip F ≡ Some mac) (eqb-true n.ip hop passes) (known.learned mac is)
 
       go : (at : Option ℕ) → neighbour_place hop ns ≡ at → mac_known at ns ≡ Some mac → last_given c l hop F ≡ Some mac
       go None p is = absurd (none-some mac is)
@@ -178,7 +178,7 @@ module _ (c : Config) (l : Link) (F G : List (List ℕ)) where
           }
 
   no_mac_known : (ip : ℕ) → IsKnown (unknown ip)
-  no_mac_known ip = record { told = λ mac e. absurd (none-some mac e); near = λ mac e. absurd (none-some mac e) }
+  no_mac_known ip = record { learned = λ mac e. absurd (none-some mac e); near = λ mac e. absurd (none-some mac e) }
 
   asks_good : (hop : ℕ) (s : LinkState) → IsGood s → IsGood (asks hop s)
   asks_good hop s good =
@@ -301,7 +301,8 @@ module _ (c : Config) (l : Link) (F G : List (List ℕ)) where
               config = good.config;
               link = good.link;
               neighbours =
-                  each_again IsKnown (λ m is. record { told = is.told; near = is.near }) s.neighbours at (unknown 0)
+                  each_again IsKnown (λ m is. record { learned = is.learned; near = is.near }) s.neighbours at
+                  (unknown 0)
                   good.neighbours;
               distinct = distinct_again s.neighbours at (unknown 0) good.distinct;
               held = good.held;
@@ -314,7 +315,7 @@ module _ (c : Config) (l : Link) (F G : List (List ℕ)) where
   record IsFound (hs : List WaitingPacket) (found : ℕ × Mac) : Type 0 where
     h : WaitingPacket
     at : slice_get hs found.0 ≡ Some h
-    told : last_given c l h.hop F ≡ Some found.1
+    learned : last_given c l h.hop F ≡ Some found.1
 
   found_ready : (ns : List Neighbour) (hs : List WaitingPacket) (found : ℕ × Mac) → Each IsKnown ns
       → first_ready ns hs ≡ Some found → IsFound hs found
@@ -327,13 +328,13 @@ module _ (c : Config) (l : Link) (F G : List (List ℕ)) where
           → ready_or o later ≡ Some found → IsFound (h ∷ hs) found
       go rest (Some mac) later m f is =
           let same : (0, mac) ≡ found = same_Some (0, mac) found is in
-          subst (IsFound (h ∷ hs)) same (record { h = h; at = refl; told = known_mac h.hop mac ns known m })
+          subst (IsFound (h ∷ hs)) same (record { h = h; at = refl; learned = known_mac h.hop mac ns known m })
       go rest None None m f is = absurd (none-some found is)
       go rest None (Some next) m f is =
           let n = rest next f in
           let same : (next.0 + 1, next.1) ≡ found = same_Some (next.0 + 1, next.1) found is in
           subst (IsFound (h ∷ hs)) same (record
-          { h = n.h; at = ap (slice_get (h ∷ hs)) (add-one next.0) ∙ n.at; told = n.told })
+          { h = n.h; at = ap (slice_get (h ∷ hs)) (add-one next.0) ∙ n.at; learned = n.learned })
 
   held_given : (s : LinkState) → IsGood s → IsGiven (gives_held s)
   held_given s good = go (first_ready s.neighbours s.held) refl
@@ -360,7 +361,7 @@ module _ (c : Config) (l : Link) (F G : List (List ℕ)) where
                   h.hop,
                   waits.route,
                   subst (λ (x : WaitingPacket). last_given c l x.hop F ≡ Some mac) same
-                      is.told,
+                      is.learned,
                 ));
           }
 
@@ -448,13 +449,13 @@ module _ (c : Config) (l : Link) (F G : List (List ℕ)) where
       go true = inner (nat_lt (length s.replies) 8)
       go false = good
 
-  notes_error_good : (e : Option SocketError) (s : LinkState) → IsGood s → IsGood (notes_error e s)
-  notes_error_good None s good = good
-  notes_error_good (Some e) s good = same_good s _ good refl refl refl refl refl
+  adds_error_good : (e : Option SocketError) (s : LinkState) → IsGood s → IsGood (adds_error e s)
+  adds_error_good None s good = good
+  adds_error_good (Some e) s good = same_good s _ good refl refl refl refl refl
 
-  pub notes_good : (b : Bool) (came : List ℕ) (s : LinkState) → IsGood s → IsGood (notes b came s)
-  notes_good true came s good = notes_error_good (error_in s.config came) s good
-  notes_good false came s good = good
+  pub adds_error_if_good : (b : Bool) (came : List ℕ) (s : LinkState) → IsGood s → IsGood (adds_error_if b came s)
+  adds_error_if_good true came s good = adds_error_good (error_in s.config came) s good
+  adds_error_if_good false came s good = good
 
   takes_at_good : (at : Option ℕ) (s : LinkState) → IsGood s → IsGood (takes_at at s).1
   takes_at_good None s good = good
@@ -472,11 +473,12 @@ module _ (c : Config) (l : Link) (F G : List (List ℕ)) where
     link = good.link;
     neighbours =
         each-filter IsKnown neighbour_stays (map neighbour_aged s.neighbours)
-        (each-map IsKnown neighbour_aged (λ n is. record { told = is.told; near = is.near }) s.neighbours
+        (each-map IsKnown neighbour_aged (λ n is. record { learned = is.learned; near = is.near }) s.neighbours
         good.neighbours);
     distinct = distinct_stays s.neighbours good.distinct;
     held =
-        each-filter IsWaiting (is_resolvable (filter neighbour_stays (map neighbour_aged s.neighbours))) s.held good.held;
+        each-filter IsWaiting (is_resolvable (filter neighbour_stays (map neighbour_aged s.neighbours))) s.held
+        good.held;
     answer = good.answer;
   }
 
@@ -512,8 +514,8 @@ module _ (c : Config) (l : Link) (F G : List (List ℕ)) where
           (recursion_from_All _ (port_unreachable c (body_of f))
           (All-contains_itself (port_unreachable c (body_of f)))))
 
-      told : LinkState
-      told =
+      learned : LinkState
+      learned =
           counts_unreachable (puts_answer (port_unreachable s.config (body_of f))
           (record s { unreachables = s.unreachables - 1 }))
 
@@ -547,8 +549,8 @@ neighbour_other c l ip e =
     (eqb-false ip c.addr (not-true _ own_not), eqb-false ip 0 (not-true _ zero_not))
 
 module _ (c : Config) (l : Link) (F G : List (List ℕ)) (f : List ℕ) where
-  abbrev Told : ℕ → Option Mac
-  Told ip = last_given c l ip (f ∷ F)
+  abbrev Learned : ℕ → Option Mac
+  Learned ip = last_given c l ip (f ∷ F)
 
   abbrev Good : List (List ℕ) → LinkState → Type 0
   Good frames s = IsGood c l frames G s
@@ -573,13 +575,13 @@ module _ (c : Config) (l : Link) (F G : List (List ℕ)) (f : List ℕ) where
         subst (Each (IsMade c (f ∷ F) G)) (sym w) (each-weaker (later_made c F G f) s.answer good.answer);
   }
 
-  known_later : (n : Neighbour) → ((mac : Mac) → n.mac ≡ Some mac → Told n.ip ≡ last_given c l n.ip F)
+  known_later : (n : Neighbour) → ((mac : Mac) → n.mac ≡ Some mac → Learned n.ip ≡ last_given c l n.ip F)
       → IsKnown c l F G n → IsKnown c l (f ∷ F) G n
-  known_later n same is = record { told = λ mac e. same mac e ∙ is.told mac e; near = is.near }
+  known_later n same is = record { learned = λ mac e. same mac e ∙ is.learned mac e; near = is.near }
 
   all_later : (s : LinkState) → Good F s
       → ((n : Neighbour) → (mac : Mac) → n.mac ≡ Some mac → is_neighbour c l n.ip ≡ true
-      → Told n.ip ≡ last_given c l n.ip F) → Good (f ∷ F) s
+      → Learned n.ip ≡ last_given c l n.ip F) → Good (f ∷ F) s
   all_later s good same =
       later_good s s good refl refl refl refl
       (each-weaker (λ n is. known_later n (λ mac e. same n mac e (is.near mac e)) is) s.neighbours good.neighbours)
@@ -594,27 +596,28 @@ module _ (c : Config) (l : Link) (F G : List (List ℕ)) (f : List ℕ) where
     abbrev a : Arp
     a = arp_of (body_of f)
 
-    told_here : (ip : ℕ) (b : Bool) → tells l ip (body_of f) ≡ b → Told ip ≡ cond b (Some a.mac) (last_given c l ip F)
-    told_here ip b e =
+    learned_here : (ip : ℕ) (b : Bool) → is_arp_from l ip (body_of f) ≡ b → Learned ip ≡ cond b (Some a.mac)
+        (last_given c l ip F)
+    learned_here ip b e =
         ap (λ (p : Option (List ℕ)). given_in l ip p (last_given c l ip F)) kind
         ∙ ap (λ x. cond x (Some (arp_of (body_of f)).mac) (last_given c l ip F)) e
 
     unsound_good : (s : LinkState) → Good F s → is_sound_arp l (body_of f) ≡ false → Good (f ∷ F) s
     unsound_good s good e =
-        all_later s good (λ n mac is near. told_here n.ip false (ap (λ x. x && ((arp_of (body_of f)).ip == n.ip)) e))
+        all_later s good (λ n mac is near. learned_here n.ip false (ap (λ x. x && ((arp_of (body_of f)).ip == n.ip)) e))
 
-    other_told : (ip : ℕ) → ip ≢ a.ip → Told ip ≡ last_given c l ip F
-    other_told ip other = go (is_sound_arp l (body_of f)) refl
+    other_learned : (ip : ℕ) → ip ≢ a.ip → Learned ip ≡ last_given c l ip F
+    other_learned ip other = go (is_sound_arp l (body_of f)) refl
       where
-        go : (x : Bool) → is_sound_arp l (body_of f) ≡ x → Told ip ≡ last_given c l ip F
+        go : (x : Bool) → is_sound_arp l (body_of f) ≡ x → Learned ip ≡ last_given c l ip F
         go true e =
-            told_here ip false (ap (λ x. x && ((arp_of (body_of f)).ip == ip)) e
+            learned_here ip false (ap (λ x. x && ((arp_of (body_of f)).ip == ip)) e
             ∙ ne_eqb _ _ (λ same. other (sym same)))
-        go false e = told_here ip false (ap (λ x. x && ((arp_of (body_of f)).ip == ip)) e)
+        go false e = learned_here ip false (ap (λ x. x && ((arp_of (body_of f)).ip == ip)) e)
 
     others_good : (s : LinkState) → Good F s → ((n : Neighbour) → is_neighbour c l n.ip ≡ true → n.ip ≢ a.ip)
         → Good (f ∷ F) s
-    others_good s good other = all_later s good (λ n mac is near. other_told n.ip (other n near))
+    others_good s good other = all_later s good (λ n mac is near. other_learned n.ip (other n near))
 
     learns_good : (s : LinkState) → Good F s → is_sound_arp l (body_of f) ≡ true → Good (f ∷ F) (learns a s)
     learns_good s good sound =
@@ -629,24 +632,25 @@ module _ (c : Config) (l : Link) (F G : List (List ℕ)) (f : List ℕ) where
 
         known : is_neighbour c l a.ip ≡ true → IsKnown c l (f ∷ F) G (neighbour_from a)
         known near = record {
-          told =
-              λ mac e. told_here a.ip true (ap (λ x. x && ((arp_of (body_of f)).ip == a.ip)) sound ∙ eq-eqb _ _ refl)
+          learned =
+              λ mac e. learned_here a.ip true (ap (λ x. x && ((arp_of (body_of f)).ip == a.ip)) sound ∙ eq-eqb _ _ refl)
               ∙ e;
           near = λ mac e. near;
         }
 
-        puts : is_neighbour c l a.ip ≡ true → Good (f ∷ F) (record s { neighbours = put (neighbour_from a) s.neighbours })
+        puts : is_neighbour c l a.ip ≡ true → Good (f ∷ F)
+            (record s { neighbours = put (neighbour_from a) s.neighbours })
         puts near =
             later_good s _ good refl refl refl refl
             (put_each (IsKnown c l (f ∷ F) G) (neighbour_from a) s.neighbours (known near) good.distinct
-            (each-weaker (λ n is other. known_later n (λ mac e. other_told n.ip other) is) s.neighbours
+            (each-weaker (λ n is other. known_later n (λ mac e. other_learned n.ip other) is) s.neighbours
             good.neighbours))
             (put_distinct (neighbour_from a) s.neighbours good.distinct)
 
         stays_new : neighbour_place a.ip s.neighbours ≡ None → Good (f ∷ F) s
         stays_new e =
             later_good s s good refl refl refl refl
-            (each-both (λ n other is. known_later n (λ mac x. other_told n.ip other) is) s.neighbours
+            (each-both (λ n other is. known_later n (λ mac x. other_learned n.ip other) is) s.neighbours
             (new_ip a.ip s.neighbours e) good.neighbours) good.distinct
 
         unplaced : (at : Option ℕ) → is_some at ≡ false → at ≡ None
@@ -655,7 +659,8 @@ module _ (c : Config) (l : Link) (F G : List (List ℕ)) (f : List ℕ) where
 
         go : (near place target : Bool) → is_neighbour s.config s.link a.ip ≡ near
             → is_some (neighbour_place a.ip s.neighbours) ≡ place
-            → Good (f ∷ F) (cond (near && (place || target)) (record s { neighbours = put (neighbour_from a) s.neighbours }) s)
+            → Good (f ∷ F)
+            (cond (near && (place || target)) (record s { neighbours = put (neighbour_from a) s.neighbours }) s)
         go false place target n p =
             others_good s good (λ m near same. false≢true (sym n ∙ near_is ∙ ap (is_neighbour c l) (sym same) ∙ near))
         go true true target n p = puts (sym near_is ∙ n)
@@ -678,8 +683,8 @@ module _ (c : Config) (l : Link) (F G : List (List ℕ)) (f : List ℕ) where
             others_good s good (λ n near is. (neighbour_other c l n.ip near).1 (is ∙ zero_ip))
         go false own false r e = absurd (false≢true e)
 
-    pub hears_good : (s : LinkState) → Good F s → Good (f ∷ F) (receives_arp (body_of f) s)
-    hears_good s good = go (is_sound_arp s.link (body_of f)) refl
+    pub receives_good : (s : LinkState) → Good F s → Good (f ∷ F) (receives_arp (body_of f) s)
+    receives_good s good = go (is_sound_arp s.link (body_of f)) refl
       where
         sound_is : is_sound_arp l (body_of f) ≡ is_sound_arp s.link (body_of f)
         sound_is = ap (λ (x : Link). is_sound_arp x (body_of f)) (sym good.link)

@@ -4,7 +4,7 @@ use Rattle.std.specs.Prelude.{◌==◌, ◌||◌, filter_map, unwrap_or}
 use Rattle.std.specs.List.{AllByRecursion as Each, cons_option}
 use Rattle.params.specs.declared.TheConstants.{OUTPUT_QUEUE_PACKETS}
 use Rattle.flat_model.specs.Amounts.Weight.{Weight, Item, ◌⊕◌, nothing}
-use Rattle.flat_model.specs.Amounts.Layout.{LayoutEntry, Need, sent, wire, laid_on, weight_of}
+use Rattle.flat_model.specs.Amounts.Layout.{LayoutEntry, Need, sent, wire, entries_on, weight_of}
 use Rattle.flat_model.specs.Fragments.Cuts.{Part}
 use Rattle.flat_model.specs.Fragments.Overlay.{Map, Fragment}
 use Rattle.flat_model.specs.Fragments.Whole.{bytes_below}
@@ -82,16 +82,17 @@ module _ (c : Config) (out : List Item) where
       (Arrival.counts_reassembled (end_unfinished key old)) new k a
   as_settles held key bytes old new k (inr (unwhole, e)) = subst As (sym e) k
 
-  as_lays : (held : Weight) (key : Key) (f : Fragment) (u : Unfinished) (old new : State) → As old
-      → Arrival.Lays exact_ledger held key f u old new → As new
-  as_lays held key f u old new k h = by_choice h (λ e g. subst As (sym g) k) (λ e g. as_settles held key _ old new k g)
+  as_inserts : (held : Weight) (key : Key) (f : Fragment) (u : Unfinished) (old new : State) → As old
+      → Arrival.Inserts exact_ledger held key f u old new → As new
+  as_inserts held key f u old new k h = by_choice h (λ e g. subst As (sym g) k)
+      (λ e g. as_settles held key _ old new k g)
 
   as_joins : (held : Weight) (key : Key) (f : Fragment) (old new : State) → As old
       → Arrival.Joins exact_ledger held key f old new → As new
   as_joins held key f old new k h = by_case h
       (λ e t. as_test old new (held ⊕ f.weight) 1 _ k
-      (λ mid at r. as_lays held key f (begun key) (begin_unfinished key mid) new at r) t)
-      (λ u e l. as_lays held key f u old new k l)
+      (λ mid at r. as_inserts held key f (begun key) (begin_unfinished key mid) new at r) t)
+      (λ u e l. as_inserts held key f u old new k l)
 
   as_pulls : (origin : Origin) (held w : Weight) (total : ℕ) (old new : State) (Then : Weight → State → Type 0) → As old
       → ((w : Weight) (mid : State) → As mid → Then w mid → As new)
@@ -127,7 +128,7 @@ module _ (c : Config) (out : List Item) where
       let at : As mid = as_tested old mid nothing _ answer k a in
       by_choice h
       (λ e (clusters, taken, arrives). as_arrives (By_wire (length packet)) nothing
-      (record { bytes = packet; weight = weight_of (laid_on clusters (wire (length packet))) }) mid new at arrives)
+      (record { bytes = packet; weight = weight_of (entries_on clusters (wire (length packet))) }) mid new at arrives)
       (λ e r. subst As (sym r) at)
 
   -- ---- and a call that isn't a send
@@ -244,7 +245,8 @@ module _ (c : Config) (old new : State) (reply : Reply) (k : IsSourced c old) wh
       new queued leaves.0 in
       let own : is_ours c (source_for mid.config me to.ip) ≡ true =
       subst (λ (cc : Config). is_ours c (source_for cc me to.ip) ≡ true) (sym at.0) (own_source c me to.ip is) in
-      let all : Own out = own_items c (laid_on clusters (sent (length bytes))) (packet_for x) (parts_of named.config x)
+      let all : Own out = own_items c (entries_on clusters (sent (length bytes))) (packet_for x)
+      (parts_of named.config x)
       (λ p. subst (λ n. is_ours c n ≡ true)
       (sym (source_read (head_for x p) (take p.size (drop p.offset (datagram x))))) own) in
       let more : Own link = looped_or_out (is_looped named.config to.ip) out all in (

@@ -54,10 +54,10 @@ error_at port peer es = position (is_error_of port peer) es
 abbrev pub with_space : List SocketError → List SocketError
 with_space es = if nat_lt (length es) SOCKET_ERRORS then es else drop 1 es
 
-abbrev pub note_at : Option ℕ → SocketError → List SocketError → List SocketError
-note_at None e es = with_space es ++ e ∷ []
-note_at (Some at) e es = slice_set es at e
+abbrev pub add_error_at : Option ℕ → SocketError → List SocketError → List SocketError
+add_error_at None e es = with_space es ++ e ∷ []
+add_error_at (Some at) e es = slice_set es at e
 
 -- replaces the error for the same port and address, or is added at the end
-abbrev pub note : SocketError → List SocketError → List SocketError
-note e es = note_at (error_at e.port (record { ip = e.peer_ip; port = e.peer_port }) es) e es
+abbrev pub add_error : SocketError → List SocketError → List SocketError
+add_error e es = add_error_at (error_at e.port (record { ip = e.peer_ip; port = e.peer_port }) es) e es

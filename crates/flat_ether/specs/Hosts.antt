@@ -14,7 +14,7 @@ use Rattle.flat_ether.specs.declared.error.NetFault.{NetFault}
 use Rattle.flat_model.specs.declared.counter.Counter.TheVariants.{IpNoproto}
 use Rattle.flat_model.specs.declared.errno.Errno.{Errno}
 use Rattle.flat_model.specs.declared.errno.Errno.TheVariants.{BadDescriptor}
-use Rattle.flat_ether.specs.Links.{LinkState, Gives, answers_with, gives_claim, gives_own, receives_arp, ignores, link_up, notes, refuses, sends, takes_error, ticks}
+use Rattle.flat_ether.specs.Links.{LinkState, Gives, answers_with, gives_claim, gives_own, receives_arp, ignores, link_up, adds_error_if, refuses, sends, takes_error, ticks}
 use Rattle.flat_ether.specs.declared.link.Link.{Link}
 use Rattle.flat_ether.specs.declared.link.FrameKind.{FrameKind}
 use Rattle.flat_ether.specs.declared.link.FrameKind.TheVariants.{Packet, Martian, Arp, Other}
@@ -38,7 +38,7 @@ is_to_us s f = same_mac (mac_at 0 f) s.link.mac
 abbrev pub answers : List ℕ → State → State → LinkState → LinkState
 answers f old new s =
     if is_to_us s f
-    then notes (counted_more IpNoproto old new) (body_of f)
+    then adds_error_if (counted_more IpNoproto old new) (body_of f)
     (answers_with (answer_to s.config (body_of f) old new) (body_of f) s)
     else s
 

@@ -96,12 +96,12 @@ arp_if Arp f = Some (body_of f)
 arp_if Other f = None
 
 -- this ARP packet gives the hardware address of the host with this address
-abbrev pub tells : Link → ℕ → List ℕ → Bool
-tells l ip b = is_sound_arp l b && ((arp_of b).ip == ip)
+abbrev pub is_arp_from : Link → ℕ → List ℕ → Bool
+is_arp_from l ip b = is_sound_arp l b && ((arp_of b).ip == ip)
 
 abbrev pub given_in : Link → ℕ → Option (List ℕ) → Option Mac → Option Mac
 given_in l ip None before = before
-given_in l ip (Some b) before = if tells l ip b then Some (arp_of b).mac else before
+given_in l ip (Some b) before = if is_arp_from l ip b then Some (arp_of b).mac else before
 
 -- the hardware address that the most recent of these frames gives for an address; the list begins with the most recent
 abbrev pub last_given : Config → Link → ℕ → List (List ℕ) → Option Mac

@@ -6,7 +6,7 @@ use Rattle.flat_model.specs.Packets.Header.{u32_at}
 use Rattle.flat_model.specs.Machine.Count.{more_by}
 use Rattle.flat_model.specs.declared.config.Config.{Config}
 use Rattle.flat_ether.specs.Claims.{claim_due, claim_sent, claim_ticks, claim_up, conflicts, is_claimed}
-use Rattle.flat_ether.specs.Errors.{error_at, error_in, error_fault, note}
+use Rattle.flat_ether.specs.Errors.{error_at, error_in, error_fault, add_error}
 use Rattle.flat_ether.specs.declared.error.NetFault.{NetFault}
 use Rattle.flat_ether.specs.declared.error.SocketError.{SocketError}
 use Rattle.flat_model.specs.declared.address.Addr.{Addr}
@@ -394,13 +394,13 @@ answers_with Unreachable came s = if is_answering s then counts_no_place s else 
 
 -- ---- errors that other hosts report
 
-abbrev pub notes_error : Option SocketError → LinkState → LinkState
-notes_error None s = s
-notes_error (Some e) s = record s { errors = note e s.errors }
+abbrev pub adds_error : Option SocketError → LinkState → LinkState
+adds_error None s = s
+adds_error (Some e) s = record s { errors = add_error e s.errors }
 
 -- a packet that the machine dropped because of an unknown protocol may report an error
-abbrev pub notes : Bool → List ℕ → LinkState → LinkState
-notes no_protocol came s = if no_protocol then notes_error (error_in s.config came) s else s
+abbrev pub adds_error_if : Bool → List ℕ → LinkState → LinkState
+adds_error_if no_protocol came s = if no_protocol then adds_error (error_in s.config came) s else s
 
 abbrev pub fault_in : Option SocketError → Option NetFault
 fault_in None = None

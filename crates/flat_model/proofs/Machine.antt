@@ -5,7 +5,7 @@ pub mod Sockets
 pub mod Counting
 pub mod Values
 pub mod Putting
-pub mod Laid
+pub mod Placed
 pub mod KeptLists
 pub mod Kept
 pub mod KeptCalls

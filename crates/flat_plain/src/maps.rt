@@ -80,7 +80,7 @@ fn begins_between(first: u32, offset: u32, after: u32) -> bool
 }
 
 /// Returns the cell at an offset after the fragment has been laid over the table.
-fn laid(old: Option<Cell>, k: u32, fragment: Fragment, first: u32, bytes: &[u8]) -> Option<Cell>
+fn overlaid(old: Option<Cell>, k: u32, fragment: Fragment, first: u32, bytes: &[u8]) -> Option<Cell>
     requires small { length bytes.now ≤ 65536 }
     requires offset { fragment.offset ≤ 65536 }
     ensures { (map : Overlay.Map) → map k ≡ held_of old →
@@ -164,7 +164,7 @@ pub fn overlay(cells: &mut [Option<Cell>], fragment: Fragment, bytes: &[u8])
 {
     let first = first_owned(cells, fragment, bytes);
     for k in 0..cells.len() {
-        cells[k] = laid(cells[k], k as u32, fragment, first, bytes);
+        cells[k] = overlaid(cells[k], k as u32, fragment, first, bytes);
     }
 }
 

@@ -106,7 +106,7 @@ static CONFIGS: [(&str, Config, Result<(), ConfigFault>); 7] = [
 ];
 
 #[test]
-fn tells_the_first_fault(rt: HostRuntime) {
+fn reports_the_first_fault(rt: HostRuntime) {
     for (case, config, outcome) in CONFIGS {
         assert!(rt; config.check() == outcome, "{case}");
     }

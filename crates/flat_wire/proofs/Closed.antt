@@ -102,17 +102,17 @@ module _ (M : Ledger) where
         _ new (closed.finishes key old k) a
     kept_settles held key bytes old new k (inr (unwhole, e)) = subst K (sym e) (closed.sets key bytes old k)
 
-    kept_lays : (held : Weight) (key : Key) (f : Fragment) (u : Unfinished) (old new : State) → K old
-        → Arrival.Lays M held key f u old new → K new
-    kept_lays held key f u old new k h =
+    kept_inserts : (held : Weight) (key : Key) (f : Fragment) (u : Unfinished) (old new : State) → K old
+        → Arrival.Inserts M held key f u old new → K new
+    kept_inserts held key f u old new k h =
         by_choice h (λ e g. kept_ends old new _ k g) (λ e g. kept_settles held key _ old new k g)
 
     kept_joins : (held : Weight) (key : Key) (f : Fragment) (old new : State) → K old
         → Arrival.Joins M held key f old new → K new
     kept_joins held key f old new k h = by_case h
         (λ e t. kept_tests old new (held ⊕ f.weight) 1 _ k
-        (λ mid at r. kept_lays held key f (begun key) (begin_unfinished key mid) new (closed.begins key mid at) r) t)
-        (λ u e l. kept_lays held key f u old new k l)
+        (λ mid at r. kept_inserts held key f (begun key) (begin_unfinished key mid) new (closed.begins key mid at) r) t)
+        (λ u e l. kept_inserts held key f u old new k l)
 
     kept_pulls : (origin : Origin) (held w : Weight) (total : ℕ) (old new : State) (Then : Weight → State → Type 0)
         → K old

@@ -5,7 +5,7 @@ use Rattle.std.specs.List.{AllByRecursion as Each}
 use Rattle.std.proofs.lemmas.Bool.{eqb-false}
 use Rattle.std.proofs.lemmas.Option.{none-some, same_Some}
 use Rattle.flat_model.specs.Amounts.Weight.{Item, nothing}
-use Rattle.flat_model.specs.Amounts.Layout.{wire, laid_on, weight_of}
+use Rattle.flat_model.specs.Amounts.Layout.{wire, entries_on, weight_of}
 use Rattle.flat_model.specs.Machine.Event.{Reply, IsAddr}
 use Rattle.flat_model.specs.declared.errno.Errno.{Errno}
 use Rattle.flat_model.specs.declared.option.Opt.{Opt}
@@ -260,6 +260,6 @@ module _ (M : Ledger) (c : Config) (out : List Item) (next count : ℕ) (boots :
       let at : K mid = kept_has_buffers M (IsKept c out next count) closed old mid nothing _ answer k a in
       by_choice h
       (λ e (clusters, taken, arrives). kept_arrives M (IsKept c out next count) closed (Arrival.By_wire (length packet))
-      nothing (record { bytes = packet; weight = weight_of (laid_on clusters (wire (length packet))) }) mid new at
+      nothing (record { bytes = packet; weight = weight_of (entries_on clusters (wire (length packet))) }) mid new at
       arrives)
       (λ e r. subst K (sym r) (closed.ended _ mid at))

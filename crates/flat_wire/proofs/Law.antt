@@ -17,22 +17,23 @@ use Rattle.flat_wire.specs.Wire.{packet_out, packet_in, came_in, ComesFrom, IsAn
 use Rattle.flat_model.specs.declared.address.Addr.{Addr}
 use Rattle.flat_wire.proofs.Second as Second
 use Rattle.flat_wire.proofs.SecondSteps as Steps
-use Rattle.flat_wire.proofs.Told as Told
-use Rattle.flat_wire.proofs.Told.{Among}
+use Rattle.flat_wire.proofs.Recorded as Recorded
+use Rattle.flat_wire.proofs.Recorded.{Among}
 
 module _ (L M : Ledger) (first second : Config) (sent came : List Turn) (s t : State)
     (w : AreWired L M first second sent came s t) where
-  told : Told.IsTold L first w.first_boots sent s
-  told =
-      Told.told_run L first w.first_boots [] (boot first) sent s (Told.told_boot L first w.first_boots) refl
+  recorded : Recorded.IsRecorded L first w.first_boots sent s
+  recorded =
+      Recorded.recorded_run L first w.first_boots [] (boot first) sent s (Recorded.recorded_boot L first w.first_boots)
+      refl
       w.first_runs
 
   -- the log is short enough for its identifications to differ
-  few : length told.log < 65536
-  few = let count : value_of IpLocalout s.counters ≡ min (length told.log) (2 ^ 64 - 1) = told.count in
+  few : length recorded.log < 65536
+  few = let count : value_of IpLocalout s.counters ≡ min (length recorded.log) (2 ^ 64 - 1) = recorded.count in
       let small : value_of IpLocalout s.counters < 2 ^ 16 = w.few in omega arith
 
-  number_of : (log : List Sending) (x : Sending) → Told.Numbered L first w.first_boots log → Among log x
+  number_of : (log : List Sending) (x : Sending) → Recorded.Numbered L first w.first_boots log → Among log x
       → (j : ℕ) × (j < length log) × (x.id ≡ (first.first_id + j) % 65536)
   number_of [] x n a = absurd a
   number_of (y ∷ older) x n (inl e) = (length older, omega arith, ap (λ (z : Sending). z.id) (sym e) ∙ n.0)
@@ -41,7 +42,7 @@ module _ (L M : Ledger) (first second : Config) (sent came : List Turn) (s t : S
   differ : (f j n : ℕ) → j < n → n < 65536 → (f + j) % 65536 ≡ (f + n) % 65536 → ⊥
   differ f j n h l e = omega arith
 
-  unique : (log : List Sending) → length log < 65536 → Told.Numbered L first w.first_boots log → (x y : Sending)
+  unique : (log : List Sending) → length log < 65536 → Recorded.Numbered L first w.first_boots log → (x y : Sending)
       → Among log x → Among log y → x.id ≡ y.id → x ≡ y
   unique [] l n x y a b e = absurd a
   unique (z ∷ older) l n x y (inl a) (inl b) e = sym a ∙ b
@@ -57,7 +58,7 @@ module _ (L M : Ledger) (first second : Config) (sent came : List Turn) (s t : S
 
   -- a packet that the first machine transmitted
   record IsPart (x : Sending) (p : Part) : Type 0 where
-    logged : Among told.log x
+    logged : Among recorded.log x
     sendable : IsSendable first.mtu x
     is_part : Contains (cuts (length (datagram x)) first.mtu) p
     answered : p.more ≡ false → IsAnswered L first sent s x.port x.to x.bytes
@@ -70,7 +71,7 @@ module _ (L M : Ledger) (first second : Config) (sent came : List Turn) (s t : S
   log = record {
     sendable = λ x p is. is.sendable;
     part = λ x p is. is.is_part;
-    unique = λ x y p q a b e. unique told.log few told.numbered x y a.logged b.logged e;
+    unique = λ x y p q a b e. unique recorded.log few recorded.numbered x y a.logged b.logged e;
     answered = λ x p is e. is.answered e;
   }
 
@@ -78,8 +79,8 @@ module _ (L M : Ledger) (first second : Config) (sent came : List Turn) (s t : S
       → Second.IsGoodPacket first.addr second.addr second.bcast first.mtu IsPart Answered M packet
   given packet is from =
       let g =
-      All-contains (Told.IsGiven L first w.first_boots told.log sent s) (filter_map packet_out sent) packet
-      (All-from_recursion _ (filter_map packet_out sent) told.gave) (is from) in (
+      All-contains (Recorded.IsGiven L first w.first_boots recorded.log sent s) (filter_map packet_out sent) packet
+      (All-from_recursion _ (filter_map packet_out sent) recorded.gave) (is from) in (
         g.sending,
         g.part,
         record {

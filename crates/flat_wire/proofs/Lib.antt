@@ -1,14 +1,14 @@
 mod Decode
 mod Grid
 mod Maps
-mod Laying
+mod Inserting
 mod Stretch
 mod Order
 mod Output
 mod Sendable
 mod Closed
 mod First
-mod Told
+mod Recorded
 mod Reading
 mod Second
 mod SecondSteps

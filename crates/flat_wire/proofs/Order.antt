@@ -10,10 +10,10 @@ use Rattle.flat_model.specs.Fragments.Cuts.{Part, part, chunks, cuts}
 use Rattle.flat_model.specs.Fragments.Overlay.{Held, Fragment}
 use Rattle.flat_model.specs.Fragments.Whole.{IsWhole}
 use Rattle.flat_model.specs.Runs.Laws.{bytes_of_part}
-use Rattle.flat_wire.specs.Overlays.{IsFragmentOf, laid, IsPartLaid, OverlayOrder}
+use Rattle.flat_wire.specs.Overlays.{IsFragmentOf, inserted, IsPartInserted, OverlayOrder}
 use Rattle.flat_model.proofs.Laws.{chunks_needed, chunks_enough, grid, length-grid, get_or-grid}
 use Rattle.flat_wire.proofs.Grid.{cuts_grid, index_of}
-use Rattle.flat_wire.proofs.Laying.{IsCut, IsIn, IsOf, IsMade, same_index, laying_step}
+use Rattle.flat_wire.proofs.Inserting.{IsCut, IsIn, IsOf, IsMade, same_index, inserting_step}
 
 -- the i-th part is one of the fragments
 abbrev pub Index : ℕ → List Fragment → ℕ → Type 0
@@ -30,17 +30,18 @@ same_multiple c i j some e = go (cases_order i j)
     go (inr (inr l)) = let m : (j + 1) * c ≤ i * c = mul-le-mul_right {m = j + 1} {n = i} c (omega arith) in
         absurd (omega arith)
 
-laid_made : (s : List ℕ) (c : ℕ) → 0 < c → (fragments : List Fragment) → All (λ f. (i : ℕ) × IsCut s c f i) fragments
-    → IsMade s c (laid fragments) (Index c fragments)
-laid_made s c some [] each = record {
+inserted_made : (s : List ℕ) (c : ℕ) → 0 < c → (fragments : List Fragment) → All (λ f. (i : ℕ) × IsCut s c f i)
+    fragments
+    → IsMade s c (inserted fragments) (Index c fragments)
+inserted_made s c some [] each = record {
   held = λ offset h e. absurd (none-some h e);
   there = λ i offset d place. absurd d;
 }
-laid_made s c some (f ∷ fragments) each =
+inserted_made s c some (f ∷ fragments) each =
     let first : (i : ℕ) × IsCut s c f i = All-head (λ f. (i : ℕ) × IsCut s c f i) f fragments each in
-    let made : IsMade s c (laid fragments) (Index c fragments) =
-    laid_made s c some fragments (All-tail (λ f. (i : ℕ) × IsCut s c f i) f fragments each) in
-    let step = laying_step s c (laid fragments) (Index c fragments) made f first.0 first.1 in
+    let made : IsMade s c (inserted fragments) (Index c fragments) =
+    inserted_made s c some fragments (All-tail (λ f. (i : ℕ) × IsCut s c f i) f fragments each) in
+    let step = inserting_step s c (inserted fragments) (Index c fragments) made f first.0 first.1 in
     record {
       held = λ offset h e. let m = step.held offset h e in (m.0, to m.0 first.0 first.1.offset m.1, m.2);
       there = λ i offset d place. step.there i offset (from i first.0 first.1.offset d) place;
@@ -84,12 +85,12 @@ index_at n c offset some h =
 
 -- the law on a grid
 module _ (s : List ℕ) (c : ℕ) (some : 0 < c) (any : 0 < length s) (fragments : List Fragment)
-    (made : IsMade s c (laid fragments) (Index c fragments)) where
-  pub bytes_laid : (i offset : ℕ) → Index c fragments i → IsIn (length s) c i offset
-      → option_map (λ (h : Held). h.byte) (laid fragments offset) ≡ Some (slice_index s offset)
-  bytes_laid i offset d place = go (laid fragments offset) refl (made.there i offset d place)
+    (made : IsMade s c (inserted fragments) (Index c fragments)) where
+  pub bytes_inserted : (i offset : ℕ) → Index c fragments i → IsIn (length s) c i offset
+      → option_map (λ (h : Held). h.byte) (inserted fragments offset) ≡ Some (slice_index s offset)
+  bytes_inserted i offset d place = go (inserted fragments offset) refl (made.there i offset d place)
     where
-      go : (x : Option Held) → laid fragments offset ≡ x → IsSome x
+      go : (x : Option Held) → inserted fragments offset ≡ x → IsSome x
           → option_map (λ (h : Held). h.byte) x ≡ Some (slice_index s offset)
       go None e p = absurd (no p)
         where
@@ -97,24 +98,24 @@ module _ (s : List ℕ) (c : ℕ) (some : 0 < c) (any : 0 < length s) (fragments
           no p = cc
       go (Some h) e p = ap Some (made.held offset h e).2.byte
 
-  some_is : (offset : ℕ) → IsSome (laid fragments offset)
-      → (i : ℕ) × (h : Held) × (laid fragments offset ≡ Some h) × Index c fragments i × IsOf s c offset h i
-  some_is offset = go (laid fragments offset) refl
+  some_is : (offset : ℕ) → IsSome (inserted fragments offset)
+      → (i : ℕ) × (h : Held) × (inserted fragments offset ≡ Some h) × Index c fragments i × IsOf s c offset h i
+  some_is offset = go (inserted fragments offset) refl
     where
-      go : (x : Option Held) → laid fragments offset ≡ x → IsSome x
-          → (i : ℕ) × (h : Held) × (laid fragments offset ≡ Some h) × Index c fragments i × IsOf s c offset h i
+      go : (x : Option Held) → inserted fragments offset ≡ x → IsSome x
+          → (i : ℕ) × (h : Held) × (inserted fragments offset ≡ Some h) × Index c fragments i × IsOf s c offset h i
       go None e p = absurd (no p)
         where
           no : false ≡ true → ⊥
           no p = cc
       go (Some h) e p = let m = made.held offset h e in (m.0, h, e, m.1, m.2)
 
-  pub ends_at_length : (m : ℕ) → IsWhole (laid fragments) m → m ≡ length s
+  pub ends_at_length : (m : ℕ) → IsWhole (inserted fragments) m → m ≡ length s
   ends_at_length m whole =
       let at = some_is (m - 1) (whole.filled (m - 1) (omega (arith, whole.some))) in
-      let closed : at.1.piece.more ≡ false = last_is (laid fragments (m - 1)) at.1 at.2 whole.last in
+      let closed : at.1.piece.more ≡ false = last_is (inserted fragments (m - 1)) at.1 at.2 whole.last in
       let past : length s ≤ (at.0 + 1) * c = ltb-false _ _ (sym at.4.more ∙ closed) in
-      let end_some : IsSome (laid fragments (length s - 1)) =
+      let end_some : IsSome (inserted fragments (length s - 1)) =
       made.there at.0 (length s - 1) at.3
       (record { low = omega (arith, at.4.inside); high = omega (arith, at.4.inside) }) in
       let under : length s - 1 < m = whole.ended (length s - 1) end_some in
@@ -125,22 +126,22 @@ module _ (s : List ℕ) (c : ℕ) (some : 0 < c) (any : 0 < length s) (fragments
       last_is None h e p = absurd (none-some h e)
       last_is (Some g) h e p = ap (λ (y : Held). y.piece.more) (sym (same_Some g h e)) ∙ p
 
-  pub each_laid : IsWhole (laid fragments) (length s) → (i : ℕ) → i < chunks (length s) c → Index c fragments i
-  each_laid whole i l =
+  pub each_inserted : IsWhole (inserted fragments) (length s) → (i : ℕ) → i < chunks (length s) c → Index c fragments i
+  each_inserted whole i l =
       let inside : i * c < length s = chunks_needed (length s) c i some l in
       let at = some_is (i * c) (whole.filled (i * c) inside) in
       let here : IsIn (length s) c i (i * c) = record { low = omega arith; high = omega arith } in
       subst (λ k. Index c fragments k) (same_index (length s) c at.0 i (i * c) at.4.place here) at.3
 
-  pub whole_from : ((i : ℕ) → i < chunks (length s) c → Index c fragments i) → IsWhole (laid fragments) (length s)
+  pub whole_from : ((i : ℕ) → i < chunks (length s) c → Index c fragments i) → IsWhole (inserted fragments) (length s)
   whole_from each = record {
     some = any;
     filled = λ offset h. let at = index_at (length s) c offset some h in made.there at.0 offset (each at.0 at.1) at.2;
     ended = λ offset p. let at = some_is offset p in omega (arith, at.4.place.high, at.4.inside);
-    last = last_is (laid fragments (length s - 1)) refl;
+    last = last_is (inserted fragments (length s - 1)) refl;
   }
     where
-      last_is : (x : Option Held) → laid fragments (length s - 1) ≡ x → IfSome x (λ held. held.piece.more ≡ false)
+      last_is : (x : Option Held) → inserted fragments (length s - 1) ≡ x → IfSome x (λ held. held.piece.more ≡ false)
       last_is None e = tt
       last_is (Some h) e =
           let m = made.held (length s - 1) h e in
@@ -151,12 +152,12 @@ pub overlay_order_lem : (s : List ℕ) (mtu : ℕ) (fragments : List Fragment) �
 overlay_order_lem s mtu fragments any low each =
     let g = cuts_grid (length s) mtu any low in
     let c : ℕ = g.0 in
-    let made : IsMade s c (laid fragments) (Index c fragments) =
-    laid_made s c g.1 fragments (λ k d l. cut_of c g.1 g.2 (slice_index_or fragments k d) (each k d l)) in
+    let made : IsMade s c (inserted fragments) (Index c fragments) =
+    inserted_made s c g.1 fragments (λ k d l. cut_of c g.1 g.2 (slice_index_or fragments k d) (each k d l)) in
     record {
       bytes = λ p offset is on low high.
           let at = index_of (length s) c p g.1 (subst (λ (ps : List Part). Contains ps p) g.2 is) in
-          bytes_laid s c g.1 any fragments made at.0 offset (laid_index c p at.0 at.2 on)
+          bytes_inserted s c g.1 any fragments made at.0 offset (inserted_index c p at.0 at.2 on)
           (place_of c p at.0 offset at.2 low high);
       elsewhere = λ offset p.
           let at = some_is s c g.1 any fragments made offset p in
@@ -171,10 +172,10 @@ overlay_order_lem s mtu fragments any low each =
       whole = (
         λ w p is.
             let at = index_of (length s) c p g.1 (subst (λ (ps : List Part). Contains ps p) g.2 is) in
-            subst (λ (q : Part). IsPartLaid fragments q) (sym at.2)
-            (any_from_index c at.0 fragments (each_laid s c g.1 any fragments made w at.0 at.1)),
+            subst (λ (q : Part). IsPartInserted fragments q) (sym at.2)
+            (any_from_index c at.0 fragments (each_inserted s c g.1 any fragments made w at.0 at.1)),
         λ all. whole_from s c g.1 any fragments made (λ i l.
-            let on : IsPartLaid fragments (part (length s) c i) =
+            let on : IsPartInserted fragments (part (length s) c i) =
             all (part (length s) c i) (subst (λ (ps : List Part). Contains ps (part (length s) c i)) (sym g.2)
             (in_grid c i l)) in
             index_from_any c i fragments on.0 on.1 on.2 on.3 on.4),
@@ -182,8 +183,9 @@ overlay_order_lem s mtu fragments any low each =
       length = ends_at_length s c g.1 any fragments made;
     }
   where
-    laid_index : (c : ℕ) (p : Part) (i : ℕ) → p ≡ part (length s) c i → IsPartLaid fragments p → Index c fragments i
-    laid_index c p i e on = index_from_any c i fragments on.0 on.1 on.2 on.3 (on.4 ∙ ap (λ (q : Part). q.offset) e)
+    inserted_index : (c : ℕ) (p : Part) (i : ℕ) → p ≡ part (length s) c i → IsPartInserted fragments p → Index c
+        fragments i
+    inserted_index c p i e on = index_from_any c i fragments on.0 on.1 on.2 on.3 (on.4 ∙ ap (λ (q : Part). q.offset) e)
 
     place_of : (c : ℕ) (p : Part) (i offset : ℕ) → p ≡ part (length s) c i → p.offset ≤ offset
         → offset < p.offset + p.size → IsIn (length s) c i offset

@@ -167,8 +167,8 @@ module _ (S A B mtu : ℕ) (P : Sending → Part → Type 0) (Answered : Sending
     -- ---- the sockets that match a datagram
 
     -- the socket is bound to this port
-    abbrev Hears : ℕ → Socket → Type 0
-    Hears port to = ports to.fd ≡ Some port
+    abbrev HasPort : ℕ → Socket → Type 0
+    HasPort port to = ports to.fd ≡ Some port
 
     same_port : (p : Option ℕ) (port : ℕ) → are_same p (Some port) ≡ true → p ≡ Some port
     same_port None port e = absurd (no e)
@@ -177,21 +177,21 @@ module _ (S A B mtu : ℕ) (P : Sending → Part → Type 0) (Answered : Sending
         no e = cc
     same_port (Some q) port e = ap Some (eqb-true q port e)
 
-    hears : (q : LookupKey) (port : ℕ) → q.port ≡ Some port → (to : Socket) → IsGoodSocket ports to
-        → matches q to ≡ true → Hears port to
-    hears q port at to g m =
+    has_port : (q : LookupKey) (port : ℕ) → q.port ≡ Some port → (to : Socket) → IsGoodSocket ports to
+        → matches q to ≡ true → HasPort port to
+    has_port q port at to g m =
         let first = and_parts _ _ m in
         let second = and_parts (are_same to.port q.port) _ first.0 in
         sym g.port ∙ same_port to.port port (subst (λ p. are_same to.port p ≡ true) at second.0)
 
     each_matching : (q : LookupKey) (port : ℕ) → q.port ≡ Some port → (sockets : List Socket)
-        → Each (IsGoodSocket ports) sockets → Each (Hears port) (filter (matches q) sockets)
+        → Each (IsGoodSocket ports) sockets → Each (HasPort port) (filter (matches q) sockets)
     each_matching q port at [] g = tt
     each_matching q port at (to ∷ sockets) g = go (matches q to) refl (each_matching q port at sockets g.1)
       where
-        go : (b : Bool) → matches q to ≡ b → Each (Hears port) (filter (matches q) sockets)
-            → Each (Hears port) (cond b (to ∷ filter (matches q) sockets) (filter (matches q) sockets))
-        go true e rest = (hears q port at to g.0 e, rest)
+        go : (b : Bool) → matches q to ≡ b → Each (HasPort port) (filter (matches q) sockets)
+            → Each (HasPort port) (cond b (to ∷ filter (matches q) sockets) (filter (matches q) sockets))
+        go true e rest = (has_port q port at to g.0 e, rest)
         go false e rest = rest
 
     each-up_to_first : (R : Socket → Type 0) (p : Socket → Bool) (xs : List Socket) → Each R xs
@@ -203,31 +203,31 @@ module _ (S A B mtu : ℕ) (P : Sending → Part → Type 0) (Answered : Sending
         go true rest = (h.0, tt)
         go false rest = (h.0, rest)
 
-    youngest_hears : (q : LookupKey) (port : ℕ) → q.port ≡ Some port → (k : ℕ) (sockets : List Socket) (to : Socket)
-        → Each (IsGoodSocket ports) sockets → youngest k q sockets ≡ Some to → Hears port to
-    youngest_hears q port at k sockets to g e =
+    youngest_has_port : (q : LookupKey) (port : ℕ) → q.port ≡ Some port → (k : ℕ) (sockets : List Socket) (to : Socket)
+        → Each (IsGoodSocket ports) sockets → youngest k q sockets ≡ Some to → HasPort port to
+    youngest_has_port q port at k sockets to g e =
         let found =
         each-find (IsGoodSocket ports) (λ socket. matches q socket && (wildcards q socket == k)) sockets to g e in
-        hears q port at to found.0 (and_parts (matches q to) _ found.1).0
+        has_port q port at to found.0 (and_parts (matches q to) _ found.1).0
 
     each_best : (q : LookupKey) (port : ℕ) → q.port ≡ Some port → (sockets : List Socket)
-        → Each (IsGoodSocket ports) sockets → Each (Hears port) (option_to_list (best q sockets))
+        → Each (IsGoodSocket ports) sockets → Each (HasPort port) (option_to_list (best q sockets))
     each_best q port at sockets g =
         go (youngest 0 q sockets) (youngest 1 q sockets) (youngest 2 q sockets) refl refl refl
       where
         go : (x y z : Option Socket) → youngest 0 q sockets ≡ x → youngest 1 q sockets ≡ y → youngest 2 q sockets ≡ z
-            → Each (Hears port) (option_to_list (option_or x (option_or y z)))
-        go (Some to) y z ex ey ez = (youngest_hears q port at 0 sockets to g ex, tt)
-        go None (Some to) z ex ey ez = (youngest_hears q port at 1 sockets to g ey, tt)
-        go None None (Some to) ex ey ez = (youngest_hears q port at 2 sockets to g ez, tt)
+            → Each (HasPort port) (option_to_list (option_or x (option_or y z)))
+        go (Some to) y z ex ey ez = (youngest_has_port q port at 0 sockets to g ex, tt)
+        go None (Some to) z ex ey ez = (youngest_has_port q port at 1 sockets to g ey, tt)
+        go None None (Some to) ex ey ez = (youngest_has_port q port at 2 sockets to g ez, tt)
         go None None None ex ey ez = tt
 
     each_receiver : (s : State) (destination : ℕ) (q : LookupKey) (port : ℕ) → q.port ≡ Some port → IsGood ports s
-        → Each (Hears port) (Arrival.matching_sockets s destination q)
+        → Each (HasPort port) (Arrival.matching_sockets s destination q)
     each_receiver s destination q port at good = go (Arrival.is_broadcast s.config destination)
       where
-        go : (b : Bool) → Each (Hears port) (cond b (receivers q s.sockets) (option_to_list (best q s.sockets)))
-        go true = each-up_to_first (Hears port) _ _ (each_matching q port at s.sockets good.sockets)
+        go : (b : Bool) → Each (HasPort port) (cond b (receivers q s.sockets) (option_to_list (best q s.sockets)))
+        go true = each-up_to_first (HasPort port) _ _ (each_matching q port at s.sockets good.sockets)
         go false = each_best q port at s.sockets good.sockets
 
     -- ---- whole datagrams
@@ -241,14 +241,14 @@ module _ (S A B mtu : ℕ) (P : Sending → Part → Type 0) (Answered : Sending
       pub here : IsHere destination
 
     good_goes : (held : Weight) (sender : Addr) (item : Item) (destination port : ℕ) (tos : List Socket)
-        (old new : State) → IsGood ports old → Each (Hears port) tos
+        (old new : State) → IsGood ports old → Each (HasPort port) tos
         → ((w : Weight) → IsGoodDatagram (Some port) (record { sender = sender; item = record item { weight = w } }))
         → Arrival.GoesTo M held sender item destination tos old new → IsGood ports new
-    good_goes held sender item destination port [] old new good hear is h = good_ends old good new _ h
-    good_goes held sender item destination port (to ∷ more) old new good hear is h =
-        good_delivers held sender item (to ∷ more) old new good (each (to ∷ more) hear) h
+    good_goes held sender item destination port [] old new good bound is h = good_ends old good new _ h
+    good_goes held sender item destination port (to ∷ more) old new good bound is h =
+        good_delivers held sender item (to ∷ more) old new good (each (to ∷ more) bound) h
       where
-        each : (xs : List Socket) → Each (Hears port) xs
+        each : (xs : List Socket) → Each (HasPort port) xs
             → Each (λ x. (w : Weight) → IsGoodDatagram (ports x.fd)
             (record { sender = sender; item = record item { weight = w } })) xs
         each [] h = tt
@@ -389,22 +389,22 @@ module _ (S A B mtu : ℕ) (P : Sending → Part → Type 0) (Answered : Sending
                 (λ e. subst Answered same (log.answered o.sending o.part o.given (sym o.more ∙ e)));
           }
 
-      good_lays : (held : Weight) (k : Key) (f : Fragment) (u : Unfinished) (old new : State) → IsGood ports old
+      good_inserts : (held : Weight) (k : Key) (f : Fragment) (u : Unfinished) (old new : State) → IsGood ports old
           → IsGoodKey k u.bytes → (k.source ≡ S → k.protocol ≡ 17 → IsPartOf k f)
-          → Arrival.Lays M held k f u old new → IsGood ports new
-      good_lays held k f u old new good at is h =
+          → Arrival.Inserts M held k f u old new → IsGood ports new
+      good_inserts held k f u old new good at is h =
           by_choice h
           (λ e g. good_ends old good new _ g)
           (λ e g. go g)
         where
-          laid : IsGoodKey k (overlay u.bytes f)
-          laid = good_overlay k f u.bytes at is
+          inserted : IsGoodKey k (overlay u.bytes f)
+          inserted = good_overlay k f u.bytes at is
 
           whole : (n : ℕ) → IsWhole (overlay u.bytes f) n → k.source ≡ S → k.protocol ≡ 17
               → IsWholeOf k.destination (bytes_below (overlay u.bytes f) n)
           whole n w from udp =
               let o : IsPartOf k f = is from udp in
-              let g : IsGoodMap o.sending (overlay u.bytes f) = laid.of from udp o.sending o.part o.given o.id in
+              let g : IsGoodMap o.sending (overlay u.bytes f) = inserted.of from udp o.sending o.part o.given o.id in
               record {
                 sending = o.sending;
                 answered = whole_closed (overlay u.bytes f) n w (Answered o.sending) g.closed;
@@ -416,7 +416,7 @@ module _ (S A B mtu : ℕ) (P : Sending → Part → Type 0) (Answered : Sending
           go : Arrival.Settles M held k (overlay u.bytes f) old new → IsGood ports new
           go (inl (n, w, joined, j, arrives)) =
               good_whole held k.source k.destination k.protocol _ _ new (good_end k old good) (whole n w) arrives
-          go (inr (unwhole, e)) = subst (IsGood ports) (sym e) (good_set k (overlay u.bytes f) old good laid)
+          go (inr (unwhole, e)) = subst (IsGood ports) (sym e) (good_set k (overlay u.bytes f) old good inserted)
 
       good_joins : (held : Weight) (k : Key) (f : Fragment) (old new : State) → IsGood ports old
           → (k.source ≡ S → k.protocol ≡ 17 → IsPartOf k f) → Arrival.Joins M held k f old new → IsGood ports new
@@ -424,8 +424,8 @@ module _ (S A B mtu : ℕ) (P : Sending → Part → Type 0) (Answered : Sending
           by_case h
           (λ e t. good_tests old new (held ⊕ f.weight) 1 _ good
           (λ mid at r. let begins : IsGood ports (begin_unfinished k mid) = good_begin k mid at in
-          good_lays held k f (begun k) (begin_unfinished k mid) new begins (good_begun k) is r) t)
-          (λ u e l. good_lays held k f u old new good (good_at k old u good e) is l)
+          good_inserts held k f (begun k) (begin_unfinished k mid) new begins (good_begun k) is r) t)
+          (λ u e l. good_inserts held k f u old new good (good_at k old u good e) is l)
 
       good_pulls : (origin : Origin) (held w : Weight) (total : ℕ) (old new : State) (Then : Weight → State → Type 0)
           → IsGood ports old

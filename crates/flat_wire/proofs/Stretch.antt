@@ -7,7 +7,7 @@ use Rattle.flat_model.specs.Fragments.Overlay.{Fragment, fragment_end}
 use Rattle.flat_model.specs.Runs.Laws.{bytes_of_part}
 use Rattle.flat_model.proofs.Laws.{chunks_needed}
 use Rattle.flat_wire.proofs.Grid.{cuts_grid, index_of}
-use Rattle.flat_wire.proofs.Laying.{IsCut, end_of, fragment_end_is, brought_byte}
+use Rattle.flat_wire.proofs.Inserting.{IsCut, end_of, fragment_end_is, brought_byte}
 use Rattle.flat_wire.proofs.Maps.{IsStretch}
 
 pub part_is_stretch : (t : List ℕ) (mtu : ℕ) (p : Part) (f : Fragment) → 0 < length t → 28 ≤ mtu

@@ -15,23 +15,24 @@ pub record IsFragmentOf (s : List ℕ) (mtu : ℕ) (f : Fragment) : Type 0 where
   pub more : f.more ≡ part.more
 
 -- these fragments laid over an empty map, the last of the list first
-abbrev pub laid : List Fragment → Map
-laid [] = empty
-laid (f ∷ fragments) = overlay (laid fragments) f
+abbrev pub inserted : List Fragment → Map
+inserted [] = empty
+inserted (f ∷ fragments) = overlay (inserted fragments) f
 
 -- the part is among the fragments
-abbrev pub IsPartLaid : List Fragment → Part → Type 0
-IsPartLaid fragments p = Any (λ f. f.offset ≡ p.offset) fragments
+abbrev pub IsPartInserted : List Fragment → Part → Type 0
+IsPartInserted fragments p = Any (λ f. f.offset ≡ p.offset) fragments
 
 -- In any order and with repeats: at each offset of a part that is among the fragments, the map has the string's byte,
 -- and it has no other byte. It is complete exactly if every part is among them.
 pub record OverlayOrder (s : List ℕ) (mtu : ℕ) (fragments : List Fragment) : Type 0 where
-  pub bytes : (p : Part) (offset : ℕ) → Contains (cuts (length s) mtu) p → IsPartLaid fragments p → p.offset ≤ offset
+  pub bytes : (p : Part) (offset : ℕ) → Contains (cuts (length s) mtu) p → IsPartInserted fragments p → p.offset ≤
+      offset
       → offset < p.offset + p.size →
-      option_map (λ held. held.byte) (laid fragments offset) ≡ Some (slice_index s offset)
-  pub elsewhere : (offset : ℕ) → IsSome (laid fragments offset) →
-      (p : Part) × Contains (cuts (length s) mtu) p × IsPartLaid fragments p × (p.offset ≤ offset)
+      option_map (λ held. held.byte) (inserted fragments offset) ≡ Some (slice_index s offset)
+  pub elsewhere : (offset : ℕ) → IsSome (inserted fragments offset) →
+      (p : Part) × Contains (cuts (length s) mtu) p × IsPartInserted fragments p × (p.offset ≤ offset)
       × (offset < p.offset + p.size)
-  pub whole : IsWhole (laid fragments) (length s)
-      ↔ ((p : Part) → Contains (cuts (length s) mtu) p → IsPartLaid fragments p)
-  pub length : (n : ℕ) → IsWhole (laid fragments) n → n ≡ length s
+  pub whole : IsWhole (inserted fragments) (length s)
+      ↔ ((p : Part) → Contains (cuts (length s) mtu) p → IsPartInserted fragments p)
+  pub length : (n : ℕ) → IsWhole (inserted fragments) n → n ≡ length s

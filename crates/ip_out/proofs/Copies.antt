@@ -19,7 +19,7 @@ use Rattle.chain_ops.specs.Copies.{copied_all}
 use Rattle.chain_ops.specs.Weights.{layout_entries, HaveBytes}
 use Rattle.chain_ops.proofs.Laws.Makes.{makes_kept, makes_held, apart_made}
 use Rattle.chain_ops.proofs.Laws.Strings.{copied_all_bytes}
-use Rattle.chain_ops.proofs.Laws.Weights.{copied_all-laid}
+use Rattle.chain_ops.proofs.Laws.Weights.{copied_all-placed}
 use Rattle.ledger.specs.Accounts.{item_of}
 use Rattle.ip_out.specs.declared.head.IpHead.{IpHead}
 use Rattle.ip_out.specs.Packets.{IsDatagramChain, train_packets, packets_of, chain_parts, part_bytes, later_need}
@@ -62,7 +62,8 @@ pub copied : {p q : PoolView} (c d room : ℕ) (header : Bool) (h : IpHead) (mtu
 copied {p} {q} c d room header h mtu m headed live dg =
     let es : List Entry = (chain_of p c).entries in
     let w : ChainView = chain_of q d in
-    let laid_is : layout_entries w.entries ≡ layout_entries es = ap layout_entries m.entries ∙ copied_all-laid room es in
+    let placed_is : layout_entries w.entries ≡ layout_entries es = ap layout_entries m.entries ∙ copied_all-placed room
+    es in
     let bytes : string w ≡ flat_bytes es = ap flat_bytes m.entries ∙ copied_all_bytes room es in
     let first = first_copied room es in
     record {
@@ -83,9 +84,9 @@ copied {p} {q} c d room header h mtu m headed live dg =
         bytes = subst HaveBytes (sym m.entries) (have_bytes room es dg.bytes);
         most = omega (arith, ap (λ (xs : List ℕ). length xs) bytes, dg.most);
       };
-      same_packets = λ i. items (laid_is i) (part_bytes h (drop 20 (bytes i))) (cuts (length (bytes i) - 20) mtu);
+      same_packets = λ i. items (placed_is i) (part_bytes h (drop 20 (bytes i))) (cuts (length (bytes i) - 20) mtu);
       same_need =
-          λ i. sum_by (λ (x : Part). 1 + length (entries_met (laid_is i) (20 + x.offset) (20 + x.offset + x.size)))
+          λ i. sum_by (λ (x : Part). 1 + length (entries_met (placed_is i) (20 + x.offset) (20 + x.offset + x.size)))
           (drop 1 (cuts (length (bytes i) - 20) mtu));
       held = omega (arith, makes_held m, length_copied room es);
       moves = moves_beside (c ∷ []) (d ∷ c ∷ []) (c ∷ []) (moves_adds m.adds) (λ k. omega arith) (λ k. omega arith);

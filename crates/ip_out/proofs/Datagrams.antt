@@ -4,7 +4,7 @@ use Rattle.std.specs.Prelude.{◌⊎◌, slice_index_or}
 use Rattle.std.specs.List.{AllByRecursion}
 use Rattle.std.proofs.lemmas.Bool.{cases_lt}
 use Rattle.flat_model.specs.Amounts.Layout as flat
-use Rattle.flat_model.specs.Amounts.Layout.{Room, Plain, Cluster, size_of, filled, next_room, laid_on, sent}
+use Rattle.flat_model.specs.Amounts.Layout.{Room, Plain, Cluster, size_of, filled, next_room, entries_on, sent}
 use Rattle.mbuf_chain.specs.Chain.{Entry, ChainView, no_entry, string}
 use Rattle.chain_ops.specs.Weights.{layout_entries, HaveBytes}
 use Rattle.chain_ops.proofs.Laws.Rooms.{next_some}
@@ -26,22 +26,22 @@ filled_some (suc k) large small (suc less) l s = (
   filled_some k 2048 108 (suc less - size_of (next_room large small (suc less))) (omega arith) (omega arith),
 )
 
-laid_on_some : (cs : List ℕ) (rooms : List Room) → HaveRoom rooms → HaveSize (laid_on cs rooms)
-unfolding laid_on
-laid_on_some [] [] h = tt
-laid_on_some (c ∷ cs) [] h = tt
-laid_on_some [] (Plain n ∷ rooms) h = (h.0, laid_on_some [] rooms h.1)
-laid_on_some (c ∷ cs) (Plain n ∷ rooms) h = (h.0, laid_on_some (c ∷ cs) rooms h.1)
-laid_on_some [] (Cluster n ∷ rooms) h = (h.0, laid_on_some [] rooms h.1)
-laid_on_some (c ∷ cs) (Cluster n ∷ rooms) h = (h.0, laid_on_some cs rooms h.1)
+entries_on_some : (cs : List ℕ) (rooms : List Room) → HaveRoom rooms → HaveSize (entries_on cs rooms)
+unfolding entries_on
+entries_on_some [] [] h = tt
+entries_on_some (c ∷ cs) [] h = tt
+entries_on_some [] (Plain n ∷ rooms) h = (h.0, entries_on_some [] rooms h.1)
+entries_on_some (c ∷ cs) (Plain n ∷ rooms) h = (h.0, entries_on_some (c ∷ cs) rooms h.1)
+entries_on_some [] (Cluster n ∷ rooms) h = (h.0, entries_on_some [] rooms h.1)
+entries_on_some (c ∷ cs) (Cluster n ∷ rooms) h = (h.0, entries_on_some cs rooms h.1)
 
 entries_some : (es : List Entry) → HaveSize (layout_entries es) → HaveBytes es
 entries_some [] h = tt
 entries_some (e ∷ es) h = (h.0, entries_some es h.1)
 
 plain_first : (cs : List ℕ) (n : ℕ) (rooms : List Room)
-    → laid_on cs (Plain n ∷ rooms) ≡ record { size = n; cluster = None } ∷ laid_on cs rooms
-unfolding laid_on
+    → entries_on cs (Plain n ∷ rooms) ≡ record { size = n; cluster = None } ∷ entries_on cs rooms
+unfolding entries_on
 plain_first [] n rooms = refl
 plain_first (c ∷ cs) n rooms = refl
 
@@ -57,22 +57,22 @@ first_of (e ∷ es) x xs h = (
 )
 
 of_rooms : (v : ChainView) (cs : List ℕ) (n m : ℕ) (rooms : List Room) → v.front.header ≡ true
-    → layout_entries v.entries ≡ laid_on cs (sent n) → sent n ≡ Plain m ∷ rooms → HaveRoom (Plain m ∷ rooms) → 20 ≤ m
+    → layout_entries v.entries ≡ entries_on cs (sent n) → sent n ≡ Plain m ∷ rooms → HaveRoom (Plain m ∷ rooms) → 20 ≤ m
     → length (string v) ≤ 65535 → IsDatagramChain v
 of_rooms v cs n m rooms headed is e some room most =
-    let whole : layout_entries v.entries ≡ laid_on cs (Plain m ∷ rooms) = is ∙ ap (laid_on cs) e in
+    let whole : layout_entries v.entries ≡ entries_on cs (Plain m ∷ rooms) = is ∙ ap (entries_on cs) e in
     let first =
-    first_of v.entries (record { size = m; cluster = None }) (laid_on cs rooms) (whole ∙ plain_first cs m rooms) in
+    first_of v.entries (record { size = m; cluster = None }) (entries_on cs rooms) (whole ∙ plain_first cs m rooms) in
     record {
       headed = headed;
       plain = first.0;
       room = omega (arith, first.1, room);
-      bytes = entries_some v.entries (subst HaveSize (sym whole) (laid_on_some cs (Plain m ∷ rooms) some));
+      bytes = entries_some v.entries (subst HaveSize (sym whole) (entries_on_some cs (Plain m ∷ rooms) some));
       most = most;
     }
 
 pub datagram_sent : (v : ChainView) (cs : List ℕ) (n : ℕ) → v.front.header ≡ true
-    → layout_entries v.entries ≡ laid_on cs (sent n)
+    → layout_entries v.entries ≡ entries_on cs (sent n)
     → length (string v) ≤ 65535 → IsDatagramChain v
 datagram_sent v cs n headed is most = go (cases_lt 72 n)
   where

@@ -29,7 +29,7 @@ use Rattle.ip_out.specs.Headings.{head_bytes}
 use Rattle.ip_out.specs.Packets.{train_packets, packets_of, chain_parts, part_need, later_need, part_head, part_bytes, AreBegunPlain, BeginPlain, IsDatagramChain}
 use Rattle.ip_out.specs.Inside.{later_item, parts_to, IsLater, IsCutInto}
 use Rattle.ip_out.proofs.Later.{length_head}
-use Rattle.ip_out.proofs.Outputs.{cut_none, kept_moves, plain_more, weight-laid, weigh_numbers, weigh_parts, length-laid}
+use Rattle.ip_out.proofs.Outputs.{cut_none, kept_moves, plain_more, weight-placed, weigh_numbers, weigh_parts, length-placed}
 
 -- ---- bytes and weight
 only_weight : (k : ℕ) (es : List Entry) → ledger.entries_weight (only_first k es) ≡ ledger.entries_weight es
@@ -69,7 +69,7 @@ first_is (f ∷ es) k s hdr room e len =
     ∙ ap (λ (xs : List ℕ). hdr ++ xs)
     (drop_front 20 g.bytes rest long ∙ ap (drop 20) (only_first_bytes k (f ∷ es))
     ∙ ap (λ (m : ℕ). drop 20 (take m (flat_bytes (f ∷ es)))) e ∙ drop_take 20 s (flat_bytes (f ∷ es))) in
-    λ i. record { bytes = bytes i; weight = (only_weight k (f ∷ es) ∙ sym (weight-laid (f ∷ es))) i }
+    λ i. record { bytes = bytes i; weight = (only_weight k (f ∷ es) ∙ sym (weight-placed (f ∷ es))) i }
 
 -- ---- the pool
 abbrev pub trimmed : ChainView → ℕ → ChainView
@@ -308,6 +308,6 @@ held_packets {p} {z} t c n size k mtu h m live is_cut len is =
           })
           (map (later_item v h) (parts_to n size k)),
       weigh_parts v h (parts_to n size k),
-      length-laid v.entries,
+      length-placed v.entries,
       ap (λ (ps : List Part). sum_by (part_need v) (drop 1 ps)) parts,
     )

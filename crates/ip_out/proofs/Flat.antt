@@ -7,7 +7,7 @@ use Rattle.flat_model.specs.Amounts.Weight.{Item}
 use Rattle.flat_model.specs.Fragments.Cuts.{Part, part, cuts, chunk, chunks}
 use Rattle.flat_model.specs.Packets.Header.{Head, packet}
 use Rattle.flat_model.specs.Amounts.Layout as flat
-use Rattle.flat_model.specs.Amounts.Layout.{laid_on, sent}
+use Rattle.flat_model.specs.Amounts.Layout.{entries_on, sent}
 use Rattle.flat_model.specs.Machine.Sending as sending
 use Rattle.flat_model.specs.Machine.Sending.{Sending, items, datagram, mtu_to, later_weight}
 use Rattle.flat_model.specs.declared.config.Config.{Config}
@@ -114,13 +114,13 @@ all_same x (p ∷ ps) all = (part_same x p all.0, all_same x ps all.1)
 
 -- the packets of a chain with the layout and the bytes of a send are the packets of the send
 pub packets_sent : (c : Config) (clusters : List ℕ) (x : Sending) (v : ChainView)
-    → layout_entries v.entries ≡ laid_on clusters (sent (length x.bytes)) → 20 ≤ length (string v)
+    → layout_entries v.entries ≡ entries_on clusters (sent (length x.bytes)) → 20 ≤ length (string v)
     → drop 20 (string v) ≡ datagram x
     → packets_of v (sending_head x) (mtu_to c x.to.ip) ≡ sending.packets c clusters x
-packets_sent c clusters x v laid_is room bytes =
+packets_sent c clusters x v placed_is room bytes =
     let n : length (string v) - 20 ≡ length (datagram x) =
     omega (arith, length-drop 20 (string v), ap (λ (xs : List ℕ). length xs) bytes) in
-    (λ i. items (laid_is i) (part_bytes (sending_head x) (bytes i)) (cuts (n i) (mtu_to c x.to.ip)))
-    ∙ items_same (laid_on clusters (sent (length x.bytes))) (part_bytes (sending_head x) (datagram x))
+    (λ i. items (placed_is i) (part_bytes (sending_head x) (bytes i)) (cuts (n i) (mtu_to c x.to.ip)))
+    ∙ items_same (entries_on clusters (sent (length x.bytes))) (part_bytes (sending_head x) (datagram x))
     (sending.packet_for x) (cuts (length (datagram x)) (mtu_to c x.to.ip))
     (all_same x (cuts (length (datagram x)) (mtu_to c x.to.ip)) (cuts_within (datagram x) (mtu_to c x.to.ip)))

@@ -98,24 +98,25 @@ drop_both (suc a) b [] = drop_nil (suc a + b) ∙ sym (drop_nil b)
 drop_both (suc a) b (x ∷ xs) = let e : suc a + b ≡ suc (a + b) = omega arith in
     ap (λ (k : ℕ). drop k (x ∷ xs)) e ∙ drop_both a b xs
 
-pub length-laid : (es : List Entry) → length (layout_entries es) ≡ length es
-length-laid [] = refl
-length-laid (e ∷ es) = ap suc (length-laid es)
+pub length-placed : (es : List Entry) → length (layout_entries es) ≡ length es
+length-placed [] = refl
+length-placed (e ∷ es) = ap suc (length-placed es)
 
-bag-laid : (es : List Entry) → filter_map (λ (x : flat.LayoutEntry). x.cluster) (layout_entries es)
+bag-placed : (es : List Entry) → filter_map (λ (x : flat.LayoutEntry). x.cluster) (layout_entries es)
     ≡ filter_map (λ (e : Entry). e.cluster) es
-bag-laid [] = refl
-bag-laid (e ∷ es) = ap (cons_option e.cluster) (bag-laid es)
+bag-placed [] = refl
+bag-placed (e ∷ es) = ap (cons_option e.cluster) (bag-placed es)
 
 -- the weight of entries is the same by both definitions
-pub weight-laid : (es : List Entry) → weight_of (layout_entries es) ≡ ledger.entries_weight es
-weight-laid es = λ i. record { mbufs = length-laid es i; bag = bag-laid es i }
+pub weight-placed : (es : List Entry) → weight_of (layout_entries es) ≡ ledger.entries_weight es
+weight-placed es = λ i. record { mbufs = length-placed es i; bag = bag-placed es i }
 
 -- the weight of the copy of a range is that of the entries that share a byte with it (a law of chain_ops)
 abbrev pub CopyWeighs : Type 0
 CopyWeighs =
     (header : Bool) (es : List Entry) (off len : ℕ) → HaveBytes es → 0 < len
-    → weight_of (layout_entries (copied header es off len)) ≡ weight_of (entries_met (layout_entries es) off (off + len))
+    → weight_of (layout_entries (copied header es off len)) ≡ weight_of
+    (entries_met (layout_entries es) off (off + len))
 
 pub later_is : CopyWeighs → (v : ChainView) (h : IpHead) (p : Part) → HaveBytes v.entries → 0 < p.size
     → item_of (head_entry (part_head h p) ∷ copied false v.entries (20 + p.offset) p.size) ≡ later_item v h p
@@ -125,7 +126,7 @@ later_is law v h p some pos =
     copied_bytes false v.entries (20 + p.offset) p.size ∙ ap (take p.size) (drop_both 20 p.offset (string v)) in
     let w : ledger.entries_weight es
     ≡ weight_of (entries_met (layout_entries v.entries) (20 + p.offset) (20 + p.offset + p.size)) =
-    sym (weight-laid es) ∙ law false v.entries (20 + p.offset) p.size some pos in
+    sym (weight-placed es) ∙ law false v.entries (20 + p.offset) p.size some pos in
     let one : ledger.entries_weight (head_entry (part_head h p) ∷ es) ≡ mbuf ⊕ ledger.entries_weight es =
     (let m : suc (length es) ≡ 1 + length es = omega arith in
     λ i. record { mbufs = m i; bag = (ledger.entries_weight es).bag }) in
@@ -137,7 +138,7 @@ need_copied law v p some pos =
     omega (
       arith,
       ap (λ (w : Weight). w.mbufs) (law false v.entries (20 + p.offset) p.size some pos),
-      length-laid (copied false v.entries (20 + p.offset) p.size),
+      length-placed (copied false v.entries (20 + p.offset) p.size),
     )
 
 -- ---- chains other than the new packets

@@ -114,19 +114,19 @@ impl Queue {
         Some(self.train.len_at(pool, at))
     }
 
-    /// Copies the bytes of the packet at index `i` to the front of `room`, and returns their number; `None` exactly if
-    /// no more than `i` packets are queued. The rest of `room` is unchanged. The packet must fit there. It stays in the
-    /// queue. It takes one step for each packet before it.
-    pub fn packet(&self, pool: &Pool, i: u32, room: &mut [u8]) -> Option<usize>
+    /// Copies the bytes of the packet at index `i` to the front of `buffer`, and returns their number; `None` exactly
+    /// if no more than `i` packets are queued. The rest of `buffer` is unchanged. The packet must fit there. It stays
+    /// in the queue. It takes one step for each packet before it.
+    pub fn packet(&self, pool: &Pool, i: u32, buffer: &mut [u8]) -> Option<usize>
         requires queue { IsOutputQueue pool.now self.now }
         requires fits { IfSome (nth_packet i (train_packets pool.now self.now))
-            (λ bytes. length bytes ≤ length room.old) }
-        ensures packet { option_map (λ n. take n room.new) result ≡ nth_packet i (train_packets pool.now self.now) }
-        ensures within { IfSome result (λ n. n ≤ length room.new) }
-        ensures same { IfNone result (room.new ≡ room.old) }
-        ensures rest { IfSome result (λ n. drop n room.new ≡ drop n room.old) }
+            (λ bytes. length bytes ≤ length buffer.old) }
+        ensures packet { option_map (λ n. take n buffer.new) result ≡ nth_packet i (train_packets pool.now self.now) }
+        ensures within { IfSome result (λ n. n ≤ length buffer.new) }
+        ensures same { IfNone result (buffer.new ≡ buffer.old) }
+        ensures rest { IfSome result (λ n. drop n buffer.new ≡ drop n buffer.old) }
     {
-        copy_packet(pool, &self.train, i, room)
+        copy_packet(pool, &self.train, i, buffer)
     }
 
     /// Returns the mbufs of the packet at index `i`, in order, for drawing them: the head fields and the bytes of each.

@@ -9,7 +9,7 @@ use Rattle.flat_model.specs.Fragments.Overlay.{Fragment}
 use Rattle.flat_model.specs.Machine.State.{State, Socket, Key, Unfinished, is_key, begun, begin_unfinished, ends}
 use Rattle.flat_model.specs.Machine.Count.{counted, counts_more}
 use Rattle.flat_model.specs.Machine.Ledger.{exact_ledger, HasBuffers, need_mbufs}
-use Rattle.flat_model.specs.Machine.Arrival.{Tests, Lays, Joins, is_bad_fragment, counts_fragment}
+use Rattle.flat_model.specs.Machine.Arrival.{Tests, Inserts, Joins, is_bad_fragment, counts_fragment}
 use Rattle.flat_model.specs.declared.counters.Counters.{Counters}
 use Rattle.flat_model.specs.declared.counter.Counter.TheVariants.{IpFragments}
 use Rattle.flat_model.specs.declared.counters.Why.TheVariants.{BadFragment, NoBufs}
@@ -225,20 +225,20 @@ some_by_key p k (d ∷ ds) x e = go (is_key k (unfinished_of p d)) refl (some_by
 pub joins_none : (rest : State) (held : Weight) (new : State) (k : Key) (f : Fragment) (p : PoolView)
     (ds : List Datagram) (c : Counters) → find (is_key k) (unfinished p ds) ≡ None
     → Tests exact_ledger (machine_with p ds c rest) (held ⊕ f.weight) 1 new
-    (λ mid. Lays exact_ledger held k f (begun k) (begin_unfinished k mid) new)
+    (λ mid. Inserts exact_ledger held k f (begun k) (begin_unfinished k mid) new)
     → Joins exact_ledger held k f (machine_with p ds c rest) new
 joins_none rest held new k f p ds c none tests =
     record { none = λ e. tests; some = λ x e. absurd (none-some x (sym none ∙ e)) }
 
 pub joins_some : (rest : State) (held : Weight) (new : State) (k : Key) (f : Fragment) (p : PoolView)
     (ds : List Datagram) (c : Counters) (d : Datagram) → find (is_key k) (unfinished p ds) ≡ Some (unfinished_of p d)
-    → Lays exact_ledger held k f (unfinished_of p d) (machine_with p ds c rest) new
+    → Inserts exact_ledger held k f (unfinished_of p d) (machine_with p ds c rest) new
     → Joins exact_ledger held k f (machine_with p ds c rest) new
-joins_some rest held new k f p ds c d found lays = record {
+joins_some rest held new k f p ds c d found inserts = record {
   none = λ e. absurd (none-some (unfinished_of p d) (sym e ∙ found));
   some =
-      λ x e. subst (λ (u : Unfinished). Lays exact_ledger held k f u (machine_with p ds c rest) new)
-      (ap or_d (sym found ∙ e)) lays;
+      λ x e. subst (λ (u : Unfinished). Inserts exact_ledger held k f u (machine_with p ds c rest) new)
+      (ap or_d (sym found ∙ e)) inserts;
 }
   where
     or_d : Option Unfinished → Unfinished
@@ -254,7 +254,7 @@ slice_at (d ∷ ds) (suc i) l = slice_at ds i (omega arith)
 pub joins_found : (rest : State) (held : Weight) (new : State) (k : Key) (f : Fragment) (p : PoolView)
     (ds : List Datagram) (c : Counters) (i : ℕ) → IsFirst k ds i → AreDistinct p ds
     → (is_key k (unfinished_of p (datagram_at ds i)) ≡ true → count_by (is_key k) (unfinished p ds) ≤ 1
-    → Lays exact_ledger held k f (unfinished_of p (datagram_at ds i)) (machine_with p ds c rest) new)
+    → Inserts exact_ledger held k f (unfinished_of p (datagram_at ds i)) (machine_with p ds c rest) new)
     → Joins exact_ledger held k f (machine_with p ds c rest) new
 joins_found rest held new k f p ds c i first distinct step =
     let key : find (is_key k) (unfinished p ds) ≡ Some (unfinished_of p (datagram_at ds i)) =

@@ -139,10 +139,10 @@ stored_bytes packet k = go (nat_le 208 (length packet))
     go true = append-nil packet
     go false = ap (λ (xs : List ℕ). take 100 packet ++ xs) (append-nil (drop 100 packet)) ∙ take-append-drop 100 packet
 
-pub laid_len : {p m : PoolView} {n : ℕ} (packet : List ℕ) (k : ℕ) → 100 < length packet
+pub inserted_len : {p m : PoolView} {n : ℕ} (packet : List ℕ) (k : ℕ) → 100 < length packet
     → Makes p m n (alone true) (carried_entries (as_stored packet k))
     → length (flat_bytes (chain_of m n).entries) ≡ length packet - 20
-laid_len packet k many made =
+inserted_len packet k many made =
     ap (λ (es : List Entry). length (flat_bytes es)) made.entries
     ∙ ap (λ (xs : List ℕ). length xs) (carried_bytes (as_stored packet k))
     ∙ ap (λ (xs : List ℕ). length (drop 20 xs)) (stored_bytes packet k)

@@ -40,13 +40,13 @@ module _ (k : Key) (f : QueuedFragment) where
   begins = with_inserted f (record { key = k; fragments = [] })
 
   -- the fragment is put into the queue with its key, or into a new one if no queue has the key
-  laid_count : (j : Key) (qs : List KeyedQueue)
+  inserted_count : (j : Key) (qs : List KeyedQueue)
       → (count_by (has_queue_key j) (inserted_under k f qs) ≡ count_by (has_queue_key j) qs)
       ⊎ ((count_by (has_queue_key k) qs ≡ 0)
       × (count_by (has_queue_key j) (inserted_under k f qs)
       ≡ count_by (has_queue_key j) qs + cond {A = ℕ} (has_queue_key j begins) 1 0))
-  laid_count j [] = inr (refl, omega (arith, count_cons (has_queue_key j) begins []))
-  laid_count j (q ∷ qs) = elim (cases_Bool (has_queue_key k q)) [
+  inserted_count j [] = inr (refl, omega (arith, count_cons (has_queue_key j) begins []))
+  inserted_count j (q ∷ qs) = elim (cases_Bool (has_queue_key k q)) [
     | inl is ↦ inl (omega (
       arith,
       ap (count_by (has_queue_key j))
@@ -58,7 +58,7 @@ module _ (k : Key) (f : QueuedFragment) where
         let other =
         ap (count_by (has_queue_key j)) (cond-false _ (with_inserted f q ∷ qs) (q ∷ inserted_under k f qs) is) in
         let here : cond {A = ℕ} (has_queue_key k q) 1 0 ≡ 0 = ap {B = ℕ} (λ b. cond b 1 0) is in
-        elim (laid_count j qs) [
+        elim (inserted_count j qs) [
           | inl e ↦ inl (omega (
             arith,
             other,
@@ -79,8 +79,8 @@ module _ (k : Key) (f : QueuedFragment) where
         ]
   ]
 
-  laid_once : (qs : List KeyedQueue) → HoldOnce qs → HoldOnce (inserted_under k f qs)
-  laid_once qs once j = elim (laid_count j qs) [
+  inserted_once : (qs : List KeyedQueue) → HoldOnce qs → HoldOnce (inserted_under k f qs)
+  inserted_once qs once j = elim (inserted_count j qs) [
     | inl e ↦ omega (arith, e, once j)
     | inr e ↦ elim (cases_Bool (has_queue_key j begins)) [
       | inl is ↦
@@ -118,7 +118,7 @@ module _ (k : Key) (f : QueuedFragment) where
 
   left_once : (qs now : List KeyedQueue) (q : PoolView) (result : Arrival) → Leaves k f qs q result now → HoldOnce qs
       → HoldOnce now
-  left_once qs now q Kept left once j = omega (arith, ap (count_by (has_queue_key j)) left, laid_once qs once j)
+  left_once qs now q Kept left once j = omega (arith, ap (count_by (has_queue_key j)) left, inserted_once qs once j)
   left_once qs now q (Whole c h) left once j =
       omega (arith, ap (count_by (has_queue_key j)) left.1, without_fewer j qs, once j)
   left_once qs now q (Dropped why) left once j = omega (arith, ap (count_by (has_queue_key j)) left, once j)

@@ -73,7 +73,7 @@ in_place p q ds i c f answer t n is l owns b =
           (record { key = (datagram_at ds i).key; ticks = (datagram_at ds i).ticks; bytes = bytes })) (OnTrue_at yes
           b.map));
       map = b.map;
-      queue = b.laid;
+      queue = b.inserted;
       same = OnFalse_from answer _ (λ no.
           let maps : map_of (fragments q t) ≡ map_of (fragments p (datagram_at ds i).fragments) =
           ap map_of (fragments_are q t ∙ (ap (map fragment_of) (OnFalse_at no b.none)
@@ -86,7 +86,7 @@ in_place p q ds i c f answer t n is l owns b =
       rows =
           OnTrue_from answer _ (λ yes. all
           ∙ ap (λ (fs : List QueuedFragment). set (queues p ds) i
-          (record { key = (datagram_at ds i).key; fragments = fs })) (OnTrue_at yes b.laid));
+          (record { key = (datagram_at ds i).key; fragments = fs })) (OnTrue_at yes b.inserted));
       rows_same = OnFalse_from answer _ (λ no.
           all ∙ (ap (λ (fs : List QueuedFragment). set (queues p ds) i
           (record { key = (datagram_at ds i).key; fragments = fs })) (OnFalse_at no b.none)
@@ -104,17 +104,18 @@ in_place p q ds i c f answer t n is l owns b =
     }
 
 -- **the same for the datagram that the code reads**
-pub laid_in_table : (p q : PoolView) (ds : List Datagram) (i c : ℕ) (x : Datagram) (f : QueuedFragment) (answer : Bool)
+pub inserted_in_table : (p q : PoolView) (ds : List Datagram) (i c : ℕ) (x : Datagram) (f : QueuedFragment)
+    (answer : Bool)
     (e : Datagram) → IsTable p ds → i < length ds → IsOwned p (c ∷ held_all p ds)
     → IsInserted p (get_or ds i x) c f answer q e → InsertsIn p ds i c f answer q (set ds i e)
-laid_in_table p q ds i c x f answer e is l owns b =
+inserted_in_table p q ds i c x f answer e is l owns b =
     let here : get_or ds i x ≡ get_or ds i no_datagram = get_or_default ds i x no_datagram l in
-    let laid_here : IsInserted p (datagram_at ds i) c f answer q e =
+    let inserted_here : IsInserted p (datagram_at ds i) c f answer q e =
     subst (λ (d : Datagram). IsInserted p d c f answer q e) here b in
-    let whole : e ≡ record (datagram_at ds i) { fragments = e.fragments; bytes = e.bytes } = laid_here.same in
+    let whole : e ≡ record (datagram_at ds i) { fragments = e.fragments; bytes = e.bytes } = inserted_here.same in
     subst (λ (d : Datagram). InsertsIn p ds i c f answer q (set ds i d)) (sym whole)
     (in_place p q ds i c f answer e.fragments e.bytes is l owns
-    (subst (IsInserted p (datagram_at ds i) c f answer q) whole laid_here))
+    (subst (IsInserted p (datagram_at ds i) c f answer q) whole inserted_here))
 
 pub datagram_put : (ds : List Datagram) (i : ℕ) (e : Datagram) → i < length ds → datagram_at (set ds i e) i ≡ e
 datagram_put ds i e l = get_or-set_same ds i e no_datagram l

@@ -30,9 +30,9 @@ either_some : (b : Bool) (x y : QueuedFragment) (xs ys : List QueuedFragment) �
 either_some true x y xs ys = omega arith
 either_some false x y xs ys = omega arith
 
-laid_some : (f : QueuedFragment) (qs : List QueuedFragment) → 0 < length (inserted_into f qs)
-laid_some f [] = omega arith
-laid_some f (q ∷ qs) =
+inserted_some : (f : QueuedFragment) (qs : List QueuedFragment) → 0 < length (inserted_into f qs)
+inserted_some f [] = omega arith
+inserted_some f (q ∷ qs) =
     either_some (nat_le q.offset f.offset) q (cut (0 - f.offset) f) (inserted_after (queued_end q) f qs)
     (cut_to (queued_end f) (q ∷ qs))
 
@@ -41,12 +41,12 @@ either_hold true qs rs g h = g
 either_hold false qs rs g h = h
 
 module _ (k : Key) (f : QueuedFragment) where
-  laid_hold : (qs : List KeyedQueue) → HoldSome qs → HoldSome (inserted_under k f qs)
-  laid_hold [] h = (laid_some f [], tt)
-  laid_hold (q ∷ qs) h =
+  inserted_hold : (qs : List KeyedQueue) → HoldSome qs → HoldSome (inserted_under k f qs)
+  inserted_hold [] h = (inserted_some f [], tt)
+  inserted_hold (q ∷ qs) h =
       either_hold (has_queue_key k q) (with_inserted f q ∷ qs) (q ∷ inserted_under k f qs)
-      (laid_some f q.fragments, h.1)
-      (h.0, laid_hold qs h.1)
+      (inserted_some f q.fragments, h.1)
+      (h.0, inserted_hold qs h.1)
 
   without_hold : (qs : List KeyedQueue) → HoldSome qs → HoldSome (without_key k qs)
   without_hold [] h = tt
@@ -54,7 +54,7 @@ module _ (k : Key) (f : QueuedFragment) where
 
   left_hold : (qs now : List KeyedQueue) (q : PoolView) (result : Arrival) → Leaves k f qs q result now → HoldSome qs
       → HoldSome now
-  left_hold qs now q Kept left h = subst HoldSome (sym left) (laid_hold qs h)
+  left_hold qs now q Kept left h = subst HoldSome (sym left) (inserted_hold qs h)
   left_hold qs now q (Whole c head) left h = subst HoldSome (sym left.1) (without_hold qs h)
   left_hold qs now q (Dropped why) left h = subst HoldSome (sym left) h
 

@@ -118,12 +118,12 @@ queue_bytes (q ∷ cs) = all_bytes q.entries cs
 abbrev pub queue_weight : List QueuedFragment → Weight
 queue_weight cs = all_of (λ (q : QueuedFragment). entries_weight q.entries) cs
 
-laid_bag : (es : List Entry) → (flat.weight_of (layout_entries es)).bag ≡ (entries_weight es).bag
-laid_bag [] = refl
-laid_bag (e ∷ es) = ap (cons_option e.cluster) (laid_bag es)
+inserted_bag : (es : List Entry) → (flat.weight_of (layout_entries es)).bag ≡ (entries_weight es).bag
+inserted_bag [] = refl
+inserted_bag (e ∷ es) = ap (cons_option e.cluster) (inserted_bag es)
 
-laid_mbufs : (es : List Entry) → (flat.weight_of (layout_entries es)).mbufs ≡ (entries_weight es).mbufs
-laid_mbufs es = length-map es _
+inserted_mbufs : (es : List Entry) → (flat.weight_of (layout_entries es)).mbufs ≡ (entries_weight es).mbufs
+inserted_mbufs es = length-map es _
 
 all_mbufs : (es : List Entry) (cs : List QueuedFragment)
     → length (joined_after es cs) ≤ length es + (queue_weight cs).mbufs
@@ -136,9 +136,9 @@ cat_times c es fs =
     omega (
       arith,
       cat_bag es fs c,
-      ap (times c) (laid_bag (cat es fs)),
-      ap (times c) (laid_bag es),
-      ap (times c) (laid_bag fs),
+      ap (times c) (inserted_bag (cat es fs)),
+      ap (times c) (inserted_bag es),
+      ap (times c) (inserted_bag fs),
       times-both c (flat.weight_of (layout_entries es)) (flat.weight_of (layout_entries fs)),
     )
 
@@ -183,10 +183,10 @@ map_weight (q ∷ cs) = ap (λ (w : Weight). entries_weight q.entries ⊕ w) (ma
 covers_of : (es : List Entry) → 0 < length es → AreFit es → Covers (entries_weight es) (length (flat_bytes es))
 covers_of es l f =
     let c = covers_fit es l f in
-    let m : (flat.weight_of (layout_entries es)).mbufs ≡ (entries_weight es).mbufs = laid_mbufs es in
+    let m : (flat.weight_of (layout_entries es)).mbufs ≡ (entries_weight es).mbufs = inserted_mbufs es in
     let b : length (flat.weight_of (layout_entries es)).bag ≡ length (entries_weight es).bag =
-    ap (λ (xs : List ℕ). length xs) (laid_bag es) in
-    subst (λ (w : Weight). Covers w (length (flat_bytes es))) (λ i. record { mbufs = m i; bag = laid_bag es i }) c
+    ap (λ (xs : List ℕ). length xs) (inserted_bag es) in
+    subst (λ (w : Weight). Covers w (length (flat_bytes es))) (λ i. record { mbufs = m i; bag = inserted_bag es i }) c
 
 -- **the join is one that the flat machine allows**
 pub join_is : (p : PoolView) (t : TrainView) (n : ℕ) → IsQueue p t → AllSome (queued p t) → AllFit (queued p t)

@@ -1,9 +1,9 @@
 mod Edits
 mod Fronts
 mod Walks
-mod Laid
+mod Inserted
 mod Steps
-mod Lays
+mod Inserts
 mod Counted
 mod Whole
 mod Joined

@@ -118,7 +118,7 @@ linked_more lasts rows n r are lt low before = record {
   ];
   lasts = λ b less. elim (cases_eq b r.bucket) [
     | inl e ↦ ap (λ j. get_or (set lasts r.bucket (n + 1)) j 0) e ∙ get_or-set_same lasts r.bucket (n + 1) 0 low
-        ∙ sym (told b (eq-eqb (get_or new n 0) b (mine ∙ sym e)))
+        ∙ sym (reported b (eq-eqb (get_or new n 0) b (mine ∙ sym e)))
     | inr ne ↦ other_last lasts r.bucket b (n + 1) ne
         ∙ are.lasts b (omega (arith, less, length-set lasts r.bucket (n + 1))) ∙ upto_same b old new n same
         ∙ sym (passed b (ne_eqb (get_or new n 0) b (λ e. ne (sym e ∙ mine))))
@@ -145,8 +145,8 @@ linked_more lasts rows n r are lt low before = record {
     one : n + 1 ≡ suc n
     one = omega arith
 
-    told : (b : ℕ) → (get_or new n 0 == b) ≡ true → upto_last b new (n + 1) ≡ n + 1
-    told b is = ap (upto_last b new) one ∙ ap (λ t. cond t (suc n) (upto_last b new n)) is ∙ sym one
+    reported : (b : ℕ) → (get_or new n 0 == b) ≡ true → upto_last b new (n + 1) ≡ n + 1
+    reported b is = ap (upto_last b new) one ∙ ap (λ t. cond t (suc n) (upto_last b new n)) is ∙ sym one
 
     passed : (b : ℕ) → (get_or new n 0 == b) ≡ false → upto_last b new (n + 1) ≡ upto_last b new n
     passed b is = ap (upto_last b new) one ∙ ap (λ t. cond t (suc n) (upto_last b new n)) is

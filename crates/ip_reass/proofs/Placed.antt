@@ -2,7 +2,7 @@
 use Rattle.std.proofs.Common.{◌≡◌, ℕ, ◌*◌, ◌<◌, ◌≤◌, Bool, true, false, List, [], ◌∷◌, length, find, Option, Some, None, refl, sym, ap, ◌∙◌, subst, arith, inl, inr}
 use Rattle.std.specs.Prelude.{count_by}
 use Rattle.flat_model.specs.Amounts.Weight.{Weight, ◌⊕◌}
-use Rattle.flat_model.specs.Machine.Arrival.{Joins, Lays}
+use Rattle.flat_model.specs.Machine.Arrival.{Joins, Inserts}
 use Rattle.flat_model.specs.Machine.Ledger.{exact_ledger, need_mbufs}
 use Rattle.flat_model.specs.Machine.Count.{counted}
 use Rattle.flat_model.specs.Machine.State.{State, Key, is_key}
@@ -54,7 +54,8 @@ pub record Placed (p : PoolView) (r : TableView) (c : Counters) (k : Key) (n i :
       → IsAccounted p (machine_with p r.datagrams c rest) (held ⊕ weight_at p n)
       → (is_key k (unfinished_of q (datagram_at s.datagrams i)) ≡ true
       → count_by (is_key k) (unfinished q s.datagrams) ≤ 1
-      → Lays exact_ledger held k (fragment_of (arrived q n offset more)) (unfinished_of q (datagram_at s.datagrams i))
+      → Inserts exact_ledger held k (fragment_of (arrived q n offset more))
+      (unfinished_of q (datagram_at s.datagrams i))
       (machine_with q s.datagrams d rest) new)
       → Joins exact_ledger held k (fragment_of (arrived p n offset more)) (machine_with p r.datagrams c rest) new
   pub layout : (offset : ℕ) (more : Bool) (result : Arrival) (t : PoolView) (ts : List Datagram)
@@ -75,8 +76,9 @@ module _ (p : PoolView) (r : TableView) (c : Counters) (k : Key) (n i : ℕ) (re
         stays p p r.datagrams r.datagrams n owns
         (record { mbufs = refl; clusters = refl; others = λ k l t. refl; owned = λ k. refl });
     room = ready.room;
-    step = λ rest held new offset more acc lays.
-        joins_found rest held new k (fragment_of (arrived p n offset more)) p r.datagrams c i first ready.distinct lays;
+    step = λ rest held new offset more acc inserts.
+        joins_found rest held new k (fragment_of (arrived p n offset more)) p r.datagrams c i first ready.distinct
+        inserts;
     layout = λ offset more result t ts leaves.
         found_layout p t r.datagrams ts k (arrived p n offset more) i result first leaves;
     cause = λ offset more result t ts leaves why.
@@ -107,11 +109,11 @@ module _ (p : PoolView) (r : TableView) (c : Counters) (k : Key) (n i : ℕ) (re
           moves = moves_trans st.moves bg.stays.moves;
         };
         room = omega (arith, bg.stays.moves.mbufs, b.room, b.asked.ready.room);
-        step = λ rest held new offset more acc lays.
+        step = λ rest held new offset more acc inserts.
             joins_none rest held new k (fragment_of (arrived p n offset more)) p r.datagrams c
             (none_by_key p k r.datagrams fresh)
             (begins_here rest held new k p b.mid q r.datagrams b.left.datagrams s.datagrams c d n i offset more
-            (none_by_key p k r.datagrams fresh) (b.asked.has_buffers rest (held ⊕ weight_at p n) acc) chain bg lays);
+            (none_by_key p k r.datagrams fresh) (b.asked.has_buffers rest (held ⊕ weight_at p n) acc) chain bg inserts);
         layout = λ offset more result t ts leaves.
             begins_layout p b.mid q t r.datagrams b.left.datagrams s.datagrams ts k n i offset more result b.asked.waits
             fresh some chain bg.rows b.place leaves;

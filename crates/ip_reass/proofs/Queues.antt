@@ -22,7 +22,7 @@ use Rattle.ip_reass.specs.Layouts.{KeyedQueue, queue_of, queues, has_queue_key, 
 use Rattle.ip_reass.specs.declared.datagram.Datagram.{Datagram}
 use Rattle.ip_reass.specs.declared.arrival.Arrival.{Arrival}
 use Rattle.ip_reass.specs.declared.arrival.Arrival.TheVariants.{Kept, Whole, Dropped}
-use Rattle.ip_reass.proofs.Laid.{covered_no}
+use Rattle.ip_reass.proofs.Inserted.{covered_no}
 use Rattle.ip_reass.proofs.Places.{found_passes}
 use Rattle.ip_reass.proofs.Steps.{fragments_are}
 use Rattle.ip_reass.proofs.Aging.{lent}
@@ -38,13 +38,13 @@ none_in p k (d ∷ ds) e = elim (cases_Bool (has_key k d)) [
 ]
 
 module _ (k : Key) (f : QueuedFragment) where
-  laid_none : (qs : List KeyedQueue) → find (has_queue_key k) qs ≡ None
+  inserted_none : (qs : List KeyedQueue) → find (has_queue_key k) qs ≡ None
       → inserted_under k f qs ≡ qs ++ with_inserted f (record { key = k; fragments = [] }) ∷ []
-  laid_none [] e = refl
-  laid_none (q ∷ qs) e = elim (cases_Bool (has_queue_key k q)) [
+  inserted_none [] e = refl
+  inserted_none (q ∷ qs) e = elim (cases_Bool (has_queue_key k q)) [
     | inl is ↦ absurd (none-some q (sym e ∙ cond-true _ _ _ is))
     | inr is ↦ cond-false _ _ _ is
-        ∙ ap (λ (rs : List KeyedQueue). q ∷ rs) (laid_none qs (sym (cond-false _ _ _ is) ∙ e))
+        ∙ ap (λ (rs : List KeyedQueue). q ∷ rs) (inserted_none qs (sym (cond-false _ _ _ is) ∙ e))
   ]
 
   under_none : (qs : List KeyedQueue) → find (has_queue_key k) qs ≡ None → under k qs ≡ []
@@ -62,15 +62,15 @@ module _ (k : Key) (f : QueuedFragment) where
         ∙ ap (λ (rs : List KeyedQueue). q ∷ rs) (without_none qs (sym (cond-false _ _ _ is) ∙ e))
   ]
 
-  laid_here : (qs : List KeyedQueue) (i : ℕ) → i < length qs → find (has_queue_key k) (take i qs) ≡ None
+  inserted_here : (qs : List KeyedQueue) (i : ℕ) → i < length qs → find (has_queue_key k) (take i qs) ≡ None
       → has_queue_key k (keyed_queue_at qs i) ≡ true
       → inserted_under k f qs ≡ set qs i (with_inserted f (keyed_queue_at qs i))
-  laid_here [] i l n e = absurd (omega arith)
-  laid_here (q ∷ qs) zero l n e = cond-true _ _ _ e
-  laid_here (q ∷ qs) (suc i) l n e = elim (cases_Bool (has_queue_key k q)) [
+  inserted_here [] i l n e = absurd (omega arith)
+  inserted_here (q ∷ qs) zero l n e = cond-true _ _ _ e
+  inserted_here (q ∷ qs) (suc i) l n e = elim (cases_Bool (has_queue_key k q)) [
     | inl is ↦ absurd (none-some q (sym n ∙ cond-true _ _ _ is))
     | inr is ↦ cond-false _ _ _ is
-        ∙ ap (λ (rs : List KeyedQueue). q ∷ rs) (laid_here qs i (omega arith) (sym (cond-false _ _ _ is) ∙ n) e)
+        ∙ ap (λ (rs : List KeyedQueue). q ∷ rs) (inserted_here qs i (omega arith) (sym (cond-false _ _ _ is) ∙ n) e)
   ]
 
   under_here : (qs : List KeyedQueue) (i : ℕ) → i < length qs → find (has_queue_key k) (take i qs) ≡ None
@@ -97,7 +97,7 @@ leaves_here : (k : Key) (f : QueuedFragment) (qs : List KeyedQueue) (i : ℕ) (q
     (now : List KeyedQueue) → i < length qs → find (has_queue_key k) (take i qs) ≡ None
     → has_queue_key k (keyed_queue_at qs i) ≡ true
     → LeavesAt i f qs q result now → Leaves k f qs q result now
-leaves_here k f qs i q Kept now l n e h = h ∙ sym (laid_here k f qs i l n e)
+leaves_here k f qs i q Kept now l n e h = h ∙ sym (inserted_here k f qs i l n e)
 leaves_here k f qs i q (Whole c x) now l n e h = (
   h.0 ∙ ap (λ (fs : List QueuedFragment). joined_fragments (inserted_into f fs)) (sym (under_here k f qs i l n e)),
   h.1
@@ -142,7 +142,7 @@ leaves_new k f qs q Kept now l n h =
     h ∙ ((λ j. set (qs ++ record { key = k; fragments = [] } ∷ []) (length qs)
     (with_inserted f (at_end qs (record { key = k; fragments = [] }) no_queue j)))
     ∙ (set_end qs (record { key = k; fragments = [] }) (with_inserted f (record { key = k; fragments = [] }))
-    ∙ sym (laid_none k f qs n)))
+    ∙ sym (inserted_none k f qs n)))
 leaves_new k f qs q (Whole c x) now l n h = (
   h.0 ∙ ((λ j. joined_fragments (inserted_into f (at_end qs (record { key = k; fragments = [] }) no_queue j).fragments))
       ∙ ap (λ (fs : List QueuedFragment). joined_fragments (inserted_into f fs)) (sym (under_none k f qs n))),

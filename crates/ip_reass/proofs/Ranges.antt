@@ -106,17 +106,18 @@ sum_held (f ∷ fs) =
     sum_by-cons (λ (range : HeldRange). range.len) (held_by f) (map held_by fs)
     ∙ ap (λ n. length f.bytes + n) (sum_held fs)
 
-pub bytes_told : (fs : List Fragment) → Apart 0 fs → AllEnd IP_MAX_DATA fs
+pub bytes_reported : (fs : List Fragment) → Apart 0 fs → AllEnd IP_MAX_DATA fs
     → sum_by (λ (range : HeldRange). range.len) (ranges (map_of fs)) ≡ bytes_held fs
-bytes_told fs a e = ap (sum_by (λ (range : HeldRange). range.len)) (ranges_are fs a e) ∙ sum_held fs
+bytes_reported fs a e = ap (sum_by (λ (range : HeldRange). range.len)) (ranges_are fs a e) ∙ sum_held fs
 
-pub ranges_told : (fs : List Fragment) → Apart 0 fs → AllEnd IP_MAX_DATA fs → length (ranges (map_of fs)) ≡ length fs
-ranges_told fs a e = ap length (ranges_are fs a e) ∙ length-map fs held_by
+pub ranges_reported : (fs : List Fragment) → Apart 0 fs → AllEnd IP_MAX_DATA fs → length (ranges (map_of fs)) ≡ length
+    fs
+ranges_reported fs a e = ap length (ranges_are fs a e) ∙ length-map fs held_by
 
 -- ---- a range by its place
 pub nth_past : (fs : List Fragment) (k : ℕ) → Apart 0 fs → AllEnd IP_MAX_DATA fs → length fs ≤ k
     → nth_of (map_of fs) k ≡ None
-nth_past fs k a e l = slice_get_past (ranges (map_of fs)) k (omega (arith, ranges_told fs a e, l))
+nth_past fs k a e l = slice_get_past (ranges (map_of fs)) k (omega (arith, ranges_reported fs a e, l))
 
 pub nth_is : (fs : List Fragment) (k : ℕ) → Apart 0 fs → AllEnd IP_MAX_DATA fs → k < length fs
     → nth_of (map_of fs) k ≡ Some (held_by (fragment_at fs k))
@@ -126,14 +127,14 @@ nth_is fs k a e l =
 
 -- ---- a datagram by its place
 -- the summary of a datagram
-abbrev pub told_from : Datagram → UnfinishedDatagram
-told_from d = record { key = d.key; ticks = d.ticks; bytes = d.bytes; ranges = d.fragments.len }
+abbrev pub reported_from : Datagram → UnfinishedDatagram
+reported_from d = record { key = d.key; ticks = d.ticks; bytes = d.bytes; ranges = d.fragments.len }
 
-told_is : (p : PoolView) (d : Datagram) → IsUnfinished p d → summary_of (unfinished_of p d) ≡ told_from d
-told_is p d is =
-    let bytes = bytes_told (fragments p d.fragments) is.queue.apart is.queue.small ∙ sym is.counted in
+reported_is : (p : PoolView) (d : Datagram) → IsUnfinished p d → summary_of (unfinished_of p d) ≡ reported_from d
+reported_is p d is =
+    let bytes = bytes_reported (fragments p d.fragments) is.queue.apart is.queue.small ∙ sym is.counted in
     let number =
-    ranges_told (fragments p d.fragments) is.queue.apart is.queue.small
+    ranges_reported (fragments p d.fragments) is.queue.apart is.queue.small
     ∙ length-fragments p d.fragments is.queue.held in
     λ i. record { key = d.key; ticks = d.ticks; bytes = bytes i; ranges = number i }
 
@@ -143,10 +144,10 @@ module _ (p : PoolView) (ds : List Datagram) (i : ℕ) where
       subst (IsUnfinished p) (get_or_from_slice_get ds i d d is) (each_at p ds i d (slice_get_within ds i d is) each).0
 
   pub unfinished_here : (d : Datagram) → AllUnfinished p ds → slice_get ds i ≡ Some d
-      → nth_unfinished i (unfinished p ds) ≡ Some (told_from d)
+      → nth_unfinished i (unfinished p ds) ≡ Some (reported_from d)
   unfinished_here d each is =
       ap (option_map summary_of) (slice_get-map (unfinished_of p) ds i ∙ ap (option_map (unfinished_of p)) is)
-      ∙ ap Some (told_is p d (is_unfinished d each is))
+      ∙ ap Some (reported_is p d (is_unfinished d each is))
 
   pub range_here : (k : ℕ) (d : Datagram) → slice_get ds i ≡ Some d
       → nth_range i k (unfinished p ds) ≡ nth_of (map_of (fragments p d.fragments)) k

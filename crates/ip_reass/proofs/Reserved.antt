@@ -7,7 +7,7 @@ use Rattle.flat_model.specs.Fragments.Overlay.{Fragment}
 use Rattle.flat_model.specs.Machine.State.{State, Key, Unfinished, is_key, begun, begin_unfinished}
 use Rattle.flat_model.specs.Machine.Count.{counted}
 use Rattle.flat_model.specs.Machine.Ledger.{exact_ledger, HasBuffers, need_mbufs}
-use Rattle.flat_model.specs.Machine.Arrival.{Lays, Tests}
+use Rattle.flat_model.specs.Machine.Arrival.{Inserts, Tests}
 use Rattle.flat_model.specs.declared.counters.Counters.{Counters}
 use Rattle.flat_model.specs.declared.counters.Why.TheVariants.{NoBufs}
 use Rattle.flat_model.proofs.Laws.{count-append}
@@ -32,7 +32,8 @@ use Rattle.ip_reass.proofs.Tables.{Begins, begins}
 -- a new key takes an mbuf, and then its datagram begins
 abbrev TestsForKey : Weight → Key → Fragment → State → State → Type 0
 TestsForKey held k f old new =
-    Tests exact_ledger old (held ⊕ f.weight) 1 new (λ mid. Lays exact_ledger held k f (begun k) (begin_unfinished k mid) new)
+    Tests exact_ledger old (held ⊕ f.weight) 1 new
+    (λ mid. Inserts exact_ledger held k f (begun k) (begin_unfinished k mid) new)
 
 -- ---- the caller holds chain c while the table takes a step
 pub record Stays (p : PoolView) (ds : List Datagram) (c : ℕ) (q : PoolView) (es : List Datagram) : Type 0 where
@@ -140,7 +141,7 @@ pub begins_here : (rest : State) (held : Weight) (new : State) (k : Key) (p q r 
     → HasBuffers exact_ledger (machine_with p ds c rest) (held ⊕ weight_at p n) (need_mbufs 1) true
     (machine_with q es d rest) → chain_of r n ≡ chain_of p n → Began q es n k r hs i
     → (is_key k (unfinished_of r (datagram_at hs i)) ≡ true → count_by (is_key k) (unfinished r hs) ≤ 1
-    → Lays exact_ledger held k (fragment_of (arrived r n offset more)) (unfinished_of r (datagram_at hs i))
+    → Inserts exact_ledger held k (fragment_of (arrived r n offset more)) (unfinished_of r (datagram_at hs i))
     (machine_with r hs d rest) new)
     → TestsForKey held k (fragment_of (arrived p n offset more)) (machine_with p ds c rest) new
 begins_here rest held new k p q r ds es hs c d n i offset more none af chain b step =
@@ -156,19 +157,19 @@ begins_here rest held new k p q r ds es hs c d n i offset more none af chain b s
       zero_then,
       one,
     ) in
-    let lays = step here most in
-    let a : Lays exact_ledger held k (fragment_of (arrived p n offset more)) (unfinished_of r (datagram_at hs i))
+    let inserts = step here most in
+    let a : Inserts exact_ledger held k (fragment_of (arrived p n offset more)) (unfinished_of r (datagram_at hs i))
     (machine_with r hs d rest) new =
-    subst (λ (v : ChainView). Lays exact_ledger held k
+    subst (λ (v : ChainView). Inserts exact_ledger held k
     (fragment_of (record { offset = offset; more = more; entries = v.entries })) (unfinished_of r (datagram_at hs i))
-    (machine_with r hs d rest) new) chain lays in
-    let b' : Lays exact_ledger held k (fragment_of (arrived p n offset more)) (begun k) (machine_with r hs d rest)
+    (machine_with r hs d rest) new) chain inserts in
+    let b' : Inserts exact_ledger held k (fragment_of (arrived p n offset more)) (begun k) (machine_with r hs d rest)
     new =
-    subst (λ (u : Unfinished). Lays exact_ledger held k (fragment_of (arrived p n offset more)) u
+    subst (λ (u : Unfinished). Inserts exact_ledger held k (fragment_of (arrived p n offset more)) u
     (machine_with r hs d rest) new) b.at a in
-    let c' : Lays exact_ledger held k (fragment_of (arrived p n offset more)) (begun k)
+    let c' : Inserts exact_ledger held k (fragment_of (arrived p n offset more)) (begun k)
     (begin_unfinished k (machine_with q es d rest)) new =
-    subst (λ (us : List Unfinished). Lays exact_ledger held k (fragment_of (arrived p n offset more)) (begun k)
+    subst (λ (us : List Unfinished). Inserts exact_ledger held k (fragment_of (arrived p n offset more)) (begun k)
     (record rest { unfinished = us; counters = d }) new) b.shows b' in
     record {
       answer = true;

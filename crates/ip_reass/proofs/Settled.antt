@@ -8,7 +8,7 @@ use Rattle.flat_model.specs.Fragments.Whole.{IsWhole, bytes_below, weight_of_pie
 use Rattle.flat_model.specs.Machine.State.{State, Key, Unfinished, is_key, end_unfinished}
 use Rattle.flat_model.specs.Machine.Count.{counts_more}
 use Rattle.flat_model.specs.Machine.Ledger.{exact_ledger}
-use Rattle.flat_model.specs.Machine.Arrival.{Lays, Settles, IsJoin, WholeArrives, counts_reassembled}
+use Rattle.flat_model.specs.Machine.Arrival.{Inserts, Settles, IsJoin, WholeArrives, counts_reassembled}
 use Rattle.flat_model.specs.declared.counters.Counters.{Counters}
 use Rattle.flat_model.specs.declared.counter.Counter.TheVariants.{IpReassembled}
 use Rattle.mbuf_chain.specs.Chain.{Entry, PoolView, chain_of, flat_bytes, string}
@@ -63,7 +63,7 @@ pub settles_kept : (rest : State) (held : Weight) (k : Key) (p q : PoolView) (ds
     (i n : ℕ) (f : QueuedFragment) (new : State) → i < length ds
     → is_key k (unfinished_of p (datagram_at ds i)) ≡ true → count_by (is_key k) (unfinished p ds) ≤ 1
     → (la : InsertsIn p ds i n f true q es) → ((m : ℕ) → ¬ IsWhole (map_of (fragments q la.train)) m)
-    → new ≡ machine_with q es c rest → Lays exact_ledger held k (fragment_of f) (unfinished_of p (datagram_at ds i))
+    → new ≡ machine_with q es c rest → Inserts exact_ledger held k (fragment_of f) (unfinished_of p (datagram_at ds i))
     (machine_with p ds c rest) new
 settles_kept rest held k p q ds es c i n f new l here most la waits is = record {
   yes = λ e. absurd (false≢true (sym la.covered ∙ e));
@@ -89,7 +89,7 @@ pub settles_whole : (rest : State) (held : Weight) (k : Key) (p q r : PoolView) 
     → bytes_below (map_of (fragments q la.train)) m ≡ flat_bytes (joined_fragments (queued q la.train))
     → (chain_of r out).entries ≡ joined_fragments (queued q la.train) → d ≡ counts_more IpReassembled 1 c
     → WholeArrives exact_ledger held k.source k.destination k.protocol (item_at r out) (machine_with r hs d rest) new
-    → Lays exact_ledger held k (fragment_of f) (unfinished_of p (datagram_at ds i)) (machine_with p ds c rest) new
+    → Inserts exact_ledger held k (fragment_of f) (unfinished_of p (datagram_at ds i)) (machine_with p ds c rest) new
 settles_whole rest held k p q r ds es hs c d i n out m f new l here most la ta whole join bytes entries counts goes =
     let bs : Map = overlay (map_of (fragments p (datagram_at ds i).fragments)) (fragment_of f) in
     let item : item_at r out ≡ record {
@@ -128,10 +128,10 @@ settles_whole rest held k p q r ds es hs c d i n out m f new l here most la ta w
 -- ---- the same for a table that was lent as a slice
 pub record Lent (p : PoolView) (ds : List Datagram) (i c : ℕ) (f : QueuedFragment) (q : PoolView)
     (es back : List Datagram) : Type 0 where
-  pub lays : InsertsIn p ds i c f true q es
+  pub inserts : InsertsIn p ds i c f true q es
   pub back_is : back ≡ es
-  pub train_is : (datagram_at es i).fragments ≡ lays.train
-  pub queue : IsQueue q lays.train
+  pub train_is : (datagram_at es i).fragments ≡ inserts.train
+  pub queue : IsQueue q inserts.train
 
 pub lent_table : (p q : PoolView) (ds slice es : List Datagram) (i c n : ℕ) (f : QueuedFragment) (answer : Bool)
     (back : List Datagram) → i < length ds → n ≡ length ds → slice ≡ ds → answer ≡ true
@@ -155,7 +155,7 @@ lent_table p q ds slice es i c n f answer back l n_is was agrees la back_is =
     (get_or-set_same ds i (record (datagram_at ds i) { fragments = here.train; bytes = here.bytes }) no_datagram l)
     in
     record {
-      lays = here;
+      inserts = here;
       back_is = back_is ∙ lent n ds es long;
       train_is = at;
       queue = subst (IsQueue q) at one.queue;
@@ -167,19 +167,20 @@ module _ (p q : PoolView) (ds es back : List Datagram) (i n : ℕ) (f : QueuedFr
     pub lent_kept : (rest : State) (held : Weight) (k : Key) (c : Counters) (new : State) → i < length ds
         → is_key k (unfinished_of p (datagram_at ds i)) ≡ true → count_by (is_key k) (unfinished p ds) ≤ 1
         → ((m : ℕ) → ¬ IsWhole (map_of (fragments q (datagram_at es i).fragments)) m) → new ≡ machine_with q back c rest
-        → Lays exact_ledger held k (fragment_of f) (unfinished_of p (datagram_at ds i)) (machine_with p ds c rest) new
+        → Inserts exact_ledger held k (fragment_of f) (unfinished_of p (datagram_at ds i)) (machine_with p ds c rest)
+        new
     lent_kept rest held k c new l here most waits is =
-        settles_kept rest held k p q ds es c i n f new l here most e.lays
+        settles_kept rest held k p q ds es c i n f new l here most e.inserts
         (λ m w. waits m (subst (λ (t : TrainView). IsWhole (map_of (fragments q t)) m) (sym e.train_is) w))
         (is ∙ ap (λ (zs : List Datagram). machine_with q zs c rest) e.back_is)
 
     whole_here : (m : ℕ) → IsWhole (map_of (fragments q (datagram_at es i).fragments)) m
-        → IsWhole (map_of (fragments q e.lays.train)) m
+        → IsWhole (map_of (fragments q e.inserts.train)) m
     whole_here m w = subst (λ (t : TrainView). IsWhole (map_of (fragments q t)) m) e.train_is w
 
     -- a whole datagram has at most 65,515 bytes, and at least one fragment
     pub whole_short : (m : ℕ) → IsWhole (map_of (fragments q (datagram_at es i).fragments)) m → m ≤ 65515
-    whole_short m w = whole_most (fragments q e.lays.train) m e.queue.apart e.queue.small (whole_here m w)
+    whole_short m w = whole_most (fragments q e.inserts.train) m e.queue.apart e.queue.small (whole_here m w)
 
     -- the datagram is whole
     module _ (l : i < length ds) (r : PoolView) (hs : List Datagram) (out m : ℕ) (bounded : IsBounded q)
@@ -187,7 +188,7 @@ module _ (p q : PoolView) (ds es back : List Datagram) (i n : ℕ) (f : QueuedFr
       taken : TakesOut q es i out r hs
       taken = subst (λ (zs : List Datagram). TakesOut q zs i out r hs) e.back_is takes
 
-      pub lent_entries : (chain_of r out).entries ≡ joined_fragments (queued q e.lays.train)
+      pub lent_entries : (chain_of r out).entries ≡ joined_fragments (queued q e.inserts.train)
       lent_entries = taken.entries ∙ ap (λ (t : TrainView). joined_fragments (queued q t)) e.train_is
 
       pub lent_whole : (rest : State) (held : Weight) (k : Key) (c d : Counters) (new : State)
@@ -195,13 +196,14 @@ module _ (p q : PoolView) (ds es back : List Datagram) (i n : ℕ) (f : QueuedFr
           → d ≡ counts_more IpReassembled 1 c
           → WholeArrives exact_ledger held k.source k.destination k.protocol (item_at r out) (machine_with r hs d rest)
           new
-          → Lays exact_ledger held k (fragment_of f) (unfinished_of p (datagram_at ds i)) (machine_with p ds c rest) new
+          → Inserts exact_ledger held k (fragment_of f) (unfinished_of p (datagram_at ds i)) (machine_with p ds c rest)
+          new
       lent_whole rest held k c d new here most counts goes =
-          let whole : IsWhole (map_of (fragments q e.lays.train)) m = whole_here m w in
-          settles_whole rest held k p q r ds es hs c d i n out m f new l here most e.lays taken whole
-          (join_is q e.lays.train m e.queue (all_some q e.lays.train bounded e.queue.held)
-          (all_fit q e.lays.train bounded e.queue.held) whole)
-          (joined_bytes q e.lays.train m e.queue whole) lent_entries counts goes
+          let whole : IsWhole (map_of (fragments q e.inserts.train)) m = whole_here m w in
+          settles_whole rest held k p q r ds es hs c d i n out m f new l here most e.inserts taken whole
+          (join_is q e.inserts.train m e.queue (all_some q e.inserts.train bounded e.queue.held)
+          (all_fit q e.inserts.train bounded e.queue.held) whole)
+          (joined_bytes q e.inserts.train m e.queue whole) lent_entries counts goes
 
       pub lent_leaves : ((chain_of r out).entries
           ≡ joined_fragments (inserted_into f (keyed_queue_at (queues p ds) i).fragments))
@@ -209,15 +211,15 @@ module _ (p q : PoolView) (ds es back : List Datagram) (i n : ℕ) (f : QueuedFr
       lent_leaves =
           let here : keyed_queue_at (queues p ds) i ≡ queue_of p (datagram_at ds i) =
           get_or-map (queue_of p) ds i no_datagram no_queue l in (
-            lent_entries ∙ (ap joined_fragments e.lays.queue
+            lent_entries ∙ (ap joined_fragments e.inserts.queue
                 ∙ ap (λ (y : KeyedQueue). joined_fragments (inserted_into f y.fragments)) (sym here)),
-            taken.rows ∙ (ap (λ (ys : List KeyedQueue). remove ys i) e.lays.rows ∙ remove-set (queues p ds) i _),
+            taken.rows ∙ (ap (λ (ys : List KeyedQueue). remove ys i) e.inserts.rows ∙ remove-set (queues p ds) i _),
           )
 
       pub lent_len : m ≡ length (string (chain_of r out))
       lent_len =
-          joined_len q e.lays.train m e.queue (whole_here m w)
+          joined_len q e.inserts.train m e.queue (whole_here m w)
           ∙ ap (λ (xs : List Entry). length (flat_bytes xs)) (sym lent_entries)
 
       pub lent_moves : Moves p (n ∷ held_all p ds) r (out ∷ held_all r hs)
-      lent_moves = moves_trans e.lays.moves taken.moves
+      lent_moves = moves_trans e.inserts.moves taken.moves

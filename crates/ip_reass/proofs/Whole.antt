@@ -220,9 +220,9 @@ reach_left low e x (p ∷ ps) l m = elim (left_after e p ps) [
   )
 ]
 
-pub reach_laid : (n : ℕ) (f : Fragment) (xs ys : List Fragment) → n ≡ reach 0 xs - f.offset → n < length f.bytes
+pub reach_inserted : (n : ℕ) (f : Fragment) (xs ys : List Fragment) → n ≡ reach 0 xs - f.offset → n < length f.bytes
     → reach 0 (xs ++ ys) ≤ reach 0 (xs ++ trimmed n f ∷ left_from (end_of_fragment f) ys)
-reach_laid n f xs ys is some =
+reach_inserted n f xs ys is some =
     let end : end_of_fragment (trimmed n f) ≡ end_of_fragment f = end_trimmed n f (omega arith) in
     omega (
       arith,

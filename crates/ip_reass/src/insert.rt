@@ -3,7 +3,7 @@ ghost use Rattle.std.specs.Prelude.{◌≡◌, ◌+◌, ◌<◌, ◌≤◌, ◌�
 ghost use Rattle.flat_model.specs.Machine.State.{State, is_key};
 ghost use Rattle.flat_model.specs.Amounts.Weight.{Weight};
 ghost use Rattle.flat_model.specs.Machine.Ledger.{exact_ledger};
-ghost use Rattle.flat_model.specs.Machine.Arrival.{Lays};
+ghost use Rattle.flat_model.specs.Machine.Arrival.{Inserts};
 ghost use Rattle.flat_model.specs.declared.counters.Why.TheVariants.{FragmentDropped};
 ghost use Rattle.mbuf_chain.specs.Chain.{chain_of, string};
 ghost use Rattle.mbuf_chain.specs.Owners.{IsOwned, Moves};
@@ -38,8 +38,8 @@ pub(crate) fn insert_in(
     requires headed { (chain_of pool.old chain).front.header ≡ true }
     requires some { 0 < length (string (chain_of pool.old chain)) }
     requires small { span.offset + length (string (chain_of pool.old chain)) ≤ IP_MAX_DATA }
-    ensures lays { InsertsIn pool.old table.old i chain (arrived pool.old chain span.offset span.more) (is_left result)
-        pool.new table.new }
+    ensures inserts { InsertsIn pool.old table.old i chain (arrived pool.old chain span.offset span.more)
+        (is_left result) pool.new table.new }
     ensures whole { ReportsWhole (map_of (fragments pool.new (datagram_at table.new i).fragments)) result }
 {
     let datagram = &mut table[i];
@@ -122,7 +122,7 @@ pub(crate) fn insert_and_count(
         is_key (key_in fragment.head) (unfinished_of pool.old (datagram_at table.old.items i)) ≡ true →
         count_by (is_key (key_in fragment.head)) (unfinished pool.old table.old.items) ≤ 1 →
         GoesOn held pool.new result (machine_with pool.new table.new.items counters.new rest) new →
-        Lays exact_ledger held (key_in fragment.head)
+        Inserts exact_ledger held (key_in fragment.head)
         (fragment_of (arrived pool.old fragment.chain fragment.head.offset fragment.head.more))
         (unfinished_of pool.old (datagram_at table.old.items i))
         (machine_with pool.old table.old.items counters.old rest) new }

@@ -247,7 +247,7 @@ fn append(pool: &mut Pool, datagram: &mut Datagram, chain: Chain, span: Span) ->
     requires small { span.offset + length (string (chain_of pool.old chain)) ≤ IP_MAX_DATA }
     requires past { reach 0 (fragments pool.old datagram.old.fragments) ≤ span.offset }
     ensures left { is_left result ≡ true }
-    ensures laid { IsInserted pool.old datagram.old chain (arrived pool.old chain span.offset span.more) true
+    ensures inserted { IsInserted pool.old datagram.old chain (arrived pool.old chain span.offset span.more) true
         pool.new datagram.new }
     ensures whole { ReportsWhole (map_of (fragments pool.new datagram.new.fragments)) result }
 {
@@ -279,7 +279,7 @@ fn insert_between(pool: &mut Pool, datagram: &mut Datagram, chain: Chain, span: 
     requires apart { times_among chain (numbers pool.old datagram.old.fragments) ≡ 0 }
     requires some { 0 < length (string (chain_of pool.old chain)) }
     requires small { span.offset + length (string (chain_of pool.old chain)) ≤ IP_MAX_DATA }
-    ensures laid { IsInserted pool.old datagram.old chain (arrived pool.old chain span.offset span.more) result
+    ensures inserted { IsInserted pool.old datagram.old chain (arrived pool.old chain span.offset span.more) result
         pool.new datagram.new }
     ensures reach { reach 0 (fragments pool.old datagram.old.fragments)
         ≤ reach 0 (fragments pool.new datagram.new.fragments) }
@@ -315,7 +315,7 @@ pub(crate) fn insert(
     requires apart { times_among chain (numbers pool.old datagram.old.fragments) ≡ 0 }
     requires some { 0 < length (string (chain_of pool.old chain)) }
     requires small { span.offset + length (string (chain_of pool.old chain)) ≤ IP_MAX_DATA }
-    ensures laid { IsInserted pool.old datagram.old chain (arrived pool.old chain span.offset span.more)
+    ensures inserted { IsInserted pool.old datagram.old chain (arrived pool.old chain span.offset span.more)
         (is_left result) pool.new datagram.new }
     ensures whole { ReportsWhole (map_of (fragments pool.new datagram.new.fragments)) result }
 {

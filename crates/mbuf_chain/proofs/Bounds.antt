@@ -78,6 +78,6 @@ bounded s ok = record {
 }
 
 -- a live chain's number differs from the encoding of "none"
-pub told : (s : StoreView) (at : Option ℕ) → IsPool s → IfSome at (IsLive (pool_of s)) → IsLink at
-told s None ok live = tt
-told s (Some k) ok live = omega (arith, (bounded s ok).numbers k live, (bounded s ok).small)
+pub reported : (s : StoreView) (at : Option ℕ) → IsPool s → IfSome at (IsLive (pool_of s)) → IsLink at
+reported s None ok live = tt
+reported s (Some k) ok live = omega (arith, (bounded s ok).numbers k live, (bounded s ok).small)

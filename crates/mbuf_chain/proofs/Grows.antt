@@ -222,12 +222,12 @@ rooms_at s c at h pool live place e =
     }
 
 -- n bytes are free before the data of an entry
-pub record FrontTold (s : StoreView) (c : ℕ) (at : Place) (n : ℕ) : Type 0 where
+pub record FrontReported (s : StoreView) (c : ℕ) (at : Place) (n : ℕ) : Type 0 where
   pub value : n ≡ leading_space (chain_of (pool_of s) c) at.index
   pub within : room_start (chain_of (pool_of s) c) at.index + n ≤ (entry_of (chain_of (pool_of s) c) at.index).start
 
 pub front_then : (s : StoreView) (c : ℕ) (at : Place) (h : Head) → Rooms s c at h → is_some h.cluster ≡ true
-    → FrontTold s c at 0
+    → FrontReported s c at 0
 front_then s c at h r some = record {
   value =
       sym (ap (λ (z : Bool). cond {A = ℕ} z 0
@@ -238,7 +238,7 @@ front_then s c at h r some = record {
 
 pub record FrontElse (s : StoreView) (c : ℕ) (at : Place) (h : Head) (d : ℕ) : Type 0 where
   pub less : d ≤ h.start
-  pub told : FrontTold s c at (h.start - d)
+  pub reported : FrontReported s c at (h.start - d)
 
 pub front_else : (s : StoreView) (c d : ℕ) (at : Place) (h : Head) → Rooms s c at h → is_some h.cluster ≡ false
     → d ≡ cond {A = ℕ} (is_some h.packet) 28 20 → FrontElse s c at h d
@@ -246,7 +246,7 @@ front_else s c d at h r none is =
     let low : head_room_low h ≡ d = ap (λ (z : Bool). cond {A = ℕ} z 0 (cond (is_some h.packet) 28 20)) none ∙ sym is in
     record {
       less = omega (arith, r.low, low);
-      told = record {
+      reported = record {
         value =
             sym (ap (λ (z : Bool). cond {A = ℕ} z 0
             ((entry_of (chain_of (pool_of s) c) at.index).start - room_start (chain_of (pool_of s) c) at.index)) (ap
@@ -256,14 +256,14 @@ front_else s c d at h r none is =
       };
     }
 
-pub record BackTold (s : StoreView) (c : ℕ) (at : Place) (n : ℕ) : Type 0 where
+pub record BackReported (s : StoreView) (c : ℕ) (at : Place) (n : ℕ) : Type 0 where
   pub value : n ≡ trailing_space (entry_of (chain_of (pool_of s) c) at.index)
   pub within : (entry_of (chain_of (pool_of s) c) at.index).start
       + length (entry_of (chain_of (pool_of s) c) at.index).bytes + n
       ≤ room_end (entry_of (chain_of (pool_of s) c) at.index)
 
 pub back_then : (s : StoreView) (c : ℕ) (at : Place) (h : Head) → Rooms s c at h → is_some h.cluster ≡ true
-    → BackTold s c at 0
+    → BackReported s c at 0
 back_then s c at h r some = record {
   value =
       sym (ap (λ (z : Bool). cond {A = ℕ} z 0
@@ -276,7 +276,7 @@ back_then s c at h r some = record {
 pub record BackElse (s : StoreView) (c : ℕ) (at : Place) (h : Head) : Type 0 where
   pub less : h.start ≤ 128
   pub fits : h.len ≤ 128 - h.start
-  pub told : BackTold s c at (128 - h.start - h.len)
+  pub reported : BackReported s c at (128 - h.start - h.len)
 
 pub back_else : (s : StoreView) (c : ℕ) (at : Place) (h : Head) → Rooms s c at h → is_some h.cluster ≡ false
     → BackElse s c at h
@@ -285,7 +285,7 @@ back_else s c at h r none =
     record {
       less = omega (arith, r.high, high);
       fits = omega (arith, r.high, high);
-      told = record {
+      reported = record {
         value =
             sym (ap (λ (z : Bool). cond {A = ℕ} z 0
             (128 - (entry_of (chain_of (pool_of s) c) at.index).start

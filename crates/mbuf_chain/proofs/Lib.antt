@@ -21,7 +21,7 @@ mod Cuts
 mod Drops
 mod Along
 mod Reading
-mod Told
+mod Reported
 mod Filled
 mod FilledCluster
 mod Linked

@@ -1,6 +1,6 @@
 //! The head fields of an mbuf.
 ghost use Rattle.std.specs.Prelude.{◌≡◌};
-ghost use Rattle.mbuf_chain.specs.Inside.Readable.{told_head};
+ghost use Rattle.mbuf_chain.specs.Inside.Readable.{reported_head};
 
 use mbuf_pool::{Head, PacketHeader};
 
@@ -28,7 +28,7 @@ pub struct MbufHead {
 impl MbufHead {
     /// Builds the value from an mbuf's number and its head.
     pub(crate) fn of(number: u32, head: Head) -> MbufHead
-        ensures { result ≡ told_head number head }
+        ensures { result ≡ reported_head number head }
     {
         MbufHead {
             number,

@@ -63,11 +63,11 @@ pub struct MbufHeads<'a> {
 impl<'a> Model for MbufHeads<'a> {
     ghost use Rattle.std.specs.Prelude.{ℕ, List};
     ghost use Rattle.mbuf_chain.specs.declared.mbuf_head.MbufHead.{MbufHead};
-    ghost use Rattle.mbuf_chain.specs.Inside.Readable.{told_from, IsReadable};
+    ghost use Rattle.mbuf_chain.specs.Inside.Readable.{reported_from, IsReadable};
 
     ghost Value = { List (MbufHead × List ℕ) };
 
-    ghost view = { λ h. told_from h.store.now h.at };
+    ghost view = { λ h. reported_from h.store.now h.at };
 
     ghost invariant = { λ h. IsReadable h.store.now h.at };
 }

@@ -268,9 +268,9 @@ pub for_us : {p q : PoolView} {ds : TableView} {s : SocksView} {a b : Counters} 
     → ours ≡ is_ours_or_all s.pcbs.addr s.pcbs.bcast h.dst → ours ≡ true → b ≡ counts_more IpTotal 1 a
     → q ≡ with_chain p c (record (chain_of p c) { entries = only_first h.total (chain_of p c).entries })
     → IsForUs p ds s a c h q b
-for_us {p} {q} {ds} {s} {a} {b} {c} {h} ours table socks owned none says is heard count cut = record {
+for_us {p} {q} {ds} {s} {a} {b} {c} {h} ours table socks owned none says is received count cut = record {
   head = headed (string (chain_of p c)) h none says;
-  ours = λ rest. sym is ∙ heard;
+  ours = λ rest. sym is ∙ received;
   counts = count;
   cut = changed c (only_first h.total (chain_of p c).entries) owned table socks cut;
 }

@@ -7,7 +7,7 @@ use Rattle.std.proofs.lemmas.List.Elements.{All-from_recursion}
 use Rattle.flat_model.specs.Amounts.Choice.{Choice}
 use Rattle.flat_model.specs.Amounts.Weight.{Weight, Item, nothing, ◌⊕◌, times as bag_times}
 use Rattle.flat_model.specs.Amounts.Layout as flat
-use Rattle.flat_model.specs.Amounts.Layout.{Room, Plain, Cluster, is_cluster, laid_on, need_of, next_room, or_empty, size_of, wire}
+use Rattle.flat_model.specs.Amounts.Layout.{Room, Plain, Cluster, is_cluster, entries_on, need_of, next_room, or_empty, size_of, wire}
 use Rattle.flat_model.specs.Packets.Header.{total_of}
 use Rattle.flat_model.specs.Machine.Count.{counts_more}
 use Rattle.flat_model.specs.Machine.State.{State}
@@ -39,12 +39,12 @@ use Rattle.net_stack.proofs.Aside.{BesideSocks, as_held, beside_socks, net_seen}
 use Rattle.net_stack.proofs.Arriving.{IsHeaded, passes}
 
 -- a packet in one cluster, or in two mbufs
-weighs : (k m : ℕ) → flat.weight_of (laid_on (k ∷ []) (Cluster m ∷ [])) ≡ record { mbufs = 1; bag = k ∷ [] }
-unfolding laid_on
+weighs : (k m : ℕ) → flat.weight_of (entries_on (k ∷ []) (Cluster m ∷ [])) ≡ record { mbufs = 1; bag = k ∷ [] }
+unfolding entries_on
 weighs k m = refl
 
-weigh : (m n : ℕ) → flat.weight_of (laid_on [] (Plain m ∷ Plain n ∷ [])) ≡ record { mbufs = 2; bag = [] }
-unfolding laid_on
+weigh : (m n : ℕ) → flat.weight_of (entries_on [] (Plain m ∷ Plain n ∷ [])) ≡ record { mbufs = 2; bag = [] }
+unfolding entries_on
 weigh m n = refl
 
 pub two_plain : (n : ℕ) → 100 < n → n < 208 → wire n ≡ Plain 100 ∷ Plain (n - 100) ∷ []
@@ -127,13 +127,13 @@ module _ (p : PoolView) (s : SocksView) (r : TableView) (a c : Counters) (packet
     comes_in : (rest new : State) (cs : List ℕ) (rooms : List Room) (w : Weight) → IsAccounted p (old rest) nothing
         → wire (length packet) ≡ rooms → length rooms ≤ 2 → count_by is_cluster rooms ≤ 1
         → length cs ≡ count_by is_cluster rooms
-        → flat.weight_of (laid_on cs rooms) ≡ w → ((j : ℕ) → bag_times j cs ≤ 1) → All (IsFree (old rest) nothing) cs
+        → flat.weight_of (entries_on cs rooms) ≡ w → ((j : ℕ) → bag_times j cs ≤ 1) → All (IsFree (old rest) nothing) cs
         → FragmentArrives exact_ledger (By_wire (length packet)) nothing (flat_head h)
         (record { bytes = drop 20 packet; weight = w }) (counts_packet (old rest)) new
         → ComesIn exact_ledger packet (old rest) new
     comes_in rest new cs rooms w acc are few most number is once free fragment =
-        let weight : flat.weight_of (laid_on cs (wire (length packet))) ≡ w =
-        ap (λ (rooms : List Room). flat.weight_of (laid_on cs rooms)) are ∙ is in (
+        let weight : flat.weight_of (entries_on cs (wire (length packet))) ≡ w =
+        ap (λ (rooms : List Room). flat.weight_of (entries_on cs rooms)) are ∙ is in (
           true,
           old rest,
           inl (sym (enough rest rooms acc are few most), refl),
@@ -200,8 +200,8 @@ module _ (p : PoolView) (s : SocksView) (r : TableView) (a c : Counters) (packet
           (λ fd. beside.socks.shows fd i) s.pcbs
 
       -- the parts are kept
-      pub laid : KeepsParts (net_seen p s r a) [] (net_seen q s t b) (in_hand result)
-      laid = record {
+      pub placed : KeepsParts (net_seen p s r a) [] (net_seen q s t b) (in_hand result)
+      placed = record {
         accounts = λ rest held acc. as_held held (in_hand result)
             (subst (λ (m : State). IsAccounted q m (held ⊕ weight_owned q (in_hand result))) (sym (now rest))
             (accounts (with_sockets p s rest) held (mid_accounts rest held acc)));
@@ -215,7 +215,7 @@ module _ (p : PoolView) (s : SocksView) (r : TableView) (a c : Counters) (packet
           → HasCome (net_seen p s r a) packet (net_seen q s t b)
       came_kept none waits = record {
         step = λ rest acc. comes rest (then_net rest) acc (waits _ _ (now rest));
-        parts = subst (λ (hand : List ℕ). KeepsParts (net_seen p s r a) [] (net_seen q s t b) hand) none laid;
+        parts = subst (λ (hand : List ℕ). KeepsParts (net_seen p s r a) [] (net_seen q s t b) hand) none placed;
       }
 
 -- its datagram is complete, and was delivered to the sockets
@@ -232,7 +232,7 @@ pub came_whole : {p q : PoolView} {s : SocksView} (r t : TableView) {a b c : Cou
 came_whole {p} {q} {s} r t {a} {b} {c} {packet} {h} {d} {u} g head part ours fits counts is socks owned moves accounts
     input =
     let kept : KeepsParts (net_seen p s r a) [] (net_seen q s t b) (d ∷ []) =
-    laid p s r a c packet h head part ours fits counts (Whole d g) q t b is socks owned moves accounts in
+    placed p s r a c packet h head part ours fits counts (Whole d g) q t b is socks owned moves accounts in
     let same : (rest : State) → with_net q s (unfinished q t.datagrams) b rest
     ≡ reass.machine_with q t.datagrams b (with_sockets p s rest) =
     now p s r a c packet h head part ours fits counts (Whole d g) q t b is socks owned moves accounts in

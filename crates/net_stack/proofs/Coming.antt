@@ -6,7 +6,7 @@ use Rattle.std.proofs.lemmas.List.{length-take}
 use Rattle.std.proofs.lemmas.List.Elements.{All-from_recursion}
 use Rattle.flat_model.specs.Amounts.Weight.{Item, nothing}
 use Rattle.flat_model.specs.Amounts.Layout as flat
-use Rattle.flat_model.specs.Amounts.Layout.{Need, Room, Plain, Cluster, filled, is_cluster, laid_on, need_of, next_room, size_of, wire}
+use Rattle.flat_model.specs.Amounts.Layout.{Need, Room, Plain, Cluster, filled, is_cluster, entries_on, need_of, next_room, size_of, wire}
 use Rattle.flat_model.specs.Machine.Count.{counted}
 use Rattle.flat_model.specs.Machine.State.{State, ends}
 use Rattle.flat_model.specs.Machine.Ledger.{HasBuffers, IsFree, exact_ledger}
@@ -23,7 +23,7 @@ use Rattle.ledger.specs.Reserve.{Reserves}
 use Rattle.pcb_table.specs.Table.{machine}
 use Rattle.ip_reass.specs.Arrivals.{CameByWire}
 use Rattle.ip_reass.specs.Table.{TableView, IsReady, held_all, unfinished}
-use Rattle.sock_calls.proofs.Laws.{keeps_trans, laid_weight, bag_of_times, free_each}
+use Rattle.sock_calls.proofs.Laws.{keeps_trans, placed_weight, bag_of_times, free_each}
 use Rattle.sock_calls.specs.Sockets.{SocksView, IsSocks, queued_chains, with_net}
 use Rattle.sock_calls.specs.Delivery.{NetView, KeepsParts, state_at}
 use Rattle.net_stack.specs.Inside.Arrivals.{HasCome, IsArrived, IsAsked, IsPacketStored}
@@ -134,11 +134,12 @@ pub record IsReadyToArrive (q : PoolView) (s : SocksView) (t : TableView) (q1 : 
 pub stored_ready : {p q q1 : PoolView} {s : SocksView} {r t : TableView} {a b : Counters} {need : Need} {answer : Bool}
     {packet : List ℕ} {c : ℕ} → IsSocks p s → IsOwned p (held_all p r.datagrams ++ queued_chains p s.queues)
     → IsAsked p r a need answer q t b → IsReady q t → IsPacketStored q packet q1 c → IsReadyToArrive q s t q1 c
-stored_ready {c = c} socks owned is ready laid =
+stored_ready {c = c} socks owned is ready placed =
     let beside = asked_socks socks owned is in
     record {
-      beside = aside [] (c ∷ []) (owned_after beside.moves owned) ready beside.socks.ready (moves_adds laid.made.adds);
-      header = ap (λ f. f.header) laid.made.front;
+      beside = aside [] (c ∷ []) (owned_after beside.moves owned) ready beside.socks.ready
+          (moves_adds placed.made.adds);
+      header = ap (λ f. f.header) placed.made.front;
     }
 
 pub came : {p q q1 : PoolView} {s : SocksView} {r t : TableView} {a b : Counters} {need : Need} {answer : Bool} {c : ℕ}
@@ -147,10 +148,10 @@ pub came : {p q q1 : PoolView} {s : SocksView} {r t : TableView} {a b : Counters
     → IsPacketStored q packet q1 c
     → IsArrived (net_seen q1 s t b) c u
     → HasCome (net_seen p s r a) packet u
-came {p} {q} {q1} {s} {r} {t} {a} {b} {need} {answer} {c} {u} packet socks owned is is_need yes_answer ready laid
+came {p} {q} {q1} {s} {r} {t} {a} {b} {need} {answer} {c} {u} packet socks owned is is_need yes_answer ready placed
     arrived =
     let beside = asked_socks socks owned is in
-    let x : Aside q t s [] q1 (c ∷ []) = (stored_ready socks owned is ready laid).beside in
+    let x : Aside q t s [] q1 (c ∷ []) = (stored_ready socks owned is ready placed).beside in
     let old : State → State = λ rest. with_net p s (unfinished p r.datagrams) a rest in
     let mid : State → State = λ rest. record (old rest) { unfinished = unfinished q t.datagrams; counters = b } in
     let now : (rest : State) → with_net q s (unfinished q t.datagrams) b rest ≡ mid rest =
@@ -159,16 +160,16 @@ came {p} {q} {q1} {s} {r} {t} {a} {b} {need} {answer} {c} {u} packet socks owned
     let asked : (rest : State) → IsAccounted p (old rest) nothing
     → Reserves (old rest) nothing need answer (mid rest) q =
     λ rest acc. is.reserves (old rest) nothing refl refl acc in
-    let laid_out : KeepsParts (net_seen p s r a) [] (net_seen q1 s t b) (c ∷ []) =
+    let placed_out : KeepsParts (net_seen p s r a) [] (net_seen q1 s t b) (c ∷ []) =
     keeps_trans (asked_keeps b socks owned is) (aside_keeps b b x) in
     let item : item_at q1 c ≡ record {
       bytes = packet;
-      weight = flat.weight_of (laid_on laid.clusters (wire (length packet)));
+      weight = flat.weight_of (entries_on placed.clusters (wire (length packet)));
     } =
     λ i. record {
-      bytes = laid.bytes_are i;
-      weight = (ap entries_weight laid.made.entries ∙ sym (laid_weight _)
-          ∙ ap flat.weight_of laid.layout) i;
+      bytes = placed.bytes_are i;
+      weight = (ap entries_weight placed.made.entries ∙ sym (placed_weight _)
+          ∙ ap flat.weight_of placed.layout) i;
     } in
     record {
       step = λ rest acc. (
@@ -178,23 +179,24 @@ came {p} {q} {q1} {s} {r} {t} {a} {b} {need} {answer} {c} {u} packet socks owned
             (asked rest acc).has_buffers,
         record {
           yes = λ e. (
-            laid.clusters,
+            placed.clusters,
             record {
-              number = laid.number;
-              distinct = λ k. omega (arith, bag_of_times k laid.clusters, laid.free.once k);
-              free = All-from_recursion (IsFree (mid rest) nothing) laid.clusters
-                  (free_each q (mid rest) laid.clusters (asked rest acc).accounted laid.free.exist laid.free.free);
+              number = placed.number;
+              distinct = λ k. omega (arith, bag_of_times k placed.clusters, placed.free.once k);
+              free = All-from_recursion (IsFree (mid rest) nothing) placed.clusters
+                  (free_each q (mid rest) placed.clusters (asked rest acc).accounted placed.free.exist
+                  placed.free.free);
             },
             subst (λ (i : Item). Arrives exact_ledger (By_wire (length packet)) nothing i (mid rest) (state_at u rest))
                 item
                 (subst (λ (m : State). Arrives exact_ledger (By_wire (length packet)) nothing (item_at q1 c) m
                 (state_at u rest)) (x.shows b rest ∙ now rest)
                 (arrived.step rest nothing (By_wire (length packet))
-                (came_by_wire (chain_of q1 c) laid.clusters packet laid.made.entries laid.number laid.bytes_are)
-                (laid_out.accounts rest nothing acc))),
+                (came_by_wire (chain_of q1 c) placed.clusters packet placed.made.entries placed.number placed.bytes_are)
+                (placed_out.accounts rest nothing acc))),
           );
           no = λ e. absurd (true≢false (sym yes_answer ∙ e));
         },
       );
-      parts = keeps_trans laid_out arrived.parts;
+      parts = keeps_trans placed_out arrived.parts;
     }

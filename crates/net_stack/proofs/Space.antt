@@ -11,28 +11,28 @@ use Rattle.net_stack.proofs.AtOnce.{two_plain}
 use Rattle.net_stack.proofs.Whole.{has_one}
 
 pub free_mbuf : (p : PoolView) (n : ℕ) → IsStoredIn 0 n InMbuf → are_free p 2 0 ≡ true → Has p (wire n)
-free_mbuf p n laid free =
+free_mbuf p n placed free =
     let one : HasOne p n false = record {
-      room = laid.1;
+      room = placed.1;
       mbufs = enough_mbufs p 2 0 free (omega arith);
       clusters = omega arith;
-      fits = omega (arith, laid.0);
+      fits = omega (arith, placed.0);
       begins = omega arith;
     } in
     has_one false one
 
 pub free_cluster : (p : PoolView) (n : ℕ) → IsStoredIn 0 n InCluster → are_free p 2 1 ≡ true → Has p (wire n)
-free_cluster p n laid free =
+free_cluster p n placed free =
     let one : HasOne p n true = record {
-      room = laid.2;
+      room = placed.2;
       mbufs = enough_mbufs p 2 1 free (omega arith);
       clusters = enough_clusters p 2 1 free;
-      fits = omega (arith, laid.1);
-      begins = omega (arith, laid.0);
+      fits = omega (arith, placed.1);
+      begins = omega (arith, placed.0);
     } in
     has_one true one
 
 -- two mbufs, for a packet that needs no cluster
 pub free_two : (p : PoolView) (n : ℕ) → IsStoredIn 0 n InMore → n < 208 → are_free p 2 0 ≡ true → Has p (wire n)
-free_two p n laid few free =
-    subst (Has p) (sym (two_plain n (omega (arith, laid.0)) few)) (enough_mbufs p 2 0 free (omega arith), omega arith)
+free_two p n placed few free =
+    subst (Has p) (sym (two_plain n (omega (arith, placed.0)) few)) (enough_mbufs p 2 0 free (omega arith), omega arith)

@@ -6,7 +6,7 @@ use Rattle.std.proofs.lemmas.Bool.{true≢false, false≢true, le-leb}
 use Rattle.std.proofs.lemmas.List.Elements.{All-from_recursion, recursion_from_All}
 use Rattle.flat_model.specs.Amounts.Weight.{Weight, nothing, ◌⊕◌}
 use Rattle.flat_model.specs.Amounts.Layout as flat
-use Rattle.flat_model.specs.Amounts.Layout.{is_cluster, laid_on, need_of, wire}
+use Rattle.flat_model.specs.Amounts.Layout.{is_cluster, entries_on, need_of, wire}
 use Rattle.flat_model.specs.Packets.Header.{head_fault, head_of}
 use Rattle.flat_model.specs.Machine.Count.{counted, counts_more}
 use Rattle.flat_model.specs.Machine.Ledger as state
@@ -104,7 +104,7 @@ again {p} {q} {s} {r} {t} {a} {b} {packet} {u} socks owned is has came =
               yes = λ _. subst (λ (m : State). (clusters : List ℕ)
                   × AreTaken exact_ledger m (need_of (wire (length packet))).clusters clusters
                   × Arrives exact_ledger (By_wire (length packet)) nothing
-                  (record { bytes = packet; weight = flat.weight_of (laid_on clusters (wire (length packet))) }) m
+                  (record { bytes = packet; weight = flat.weight_of (entries_on clusters (wire (length packet))) }) m
                   (state_at u rest)) (now rest)
                   (goes (state_at (net_seen q s t b) rest) (state_at u rest) packet there one);
               no = λ e. absurd (true≢false e);
@@ -118,12 +118,12 @@ again {p} {q} {s} {r} {t} {a} {b} {packet} {u} socks owned is has came =
         → ComesIn exact_ledger packet x y
         → (clusters : List ℕ) × AreTaken exact_ledger x (need_of (wire (length packet))).clusters clusters
         × Arrives exact_ledger (By_wire (length packet)) nothing
-        (record { bytes = packet; weight = flat.weight_of (laid_on clusters (wire (length packet))) }) x y
+        (record { bytes = packet; weight = flat.weight_of (entries_on clusters (wire (length packet))) }) x y
     goes x y packet enough_there (true, m, inl h, c) =
         subst (λ (m : State). (clusters : List ℕ)
         × AreTaken exact_ledger m (need_of (wire (length packet))).clusters clusters
         × Arrives exact_ledger (By_wire (length packet)) nothing
-        (record { bytes = packet; weight = flat.weight_of (laid_on clusters (wire (length packet))) }) m y) h.1
+        (record { bytes = packet; weight = flat.weight_of (entries_on clusters (wire (length packet))) }) m y) h.1
         (c.yes refl)
     goes x y packet enough_there (true, m, inr h, c) = absurd (false≢true (h.0 ∙ enough_there))
     goes x y packet enough_there (false, m, h, c) = absurd (false≢true (h.0 ∙ enough_there))
@@ -133,7 +133,7 @@ again {p} {q} {s} {r} {t} {a} {b} {packet} {u} socks owned is has came =
 pub comes_in : {p : PoolView} {x y : State} (packet : List ℕ) → IsAccounted p x nothing → Has p (wire (length packet))
     → (clusters : List ℕ) × AreTaken exact_ledger x (need_of (wire (length packet))).clusters clusters
     × Arrives exact_ledger (By_wire (length packet)) nothing
-    (record { bytes = packet; weight = flat.weight_of (laid_on clusters (wire (length packet))) }) x y
+    (record { bytes = packet; weight = flat.weight_of (entries_on clusters (wire (length packet))) }) x y
     → ComesIn exact_ledger packet x y
 comes_in packet acc has then = (
   true,
@@ -158,9 +158,9 @@ ended {p} {s} {r} {a} {b} {c} packet why socks ready owned has is is_b is_c =
             free.0,
             free.1,
             subst (λ (new : State). Arrives exact_ledger (By_wire (length packet)) nothing
-                (record { bytes = packet; weight = flat.weight_of (laid_on free.0 (wire (length packet))) }) old new)
+                (record { bytes = packet; weight = flat.weight_of (entries_on free.0 (wire (length packet))) }) old new)
                 (λ i. with_net p s (unfinished p r.datagrams) (sym count i) rest)
-                (is rest (flat.weight_of (laid_on free.0 (wire (length packet))))),
+                (is rest (flat.weight_of (entries_on free.0 (wire (length packet))))),
           );
       parts = aside_keeps a c keeps;
     }
@@ -169,7 +169,8 @@ ended {p} {s} {r} {a} {b} {c} packet why socks ready owned has is is_b is_c =
 pub whole_passes : (v : NetView) (packet : List ℕ) (rest new : State) (w : Weight) → head_fault packet ≡ None
     → is_for_us (state_at v rest).config (head_of packet).destination ≡ true → is_fragment (head_of packet) ≡ false
     → ArrivesWhole packet (record { bytes = carried_of packet; weight = w }) (counts_packet (state_at v rest)) new
-    → Arrives exact_ledger (By_wire (length packet)) nothing (record { bytes = packet; weight = w }) (state_at v rest) new
+    → Arrives exact_ledger (By_wire (length packet)) nothing (record { bytes = packet; weight = w }) (state_at v rest)
+    new
 whole_passes v packet rest new w none ours whole arrives =
     passes packet (By_wire (length packet)) nothing w (state_at v rest) new none (record {
       yes = λ _. record { yes = λ e. absurd (true≢false (sym e ∙ whole)); no = λ _. arrives };
@@ -182,7 +183,8 @@ pub whole_ends : (p : PoolView) (s : SocksView) (r : TableView) (a : Counters) (
     ≡ true)
     → is_fragment (head_of packet) ≡ false → EndsWhole p s packet why → EndsFor (net_seen p s r a) packet why
 whole_ends p s r a packet why none ours whole is = λ rest w.
-    whole_passes (net_seen p s r a) packet rest (ends why (counts_packet (with_net p s (unfinished p r.datagrams) a rest)))
+    whole_passes (net_seen p s r a) packet rest
+    (ends why (counts_packet (with_net p s (unfinished p r.datagrams) a rest)))
     w none (ours rest) whole
     (is (record rest { unfinished = unfinished p r.datagrams; counters = counts_more IpTotal 1 a }) w)
 
@@ -220,14 +222,15 @@ module _ {p q : PoolView} {s t : SocksView} {r : TableView} {packet : List ℕ}
             number = done.1.number;
             distinct = done.1.distinct;
             free = All-from_recursion (IsFree (with_net p s (unfinished p r.datagrams) a rest) nothing) done.0
-                (free_as (with_sockets p s held) (with_net p s (unfinished p r.datagrams) a rest) refl (λ c. refl) done.0
+                (free_as (with_sockets p s held) (with_net p s (unfinished p r.datagrams) a rest) refl (λ c. refl)
+                done.0
                 (recursion_from_All (IsFree (with_sockets p s held) nothing) done.0 done.1.free));
           },
           subst (λ (new : State). Arrives exact_ledger (By_wire (length packet)) nothing
-              (record { bytes = packet; weight = flat.weight_of (laid_on done.0 (wire (length packet))) })
+              (record { bytes = packet; weight = flat.weight_of (entries_on done.0 (wire (length packet))) })
               (with_net p s (unfinished p r.datagrams) a rest) new) (sym now)
               (whole_passes (net_seen p s r a) packet rest (with_sockets q t held)
-              (flat.weight_of (laid_on done.0 (wire (length packet)))) none (ours rest) whole done.2),
+              (flat.weight_of (entries_on done.0 (wire (length packet)))) none (ours rest) whole done.2),
         );
     parts = record {
       accounts = λ rest held acc.
@@ -271,7 +274,7 @@ came_delivered p s r a {b} {packet} {u} is_b has none ours whole is = record {
               (recursion_from_All (IsFree counts nothing) done.0 done.1.free));
         },
         whole_passes (net_seen p s r a) packet rest (state_at u rest)
-            (flat.weight_of (laid_on done.0 (wire (length packet)))) none (ours rest) whole
+            (flat.weight_of (entries_on done.0 (wire (length packet)))) none (ours rest) whole
             (subst (λ (m : State). ArrivesWhole packet (carried_item done.0 packet) m (state_at u rest)) same done.2),
       );
   parts = record {

@@ -10,7 +10,7 @@ use Rattle.capture.specs.declared.pcap.header.Order.TheVariants.{Little}
 use Rattle.play_pcap.specs.Traces.{Keeps, Pass, SentAfter, Traced, later, pass_bytes, passes_bytes, record_of}
 use Rattle.play_script.proofs.ActionLemmas.{ticks_move}
 use Rattle.play_script.specs.Actions.{moved_in, turns_with}
-use Rattle.play_script.specs.Captures.{Captures, Notes, after_ticks, all_passes, later_by, moved_by, pass_if, passes, tick_in, ticks_after, ticks_by, turn_of}
+use Rattle.play_script.specs.Captures.{Captures, Logs, after_ticks, all_passes, later_by, moved_by, pass_if, passes, tick_in, ticks_after, ticks_by, turn_of}
 use Rattle.play_script.specs.Inside.{events_of, ticks_of}
 use Rattle.play_script.specs.declared.action.Action.{Action}
 use Rattle.play_script.specs.declared.action.Action.TheVariants.{Call, Ticks}
@@ -49,10 +49,10 @@ after-tick (suc n) m old new some is t w b =
     let less : m ≡ n = omega arith in rw (less, t, w, b) refl
 
 -- after a packet
-pub Notes-ticks : (number n : ℕ) (old mid new : Traced) (moved : Option (List ℕ)) → Notes number old moved 0 mid
-    → new ≡ after_ticks n mid → Notes number old moved n new
-Notes-ticks number n old mid new moved h is =
-    subst (λ (t : Traced). Notes number old moved n t) (sym is) (h.0, ap (λ (t : ℕ). later_by n t) h.1)
+pub Logs-ticks : (number n : ℕ) (old mid new : Traced) (moved : Option (List ℕ)) → Logs number old moved 0 mid
+    → new ≡ after_ticks n mid → Logs number old moved n new
+Logs-ticks number n old mid new moved h is =
+    subst (λ (t : Traced). Logs number old moved n t) (sym is) (h.0, ap (λ (t : ℕ). later_by n t) h.1)
 
 ticks_pass : (number n t : ℕ) (reply : Reply) → passes number t (turns_with (replicate n Tick) reply) ≡ []
 ticks_pass number zero t reply = refl
@@ -66,7 +66,7 @@ ticks_later (suc n) t reply = ticks_later n (later t) reply
 
 -- one event
 pub Captures-one : (number : ℕ) (old new : Traced) (event : Event) (reply : Reply) (moved : Option (List ℕ)) (n : ℕ)
-    → moved ≡ moved_by event reply → n ≡ tick_in event → Notes number old moved n new
+    → moved ≡ moved_by event reply → n ≡ tick_in event → Logs number old moved n new
     → Captures number old (turn_of event reply ∷ []) new
 Captures-one number old new event reply moved n is ticks h = (
   subst (λ (ps : List Pass). Keeps old new (passes_bytes ps))
@@ -78,7 +78,7 @@ Captures-one number old new event reply moved n is ticks h = (
 -- the action of a line
 pub Captures-action : (number : ℕ) (old new : Traced) (action : Action) (reply : Reply) (moved : Option (List ℕ)) (n :
     ℕ)
-    → moved ≡ moved_in (events_of action) reply → n ≡ ticks_of action → Notes number old moved n new
+    → moved ≡ moved_in (events_of action) reply → n ≡ ticks_of action → Logs number old moved n new
     → Captures number old (turns_with (events_of action) reply) new
 Captures-action number old new (Call request) reply moved n is ticks h =
     Captures-one number old new (event_of request) reply moved n is ticks h

@@ -41,8 +41,8 @@ pass_if ticks number None = []
 pass_if ticks number (Some packet) = pass_at ticks number packet ∷ []
 
 -- a capture after the packet that is moved, if there is one, and n ticks
-abbrev pub Notes : ℕ → Traced → Option (List ℕ) → ℕ → Traced → Type 0
-Notes number old moved n new =
+abbrev pub Logs : ℕ → Traced → Option (List ℕ) → ℕ → Traced → Type 0
+Logs number old moved n new =
     Keeps old new (passes_bytes (pass_if old.ticks number moved)) × (new.ticks ≡ later_by n old.ticks)
 
 -- ---- the turns of a line

@@ -14,7 +14,7 @@ use Rattle.play_pcap.specs.Traces.{Traced}
 use Rattle.play_pcap.specs.declared.ask.Details.{Details}
 use Rattle.play_pcap.specs.declared.fault.CaptureFault.{CaptureFault}
 use Rattle.play_pcap.specs.declared.moves.Tally.{Tally}
-use Rattle.play_text.specs.Tables.{no_drops, drops_noted}
+use Rattle.play_text.specs.Tables.{no_drops, drops_added}
 use Rattle.play_text.specs.declared.table.Table.{Table}
 use Rattle.play_show.specs.Changes.{IsSnapshot}
 use Rattle.play_show.specs.declared.snapshot.Snapshot.{Snapshot}
@@ -55,9 +55,9 @@ PlaysIn has plain turns =
 -- ---- the output
 
 -- a packet counts for each cause whose counter went up by it
-abbrev pub noted_by : Act → Counters → Counters → Table → Table
-noted_by (Arrives place packet) before after causes = drops_noted place.number before after causes
-noted_by Passes before after causes = causes
+abbrev pub causes_by : Act → Counters → Counters → Table → Table
+causes_by (Arrives place packet) before after causes = drops_added place.number before after causes
+causes_by Passes before after causes = causes
 
 -- whether a capture couldn't be played
 abbrev pub has_failed : Result Tally CaptureFault → Bool
@@ -71,7 +71,7 @@ module _ (step : State → Event → Reply → State → Type 0) where
   ComesTo old act new =
       IsEvent (act_event act) × step old.seen.machine (act_event act) Done new.seen.machine
       × Captures old.seen.line old.seen.traced (came_turn act ∷ []) new.seen.traced × (new.seen.line ≡ old.seen.line)
-      × (new.causes ≡ noted_by act old.seen.machine.counters new.seen.machine.counters old.causes)
+      × (new.causes ≡ causes_by act old.seen.machine.counters new.seen.machine.counters old.causes)
 
   -- What may be printed for the capture in the file of this name: how many packets arrived, or what is wrong with the
   -- file, and why packets were dropped. For each cause, the number of packets and the first record are noted. It has

@@ -2,7 +2,7 @@
 ghost use Rattle.std.specs.Prelude.{◌≡◌, ◌≤◌, length, IfSome, Some};
 ghost use Rattle.params.specs.declared.TheConstants.{IP_MAX_PACKET};
 ghost use Rattle.request.specs.Replies.{packet_behind};
-ghost use Rattle.play_script.specs.Captures.{Notes, after_ticks};
+ghost use Rattle.play_script.specs.Captures.{Logs, after_ticks};
 
 use play_pcap::Trace;
 use script_loop::Sink;
@@ -18,7 +18,7 @@ impl<T: Sink> Capture<T> {
     pub fn keep(&mut self, packet: &[u8])
         requires { length packet.now ≤ IP_MAX_PACKET }
         ensures line { self.new.line ≡ self.old.line }
-        ensures notes { Notes self.old.line self.old.trace (Some packet.now) 0 self.new.trace }
+        ensures logs { Logs self.old.line self.old.trace (Some packet.now) 0 self.new.trace }
     {
         self.trace.keep(self.line, packet);
     }
@@ -39,7 +39,7 @@ impl<T: Sink> Capture<T> {
     fn keep_moved(&mut self, moved: Option<&[u8]>)
         requires { IfSome moved (λ p. length p.now ≤ IP_MAX_PACKET) }
         ensures line { self.new.line ≡ self.old.line }
-        ensures notes { Notes self.old.line self.old.trace (packet_behind moved.entry) 0 self.new.trace }
+        ensures logs { Logs self.old.line self.old.trace (packet_behind moved.entry) 0 self.new.trace }
     {
         if let Some(packet) = moved {
             self.keep(packet);
@@ -47,10 +47,10 @@ impl<T: Sink> Capture<T> {
     }
 
     /// Records the packet that arrived or left, if there is one, and lets this many ticks pass.
-    pub(crate) fn note(&mut self, moved: Option<&[u8]>, ticks: u32)
+    pub(crate) fn keep_action(&mut self, moved: Option<&[u8]>, ticks: u32)
         requires { IfSome moved (λ p. length p.now ≤ IP_MAX_PACKET) }
         ensures line { self.new.line ≡ self.old.line }
-        ensures notes { Notes self.old.line self.old.trace (packet_behind moved.entry) ticks self.new.trace }
+        ensures logs { Logs self.old.line self.old.trace (packet_behind moved.entry) ticks self.new.trace }
     {
         self.keep_moved(moved);
         self.tick(ticks);

@@ -37,7 +37,7 @@ impl<T: Sink> CapturedStack<T> {
     {
         tick_all(&mut self.stack, ticks);
         self.capture.line = line;
-        self.capture.note(None, ticks);
+        self.capture.keep_action(None, ticks);
     }
 
     /// Frees the stack, and returns the capture.
@@ -77,7 +77,7 @@ impl<T: Sink> Wire for CapturedStack<T> {
         self.stack.rx(packet);
         self.capture.keep(packet);
         let after = counted(&self.stack);
-        self.causes.note(place.number, &before, &after);
+        self.causes.count_record(place.number, &before, &after);
     }
 
     fn tick(&mut self) {

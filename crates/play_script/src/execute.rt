@@ -89,7 +89,7 @@ fn execute_action<T: Sink>(
     let reply = perform(stack, action, buffer);
     let after = snapshot_of(stack);
     let moved = moved_by(&action, &reply);
-    capture.note(moved, ticks_of(&action));
+    capture.keep_action(moved, ticks_of(&action));
     put_below(
         report.quiet,
         stack,

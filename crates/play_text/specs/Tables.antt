@@ -40,8 +40,8 @@ abbrev pub row_after : ℕ → Counters → Counters → Row → Row
 row_after number a b row =
     if rose (counter_of row.why) a b then record row { count = once_more number row.count } else row
 
-unfoldable pub drops_noted : ℕ → Counters → Counters → Table → Table
-drops_noted number a b t = record { rows = map (row_after number a b) t.rows }
+unfoldable pub drops_added : ℕ → Counters → Counters → Table → Table
+drops_added number a b t = record { rows = map (row_after number a b) t.rows }
 
 -- a line for each cause for which a packet was dropped
 abbrev pub row_text : Row → List ℕ

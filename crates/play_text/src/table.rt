@@ -1,7 +1,7 @@
 //! For which causes packets were dropped, how often, and in which record first.
 ghost use Rattle.std.specs.Prelude.{◌≡◌, ◌+◌, ◌≤◌, ◌++◌, length};
 ghost use Rattle.play_text.specs.Tables as tables;
-ghost use Rattle.play_text.specs.Tables.{no_drops, drops_noted, table_text};
+ghost use Rattle.play_text.specs.Tables.{no_drops, drops_added, table_text};
 
 use crate::count::{Count, put_count};
 use crate::words::{CAUSES, causes, rose, words_for};
@@ -66,9 +66,9 @@ impl Table {
     }
 
     /// Adds the packet of a record: each cause whose counter went up counts one more.
-    #[tactic(auto, unfolding(crate::specs::Tables::drops_noted))]
-    pub fn note(&mut self, number: u64, before: &Counters, after: &Counters)
-        ensures { self.new ≡ drops_noted number before.now after.now self.old }
+    #[tactic(auto, unfolding(crate::specs::Tables::drops_added))]
+    pub fn count_record(&mut self, number: u64, before: &Counters, after: &Counters)
+        ensures { self.new ≡ drops_added number before.now after.now self.old }
     {
         'places: for place in 0..CAUSES {
             let row = self.rows[place];

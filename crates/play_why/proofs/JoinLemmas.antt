@@ -10,7 +10,7 @@ use Rattle.std.proofs.lemmas.List.Sums.{count_by-le-length, sum_by-cons}
 use Rattle.flat_model.specs.Fragments.Overlay.{Held, Map, Fragment, empty, brought, first_owned, fragment_end, is_within, lies, overlay, stays}
 use Rattle.flat_model.specs.Fragments.Whole.{byte_of, bytes_below}
 use Rattle.flat_model.specs.declared.fragment_key.FragmentKey.{FragmentKey}
-use Rattle.play_why.specs.Joined.{IsReassembled, IsWithin, datagram_bytes, fragment_if, fragments_of, laid_over, spots_map, one_more, outside, reach_from}
+use Rattle.play_why.specs.Joined.{IsReassembled, IsWithin, datagram_bytes, fragment_if, fragments_of, inserted_over, spots_map, one_more, outside, reach_from}
 use Rattle.play_why.specs.declared.joined.Spot.{Spot}
 use Rattle.play_why.specs.declared.parts.Part.{Part}
 
@@ -122,8 +122,8 @@ first_most bytes f k n first end = go (is_within f k) (bytes k) first
 pub firsts_most : (old new : List (Option Spot)) (reach later : ℕ) (f : Fragment)
     → ((k : ℕ) → spots_map new k ≡ overlay (spots_map old) f k) → later ≡ max reach (fragment_end f)
     → IsWithin old reach → (k : ℕ) → IfSome (spots_map new k) (λ held. held.piece.first ≤ later)
-firsts_most old new reach later f laid is within k =
-    subst (λ (held : Option Held). IfSome held (λ it. it.piece.first ≤ later)) (sym (laid k))
+firsts_most old new reach later f inserted is within k =
+    subst (λ (held : Option Held). IfSome held (λ it. it.piece.first ≤ later)) (sym (inserted k))
     (first_most (spots_map old) f k later (further (spots_map old k) (within.firsts k)) (omega (arith, is)))
   where
     further : (held : Option Held) → IfSome held (λ it. it.piece.first ≤ reach)
@@ -158,10 +158,10 @@ overlay_same a b f k same =
 
 -- ---- one more fragment
 
-laid_more : (bytes : Map) (fs : List Fragment) (f : Fragment) (k : ℕ)
-    → overlay (laid_over bytes fs) f k ≡ laid_over bytes (fs ++ f ∷ []) k
-laid_more bytes [] f k = refl
-laid_more bytes (g ∷ fs) f k = laid_more (overlay bytes g) fs f k
+inserted_more : (bytes : Map) (fs : List Fragment) (f : Fragment) (k : ℕ)
+    → overlay (inserted_over bytes fs) f k ≡ inserted_over bytes (fs ++ f ∷ []) k
+inserted_more bytes [] f k = refl
+inserted_more bytes (g ∷ fs) f k = inserted_more (overlay bytes g) fs f k
 
 reach_more : (n : ℕ) (fs : List Fragment) (f : Fragment)
     → max (reach_from n fs) (fragment_end f) ≡ reach_from n (fs ++ f ∷ [])
@@ -169,10 +169,12 @@ reach_more n [] f = refl
 reach_more n (g ∷ fs) f = reach_more (max n (fragment_end g)) fs f
 
 pub table_more : (old new : List (Option Spot)) (reach later : ℕ) (f : Fragment) (fs : List Fragment)
-    → ((k : ℕ) → spots_map new k ≡ overlay (spots_map old) f k) → later ≡ max reach (fragment_end f) → IsReassembled old reach fs
+    → ((k : ℕ) → spots_map new k ≡ overlay (spots_map old) f k) → later ≡ max reach (fragment_end f) → IsReassembled
+    old reach fs
     → IsReassembled new later (fs ++ f ∷ [])
-table_more old new reach later f fs laid is table = record {
-  map = λ k. laid k ∙ overlay_same (spots_map old) (laid_over empty fs) f k table.map ∙ laid_more empty fs f k;
+table_more old new reach later f fs inserted is table = record {
+  map = λ k. inserted k ∙ overlay_same (spots_map old) (inserted_over empty fs) f k table.map ∙ inserted_more empty fs
+      f k;
   reach_is = is ∙ ap (λ (n : ℕ). max n (fragment_end f)) table.reach_is ∙ reach_more 0 fs f;
 }
 
@@ -196,6 +198,6 @@ pub bytes_are : (spots : List (Option Spot)) (reach : ℕ) (fs : List Fragment) 
     → bytes_below (spots_map spots) reach ≡ datagram_bytes fs
 unfolding datagram_bytes
 bytes_are spots reach fs table =
-    map_same (λ k. byte_of (spots_map spots k)) (λ k. byte_of (laid_over empty fs k)) (range_with_len 0 reach)
+    map_same (λ k. byte_of (spots_map spots k)) (λ k. byte_of (inserted_over empty fs k)) (range_with_len 0 reach)
     (λ k. ap (λ (held : Option Held). byte_of held) (table.map k))
-    ∙ ap (λ (n : ℕ). bytes_below (laid_over empty fs) n) table.reach_is
+    ∙ ap (λ (n : ℕ). bytes_below (inserted_over empty fs) n) table.reach_is

@@ -1,4 +1,4 @@
 mod Steps
-mod Laying
+mod Inserting
 mod KeptLemmas
 mod JoinLemmas

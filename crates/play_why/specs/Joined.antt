@@ -31,9 +31,9 @@ fragments_of key = flat_map (fragment_if key)
 -- ---- the reassembled bytes
 
 -- each fragment laid over those before it
-abbrev pub laid_over : Map → List Fragment → Map
-laid_over bytes [] = bytes
-laid_over bytes (f ∷ fs) = laid_over (overlay bytes f) fs
+abbrev pub inserted_over : Map → List Fragment → Map
+inserted_over bytes [] = bytes
+inserted_over bytes (f ∷ fs) = inserted_over (overlay bytes f) fs
 
 -- the end of the fragment that reaches furthest
 abbrev pub reach_from : ℕ → List Fragment → ℕ
@@ -42,7 +42,7 @@ reach_from n (f ∷ fs) = reach_from (max n (fragment_end f)) fs
 
 -- the bytes of the datagram that a packet completes
 unfoldable pub datagram_bytes : List Fragment → List ℕ
-datagram_bytes fs = bytes_below (laid_over empty fs) (reach_from 0 fs)
+datagram_bytes fs = bytes_below (inserted_over empty fs) (reach_from 0 fs)
 
 abbrev pub joined_of : FragmentKey → List ℕ → List Part → List ℕ
 joined_of key p parts = datagram_bytes (fragments_of key parts ++ fitting (offset_of p) (carried_of p))
@@ -81,5 +81,5 @@ pub record IsWithin (spots : List (Option Spot)) (n : ℕ) : Type 0 where
 
 -- a table has these fragments, laid one over another
 pub record IsReassembled (spots : List (Option Spot)) (reach : ℕ) (fs : List Fragment) : Type 0 where
-  pub map : (k : ℕ) → spots_map spots k ≡ laid_over empty fs k
+  pub map : (k : ℕ) → spots_map spots k ≡ inserted_over empty fs k
   pub reach_is : reach ≡ reach_from 0 fs

@@ -30,21 +30,21 @@ same_blame Card Capture = false
 same_blame Card Card = true
 
 -- the packet was dropped for this cause, with this to blame
-abbrev pub is_laid : Blame → Seen → Counters → Counters → Why → Bool
-is_laid blame r a b why = rose (counter_of why) a b && same_blame blame (blame_of r why)
+abbrev pub is_blamed : Blame → Seen → Counters → Counters → Why → Bool
+is_blamed blame r a b why = rose (counter_of why) a b && same_blame blame (blame_of r why)
 
 -- the count, with one added for each of these causes for which this is to blame
-abbrev pub laid_by : Blame → Seen → Counters → Counters → List Why → Count → Count
-laid_by blame r a b [] c = c
-laid_by blame r a b (why ∷ whys) c =
-    laid_by blame r a b whys (if is_laid blame r a b why then once_more r.number c else c)
+abbrev pub blamed_by : Blame → Seen → Counters → Counters → List Why → Count → Count
+blamed_by blame r a b [] c = c
+blamed_by blame r a b (why ∷ whys) c =
+    blamed_by blame r a b whys (if is_blamed blame r a b why then once_more r.number c else c)
 
-unfoldable pub laid_to : Blame → Seen → Counters → Counters → Count → Count
-laid_to blame r a b c = laid_by blame r a b all_causes c
+unfoldable pub blamed_on : Blame → Seen → Counters → Counters → Count → Count
+blamed_on blame r a b c = blamed_by blame r a b all_causes c
 
 abbrev pub row_judged : Seen → Counters → Counters → Row → Row
 row_judged r a b row =
-    if is_laid Packet r a b row.why then record row { count = once_more r.number row.count } else row
+    if is_blamed Packet r a b row.why then record row { count = once_more r.number row.count } else row
 
 unfoldable pub causes_judged : Seen → Counters → Counters → Table → Table
 causes_judged r a b t = record { rows = map (row_judged r a b) t.rows }
@@ -59,8 +59,8 @@ none_dropped = record { causes = no_drops; cut = never; card = never }
 abbrev pub judged : Seen → Counters → Counters → Verdicts → Verdicts
 judged r a b v = record {
   causes = causes_judged r a b v.causes;
-  cut = laid_to Capture r a b v.cut;
-  card = laid_to Card r a b v.card;
+  cut = blamed_on Capture r a b v.cut;
+  card = blamed_on Card r a b v.card;
 }
 
 -- ---- fragments that were kept, and dropped later

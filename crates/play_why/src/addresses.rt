@@ -105,7 +105,7 @@ impl Addresses {
 
     /// Counts a packet if it carries UDP to the address of a host, which is below 224.0.0.0. Only the first 256
     /// addresses are counted. Fails if the host has no memory.
-    pub fn note(&mut self, packet: &[u8]) -> Result<(), AllocError>
+    pub fn count_packet(&mut self, packet: &[u8]) -> Result<(), AllocError>
         ensures shares { IfOk result (λ done. self.new.shares.items
             ≡ shares.shares_after packet.now self.old.shares.items) }
         ensures all { self.new.all ≡ shares.all_after packet.now self.old.all }

@@ -100,14 +100,14 @@ fn is_between(k: usize, offset: usize, end: usize) -> bool
 }
 
 /// Returns what is at an offset of a fragment after it was laid over the bytes.
-fn laid_inside(old: Option<Spot>, offset: usize, new: Spot) -> Option<Spot>
+fn inserted_inside(old: Option<Spot>, offset: usize, new: Spot) -> Option<Spot>
     ensures { joined.spot_held result ≡ joined.inside (joined.spot_held old) offset new.byte new.first }
 {
     if stays(old, offset) { old } else { Some(new) }
 }
 
 /// Returns what is at another offset after a fragment was laid over the bytes.
-fn laid_outside(old: Option<Spot>, offset: usize, end: usize) -> Option<Spot>
+fn inserted_outside(old: Option<Spot>, offset: usize, end: usize) -> Option<Spot>
     ensures { joined.spot_held result ≡ joined.outside (joined.spot_held old) offset end }
 {
     match old {
@@ -126,7 +126,7 @@ fn laid_outside(old: Option<Spot>, offset: usize, end: usize) -> Option<Spot>
 
 /// Returns what is at offset `k` after a fragment was laid over the bytes. `first` is the least offset that its piece
 /// owns.
-fn laid(old: Option<Spot>, k: usize, offset: usize, bytes: &[u8], first: usize) -> Option<Spot>
+fn inserted(old: Option<Spot>, k: usize, offset: usize, bytes: &[u8], first: usize) -> Option<Spot>
     requires { offset + length bytes.now ≤ DATAGRAM }
     ensures { (map : Map) → map k ≡ joined.spot_held old →
         Overlay.first_owned map (joined.as_fragment offset bytes.now) ≡ first →
@@ -135,9 +135,9 @@ fn laid(old: Option<Spot>, k: usize, offset: usize, bytes: &[u8], first: usize) 
     let end = offset + bytes.len();
     if is_between(k, offset, end) {
         let byte = bytes[k - offset];
-        laid_inside(old, offset, Spot { byte, first })
+        inserted_inside(old, offset, Spot { byte, first })
     } else {
-        laid_outside(old, offset, end)
+        inserted_outside(old, offset, end)
     }
 }
 
@@ -150,7 +150,7 @@ fn first_changed(reach: usize, offset: usize) -> usize
 }
 
 /// Lays a fragment over the bytes, of which none is at `reach` or after it. Returns how far they reach then.
-fn lay(spots: &mut [Option<Spot>], reach: usize, offset: usize, bytes: &[u8]) -> usize
+fn insert(spots: &mut [Option<Spot>], reach: usize, offset: usize, bytes: &[u8]) -> usize
     requires small { length spots.old ≤ DATAGRAM }
     requires inside { offset + length bytes.now ≤ length spots.old }
     requires reach { reach ≤ length spots.old }
@@ -163,7 +163,7 @@ fn lay(spots: &mut [Option<Spot>], reach: usize, offset: usize, bytes: &[u8]) ->
     let first = first_owned(spots, offset, bytes);
     let end = reach.max(offset + bytes.len());
     'places: for k in first_changed(reach, offset)..end {
-        spots[k] = laid(spots[k], k, offset, bytes, first);
+        spots[k] = inserted(spots[k], k, offset, bytes, first);
     }
     end
 }
@@ -176,7 +176,7 @@ fn fits(offset: usize, len: usize) -> bool
 }
 
 /// Lays a fragment over the bytes if it ends inside the longest datagram.
-fn lay_fitting(spots: &mut [Option<Spot>], reach: usize, offset: usize, bytes: &[u8]) -> usize
+fn insert_fitting(spots: &mut [Option<Spot>], reach: usize, offset: usize, bytes: &[u8]) -> usize
     requires len { length spots.old ≡ DATAGRAM }
     requires reach { reach ≤ DATAGRAM }
     requires within { IsWithin spots.old reach }
@@ -186,14 +186,14 @@ fn lay_fitting(spots: &mut [Option<Spot>], reach: usize, offset: usize, bytes: &
     ensures most { result ≤ DATAGRAM }
 {
     if fits(offset, bytes.len()) {
-        lay(spots, reach, offset, bytes)
+        insert(spots, reach, offset, bytes)
     } else {
         reach
     }
 }
 
 /// Lays a fragment that is kept over the bytes if it's one of this datagram.
-fn lay_part(spots: &mut [Option<Spot>], reach: usize, part: &Part, key: FragmentKey) -> usize
+fn insert_part(spots: &mut [Option<Spot>], reach: usize, part: &Part, key: FragmentKey) -> usize
     requires len { length spots.old ≡ DATAGRAM }
     requires reach { reach ≤ DATAGRAM }
     requires within { IsWithin spots.old reach }
@@ -203,14 +203,14 @@ fn lay_part(spots: &mut [Option<Spot>], reach: usize, part: &Part, key: Fragment
     ensures most { result ≤ DATAGRAM }
 {
     if same_key(part.key, key) {
-        lay_fitting(spots, reach, part.offset, part.bytes.as_slice())
+        insert_fitting(spots, reach, part.offset, part.bytes.as_slice())
     } else {
         reach
     }
 }
 
 /// Lays the fragments of a datagram that are kept, in their order. Returns how far they reach.
-fn lay_parts(spots: &mut [Option<Spot>], parts: &[Part], key: FragmentKey) -> usize
+fn insert_parts(spots: &mut [Option<Spot>], parts: &[Part], key: FragmentKey) -> usize
     requires len { length spots.old ≡ DATAGRAM }
     requires empty { (k : ℕ) → joined.spots_map spots.old k ≡ None }
     ensures table { IsReassembled spots.new result (joined.fragments_of key parts.now) }
@@ -219,7 +219,7 @@ fn lay_parts(spots: &mut [Option<Spot>], parts: &[Part], key: FragmentKey) -> us
 {
     let mut reach = 0;
     for part in parts {
-        reach = lay_part(spots, reach, part, key);
+        reach = insert_part(spots, reach, part, key);
     }
     reach
 }
@@ -277,8 +277,8 @@ impl Joined {
     {
         let spots = self.spots.as_mut_slice();
         clear_all(spots);
-        let reach = lay_parts(spots, parts, key);
-        let end = lay_fitting(spots, reach, offset_of(packet), carried_of(packet));
+        let reach = insert_parts(spots, parts, key);
+        let end = insert_fitting(spots, reach, offset_of(packet), carried_of(packet));
         put_bytes(&mut self.bytes, spots, end);
     }
 }

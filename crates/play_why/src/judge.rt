@@ -336,7 +336,7 @@ impl Judge {
             &report,
             &mut self.scratch.strings,
         );
-        self.verdicts.note(&seen, &before, &after);
+        self.verdicts.count_record(&seen, &before, &after);
         let totals = self.totals.after(&self.host.stack, &before, &after);
         self.totals = totals;
         self.ports
@@ -382,7 +382,7 @@ impl Judge {
             datagram,
             numbers,
         );
-        self.losses.note(lost.why, numbers);
+        self.losses.count_record(lost.why, numbers);
         Ok(Some(lost.why))
     }
 

@@ -24,9 +24,9 @@ pub struct Verdicts {
 }
 
 /// Returns whether a packet was dropped for a cause for which this one is to blame.
-fn is_laid(blame: Blame, seen: &Seen<'_>, before: &Counters, after: &Counters, why: Why) -> bool
+fn is_blamed(blame: Blame, seen: &Seen<'_>, before: &Counters, after: &Counters, why: Why) -> bool
     requires { IsSeen seen.now }
-    ensures { result ≡ verdicts.is_laid blame seen.now before.now after.now why }
+    ensures { result ≡ verdicts.is_blamed blame seen.now before.now after.now why }
 {
     rose(why.counter(), before, after)
         && match (blame, blame_of(seen, why)) {
@@ -45,14 +45,14 @@ fn counted_if(count: Count, so: bool, number: u64) -> Count
 }
 
 /// Returns a count after a record, whose packet counts once for each cause for which `blame` is to blame.
-#[tactic(auto, unfolding(crate::specs::Verdicts::laid_to))]
-fn laid(blame: Blame, seen: &Seen<'_>, before: &Counters, after: &Counters, count: Count) -> Count
+#[tactic(auto, unfolding(crate::specs::Verdicts::blamed_on))]
+fn blamed(blame: Blame, seen: &Seen<'_>, before: &Counters, after: &Counters, count: Count) -> Count
     requires { IsSeen seen.now }
-    ensures { result ≡ verdicts.laid_to blame seen.now before.now after.now count }
+    ensures { result ≡ verdicts.blamed_on blame seen.now before.now after.now count }
 {
     let mut now = count;
     for why in causes() {
-        let so = is_laid(blame, seen, before, after, why);
+        let so = is_blamed(blame, seen, before, after, why);
         now = counted_if(now, so, seen.number);
     }
     now
@@ -63,7 +63,7 @@ fn row_judged(row: Row, seen: &Seen<'_>, before: &Counters, after: &Counters) ->
     requires { IsSeen seen.now }
     ensures { result ≡ verdicts.row_judged seen.now before.now after.now row }
 {
-    if is_laid(Blame::Packet, seen, before, after, row.why) {
+    if is_blamed(Blame::Packet, seen, before, after, row.why) {
         Row {
             why: row.why,
             count: row.count.once_more(seen.number),
@@ -99,13 +99,13 @@ impl Verdicts {
     }
 
     /// Counts the packet of a record once for each cause for which it was dropped, by who is to blame.
-    pub(crate) fn note(&mut self, seen: &Seen<'_>, before: &Counters, after: &Counters)
+    pub(crate) fn count_record(&mut self, seen: &Seen<'_>, before: &Counters, after: &Counters)
         requires { IsSeen seen.now }
         ensures { self.new ≡ verdicts.judged seen.now before.now after.now self.old }
     {
         self.causes = causes_judged(self.causes, seen, before, after);
-        self.cut = laid(Blame::Capture, seen, before, after, self.cut);
-        self.card = laid(Blame::Card, seen, before, after, self.card);
+        self.cut = blamed(Blame::Capture, seen, before, after, self.cut);
+        self.card = blamed(Blame::Card, seen, before, after, self.card);
     }
 
     /// Appends a line for each cause for which a packet was dropped.
@@ -156,7 +156,7 @@ impl Losses {
     }
 
     /// Counts the fragments with these records.
-    pub(crate) fn note(&mut self, why: Loss, numbers: &[u64])
+    pub(crate) fn count_record(&mut self, why: Loss, numbers: &[u64])
         ensures { self.new ≡ verdicts.lost_after why numbers.now self.old }
     {
         match why {

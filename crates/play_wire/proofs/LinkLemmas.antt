@@ -304,11 +304,11 @@ is_there place v counts (s, l, at, stack, link) =
     both_true (nat_lt place (length v.stacks)) (nat_lt place (length v.links)) (there_lt v.stacks place s at.0)
     (there_lt v.links place l at.1)
 
-heard_so : (place : ℕ) (frame : List ℕ) (v w : SegmentView) (before after : HostCounts) (reply_line : List ℕ)
+received_so : (place : ℕ) (frame : List ℕ) (v w : SegmentView) (before after : HostCounts) (reply_line : List ℕ)
     → HasCounted place v before → HasReceived place frame v w → HasCounted place w after
     → reply_line ≡ received_text before.stack before.link after.stack after.link
     → IsAtLink place (Frame frame) v (Replied reply_line []) w
-heard_so place frame v w before after reply_line (s, l, at, stack, link) is (t, m, at', stack', link') text =
+received_so place frame v w before after reply_line (s, l, at, stack, link) is (t, m, at', stack', link') text =
     let said : reply_line ≡ received_text (state_of s).counters l.tallies (state_of t).counters m.tallies =
     text ∙ ap₂ (λ a b. received_text a b after.stack after.link) stack link
     ∙ ap₂ (λ a b. received_text (state_of s).counters l.tallies a b) stack' link' in (
@@ -319,22 +319,23 @@ heard_so place frame v w before after reply_line (s, l, at, stack, link) is (t, 
           (s, t, l, m, at, at', is, refl, ap (λ x. Replied x []) said)),
     )
 
-is_heard : (place : ℕ) (frame : List ℕ) (v w : SegmentView) (before : HostCounts) (b : Bool) → HasCounted place v before
+is_received : (place : ℕ) (frame : List ℕ) (v w : SegmentView) (before : HostCounts) (b : Bool) → HasCounted place v
+    before
     → b ≡ (nat_lt place (length v.stacks) && nat_lt place (length v.links))
     → Choice b (HasReceived place frame v w) (w ≡ v) → HasReceived place frame v w
-is_heard place frame v w before b counted is choice = choice.yes (is ∙ is_there place v before counted)
+is_received place frame v w before b counted is choice = choice.yes (is ∙ is_there place v before counted)
 
-pub frame_heard : (place : ℕ) (frame : List ℕ) (v v' w w' : SegmentView) (before after : HostCounts) (b : Bool)
+pub frame_received : (place : ℕ) (frame : List ℕ) (v v' w w' : SegmentView) (before after : HostCounts) (b : Bool)
     (reply_line below : List ℕ)
     → v' ≡ v → HasCounted place v before → b ≡ (nat_lt place (length v'.stacks) && nat_lt place (length v'.links))
     → Choice b (HasReceived place frame v' w) (w ≡ v') → w' ≡ w → HasCounted place w after
     → reply_line ≡ received_text before.stack before.link after.stack after.link → below ≡ []
     → IsAtLink place (Frame frame) v (Replied reply_line below) w'
-frame_heard place frame v v' w w' before after b reply_line below same counted is choice same' counted' text none =
+frame_received place frame v v' w w' before after b reply_line below same counted is choice same' counted' text none =
     let counted_so : HasCounted place v' before =
     subst (λ (x : SegmentView). HasCounted place x before) (sym same) counted in
     let here : IsAtLink place (Frame frame) v' (Replied reply_line []) w =
-    heard_so place frame v' w before after reply_line counted_so (is_heard place frame v' w before b counted_so is
+    received_so place frame v' w before after reply_line counted_so (is_received place frame v' w before b counted_so is
     choice)
     counted' text in
     subst (λ (x : SegmentView). IsAtLink place (Frame frame) x (Replied reply_line below) w') same
@@ -361,7 +362,7 @@ pub frame_counted : (place : ℕ) (frame : List ℕ) (v v' w w' : SegmentView) (
     → Choice b (HasReceived place frame v' w) (w ≡ v') → HasNotCounted place w
     → IsAtLink place (Frame frame) v (Refused fault.NoHost) w'
 frame_counted place frame v v' w w' before b same counted is choice none =
-    absurd (still_there place frame v' w (is_heard place frame v' w before b
+    absurd (still_there place frame v' w (is_received place frame v' w before b
     (subst (λ (x : SegmentView). HasCounted place x before) (sym same) counted) is choice) none)
 
 pub error_asked : (place fd : ℕ) (v v' w : SegmentView) (before : HostCounts) (error : Result (Option NetFault) Errno)

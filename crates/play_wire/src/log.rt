@@ -145,7 +145,7 @@ impl Log {
     }
 
     /// Logs what happened to the packet with this number, if it's logged.
-    fn note(&mut self, number: usize, happened: Happened) {
+    fn add_event(&mut self, number: usize, happened: Happened) {
         if number < self.packets.len() && self.events.len() < self.events.capacity() {
             self.events.push_reserved(Event { number, happened });
         } else {
@@ -266,7 +266,7 @@ impl Watch for Log {
         };
         let number = self.packets.len();
         if self.keep(sender, packet) {
-            self.note(number, happened);
+            self.add_event(number, happened);
         } else {
             self.more = self.more.saturating_add(1);
         }
@@ -288,7 +288,7 @@ impl Watch for Log {
     fn arrived(&mut self, number: usize, place: usize, stack: &Stack, link: Tallies) {
         if let Some(before) = &self.before {
             let verdict = Verdict::of(before, &Look::at(stack, link));
-            self.note(number, Happened::Came(place, verdict));
+            self.add_event(number, Happened::Came(place, verdict));
         }
     }
 }

@@ -39,7 +39,7 @@ fn answer_line<const N: usize, A: Answers<N>, W: Sink>(
     ensures sent { (reply : List ℕ)
         × A.may_answer (A.state machine.old) line.now reply (A.state machine.new)
         × Sends (W.contents writer.old) (W.contents writer.new) reply result }
-    ensures told { MoreBy (writer_failures result) (W.failures writer.old) (W.failures writer.new) }
+    ensures counted { MoreBy (writer_failures result) (W.failures writer.old) (W.failures writer.new) }
 {
     text.clear();
     machine.answer(line, text);
@@ -49,7 +49,7 @@ fn answer_line<const N: usize, A: Answers<N>, W: Sink>(
 /// Writes the text and empties it.
 fn flush<const N: usize, W: Sink>(writer: &mut W, text: &mut Buffer<N>) -> Result<(), RunFault>
     ensures sent { Sends (W.contents writer.old) (W.contents writer.new) text.old result }
-    ensures told { MoreBy (writer_failures result) (W.failures writer.old) (W.failures writer.new) }
+    ensures counted { MoreBy (writer_failures result) (W.failures writer.old) (W.failures writer.new) }
     ensures empty { text.new ≡ [] }
 {
     let outcome = send(writer, text.as_slice());
@@ -60,7 +60,7 @@ fn flush<const N: usize, W: Sink>(writer: &mut W, text: &mut Buffer<N>) -> Resul
 /// Makes space for one more reply in the text.
 fn make_room<const N: usize, W: Sink>(writer: &mut W, text: &mut Buffer<N>) -> Result<(), RunFault>
     ensures flushed { Flushes (W.contents writer.old) (W.contents writer.new) text.old text.new result }
-    ensures told { MoreBy (writer_failures result) (W.failures writer.old) (W.failures writer.new) }
+    ensures counted { MoreBy (writer_failures result) (W.failures writer.old) (W.failures writer.new) }
     ensures room { IfOk result (λ _. length text.new ≤ HELD) }
 {
     if text.len() <= HELD {
@@ -133,7 +133,7 @@ fn take_line<const N: usize, A: Answers<N>, W: Sink>(
         → Answered A.may_answer begin (A.state machine.old) seen line.old count (written ++ text.old)
         → TakesChunk A.may_answer begin (A.state machine.new) seen (part.now ++ 10 ∷ []) written
         (W.contents writer.old) (W.contents writer.new) text.new line.new result }
-    ensures told { MoreBy (writer_failures result) (W.failures writer.old) (W.failures writer.new) }
+    ensures counted { MoreBy (writer_failures result) (W.failures writer.old) (W.failures writer.new) }
     ensures within { IfOk result (λ now. (now ≤ MOST_LINES) × (length line.new ≤ LONGEST)) }
     ensures room { IfOk result (λ _. length text.new ≤ HELD) }
     ensures fewer { IfOk result (λ now. budget now line.new + (length part.now + 1) ≤ budget count line.old) }
@@ -166,7 +166,7 @@ pub(crate) fn take_chunk<const N: usize, A: Answers<N>, W: Sink>(
         → Answered A.may_answer begin (A.state machine.old) seen line.old count written
         → TakesChunk A.may_answer begin (A.state machine.new) seen chunk.now written
         (W.contents writer.old) (W.contents writer.new) [] line.new result }
-    ensures told { MoreBy (writer_failures result) (W.failures writer.old) (W.failures writer.new) }
+    ensures counted { MoreBy (writer_failures result) (W.failures writer.old) (W.failures writer.new) }
     ensures empty { IfOk result (λ _. text.new ≡ []) }
     ensures within { IfOk result (λ now. (now ≤ MOST_LINES) × (length line.new ≤ LONGEST)) }
     ensures fewer { IfOk result (λ now. budget now line.new + length chunk.now ≤ budget count line.old) }

@@ -33,7 +33,7 @@ pub trait Sink: Write {
 /// Writes all the bytes. It stops at an error, or at a write of no bytes.
 pub fn send<W: Sink>(writer: &mut W, bytes: &[u8]) -> Result<(), RunFault>
     ensures sent { Sends (W.contents writer.old) (W.contents writer.new) bytes.now result }
-    ensures told { MoreBy (writer_failures result) (W.failures writer.old) (W.failures writer.new) }
+    ensures counted { MoreBy (writer_failures result) (W.failures writer.old) (W.failures writer.new) }
 {
     let mut rest = bytes;
     while !rest.is_empty() {

@@ -81,7 +81,7 @@ taking_out (suc n) h = go (taking_out n (gives h).1) (nat_le h.machine.config.mt
 
 coming_acts : (frames : List (List ℕ)) (h u : Host) → ReceiveEach frames h u → AreHostActs h (coming frames) u
 coming_acts [] h u e = e
-coming_acts (f ∷ frames) h u (mid, heard, later) = (mid, heard, coming_acts frames mid u later)
+coming_acts (f ∷ frames) h u (mid, received, later) = (mid, received, coming_acts frames mid u later)
 
 -- ---- hosts by their places
 
@@ -163,7 +163,8 @@ module _ (k : ℕ) (c : Config) (t : Host) where
       (eqb-true (length old.links) (length old.stacks) j.free.0.1) j.is_config
       (ap (half_of (link_up d l)) j.started)
       (subst (λ (xs : List Config). BeginsHost c acts t (slice_get xs k)
-      (host_of_halves (slice_get (old.stacks ++ j.stack ∷ []) k) (slice_get (old.links ++ link_up d l ∷ []) k))) j.configs
+      (host_of_halves (slice_get (old.stacks ++ j.stack ∷ []) k) (slice_get (old.links ++ link_up d l ∷ []) k)))
+      j.configs
       (subst (λ (xs : List StackView). BeginsHost c acts t (slice_get new.configs k)
       (host_of_halves (slice_get xs k) (slice_get (old.links ++ link_up d l ∷ []) k))) j.stacks
       (subst (λ (xs : List LinkState). BeginsHost c acts t (slice_get new.configs k)
@@ -235,12 +236,14 @@ module _ (k : ℕ) (c : Config) (t : Host) where
   stack_set : (stacks : List StackView) (links : List LinkState) (place : ℕ) (s : StackView) → place ≢ k
       → host_of_halves (slice_get (slice_set stacks place s) k) (slice_get links k)
       ≡ host_of_halves (slice_get stacks k) (slice_get links k)
-  stack_set stacks links place s other = ap (λ x. host_of_halves x (slice_get links k)) (get_set_other stacks place k s other)
+  stack_set stacks links place s other = ap (λ x. host_of_halves x (slice_get links k))
+      (get_set_other stacks place k s other)
 
   link_set : (stacks : List StackView) (links : List LinkState) (place : ℕ) (l : LinkState) → place ≢ k
       → host_of_halves (slice_get stacks k) (slice_get (slice_set links place l) k)
       ≡ host_of_halves (slice_get stacks k) (slice_get links k)
-  link_set stacks links place l other = ap (λ y. host_of_halves (slice_get stacks k) y) (get_set_other links place k l other)
+  link_set stacks links place l other = ap (λ y. host_of_halves (slice_get stacks k) y)
+      (get_set_other links place k l other)
 
   abbrev after_call : SegmentView → ℕ → StackView → Option Host
   after_call old place s = host_of_halves (slice_get (slice_set old.stacks place s) k) (slice_get old.links k)
@@ -254,7 +257,8 @@ module _ (k : ℕ) (c : Config) (t : Host) where
       → BeginsHost c acts t (slice_get new.configs k) (host_at k new)
       → BeginsHost c (host_acts k old (Calls place turn) ++ acts) t (slice_get old.configs k) (host_at k old)
   called place turn acts old new is from =
-      one_went (host.Calls turn) place acts (slice_get old.configs k) (host_at k old) (after_call old place is.after) mine
+      one_went (host.Calls turn) place acts (slice_get old.configs k) (host_at k old) (after_call old place is.after)
+      mine
       (stack_set old.stacks old.links place is.after)
       (subst (λ (xs : List LinkState). BeginsHost c acts t (slice_get old.configs k)
       (host_of_halves (slice_get (slice_set old.stacks place is.after) k) (slice_get xs k))) is.links
@@ -262,7 +266,8 @@ module _ (k : ℕ) (c : Config) (t : Host) where
       (host_of_halves (slice_get xs k) (slice_get new.links k))) is.stacks (same_config acts old new is.configs from)))
     where
       linked : (l : Option LinkState)
-          → AreBoth (λ h u. AreHostActs h (host.Calls turn ∷ []) u) (host_of_halves (Some is.before) l) (host_of_halves (Some is.after) l)
+          → AreBoth (λ h u. AreHostActs h (host.Calls turn ∷ []) u) (host_of_halves (Some is.before) l)
+          (host_of_halves (Some is.after) l)
       linked None = tt
       linked (Some l) = (
         halves is.after l,
@@ -276,7 +281,8 @@ module _ (k : ℕ) (c : Config) (t : Host) where
         refl,
       )
 
-      mine : place ≡ k → AreBoth (λ h u. AreHostActs h (host.Calls turn ∷ []) u) (host_at k old) (after_call old place is.after)
+      mine : place ≡ k → AreBoth (λ h u. AreHostActs h (host.Calls turn ∷ []) u) (host_at k old)
+          (after_call old place is.after)
       mine e =
           let here : slice_get old.stacks k ≡ Some is.before =
           subst (λ n. slice_get old.stacks n ≡ Some is.before) e is.here in
@@ -305,7 +311,8 @@ module _ (k : ℕ) (c : Config) (t : Host) where
           (ap (λ a. host_of_halves a (Some is.link')) (sym g) ∙ ap (λ b. host_of_halves u b) (sym h))
           (goes (halves is.stack is.link) (halves is.stack' is.link') is.goes)
 
-      mine : place ≡ k → AreBoth (λ h u. AreHostActs h (act ∷ []) u) (host_at k old) (after_step old place is.stack' is.link')
+      mine : place ≡ k → AreBoth (λ h u. AreHostActs h (act ∷ []) u) (host_at k old)
+          (after_step old place is.stack' is.link')
       mine e =
           one (slice_get old.stacks k) (slice_get old.links k) _ _
           (subst (λ n. slice_get old.stacks n ≡ Some is.stack) e is.stack_is)
@@ -344,7 +351,8 @@ module _ (k : ℕ) (c : Config) (t : Host) where
           both_each _ _ _ _ _ (ap (λ z. host_of_halves s z) (sym e)) (ap (λ z. host_of_halves s z) (sym f)) (by s)
         where
           by : (s : Option StackView)
-              → AreBoth (λ h u. AreHostActs h (Ages ∷ []) u) (host_of_halves s (Some l)) (host_of_halves s (Some (ticks l)))
+              → AreBoth (λ h u. AreHostActs h (Ages ∷ []) u) (host_of_halves s (Some l))
+              (host_of_halves s (Some (ticks l)))
           by None = tt
           by (Some s) = (halves s (ticks l), refl, refl)
 
@@ -417,7 +425,7 @@ module _ (k : ℕ) (c : Config) (t : Host) where
       (at_place (λ place h u. ReceiveEach (frames_to place h.link.link.mac (leaving old).0) h u) old new k is.1.hosts))
       (same_config k c t acts old new is.1.configs from)
   one_act (Ether (ReceivesFrame place f)) acts old new framed is even from =
-      stepped k c t (Comes_in f) place (FrameComes f) acts old new (λ h u heard. (u, heard, refl)) is from
+      stepped k c t (Comes_in f) place (FrameComes f) acts old new (λ h u received. (u, received, refl)) is from
   one_act (Ether (QueriesError place fd fault)) acts old new framed is even from =
       stepped k c t (Asks_error fd fault) place (λ h u. (fault, u) ≡ last_error fd h) acts old new
       (λ h u asked. (u, asked, refl)) is from

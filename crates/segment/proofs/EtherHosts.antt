@@ -14,7 +14,7 @@ use Rattle.flat_ether.specs.Links.{LinkState, link_up, ticks}
 use Rattle.flat_ether.specs.declared.link.Link.{Link}
 use Rattle.ether_host.specs.View.{halves}
 use Rattle.net_stack.specs.Stack.{StackView}
-use Rattle.segment.specs.EtherLaw.{GoByFrames, AreOnEtherSegment, GoesByFrames, acts_of, host_of_halves, coming, coming_in, heard_of, host_acts, host_at, if_host, taking_in}
+use Rattle.segment.specs.EtherLaw.{GoByFrames, AreOnEtherSegment, GoesByFrames, acts_of, host_of_halves, coming, coming_in, frames_received_by, host_acts, host_at, if_host, taking_in}
 use Rattle.segment.specs.Frames.{ReceiveEach, aged_in, frames_given, frames_to}
 use Rattle.segment.specs.Law.{Act, Ether, Joins, Calls, Collects, Delivers, Impairs, Seeds, Loses, Repeats, Swaps, AreActs, IsAct, JoinsEther, CollectsFrames, DeliversFrames, ReceivesFrame, QueriesError, AgesLink}
 use Rattle.segment.specs.Segment.{SegmentView, AreBoth, are_apart, leaving, no_hosts}
@@ -22,7 +22,7 @@ use Rattle.segment.specs.declared.links.TheConstants.{FRAMES}
 use Rattle.segment.proofs.EtherHistory.{at_place, even_on, host_began}
 use Rattle.segment.proofs.EtherWires.{frames_come, out_append}
 use Rattle.segment.proofs.History.{get_front, get_within}
-use Rattle.segment.proofs.Hosts.{AreApart, all_pass, get_last_or, told_apart, turned}
+use Rattle.segment.proofs.Hosts.{AreApart, all_pass, get_last_or, from_are_apart, turned}
 
 -- ---- all hosts have distinct addresses
 
@@ -41,10 +41,10 @@ joined_apart cs d all pass i k a b h e f = by (get_last_or cs d a i e) (get_last
         → (slice_get cs k ≡ Some b) ⊎ ((k ≡ length cs) × (d ≡ b)) → AreApart a b
     by (inl e) (inl f) = all i k a b h e f
     by (inl e) (inr f) =
-        turned b a (told_apart b a (subst (λ (x : Config). are_apart x a ≡ true) f.1
+        turned b a (from_are_apart b a (subst (λ (x : Config). are_apart x a ≡ true) f.1
         (all_pass (are_apart d) cs i a pass e)))
     by (inr e) (inl f) =
-        told_apart a b (subst (λ (x : Config). are_apart x b ≡ true) e.1 (all_pass (are_apart d) cs k b pass f))
+        from_are_apart a b (subst (λ (x : Config). are_apart x b ≡ true) e.1 (all_pass (are_apart d) cs k b pass f))
     by (inr e) (inr f) = absurd (h (e.0 ∙ sym f.0))
 
 -- ---- the hosts after an act
@@ -290,7 +290,8 @@ module _ (room i j : ℕ) (first second : Config) (s t : Host) (acts : List Act)
           frames =
               All-from_recursion _ (frames_in (of_host j))
               (frames_come (IsUnforged first.addr (of_host i)) j last acts (no_hosts room) done w.framed tt given_up
-              (each-weaker (λ f free. inr (inr free)) (heard_of j acts) (recursion_from_All _ (heard_of j acts) w.heard)));
+              (each-weaker (λ f free. inr (inr free)) (frames_received_by j acts)
+              (recursion_from_All _ (frames_received_by j acts) w.received)));
           handed = w.handed;
         },
       )

@@ -5,7 +5,7 @@ use Rattle.std.specs.List.{AllByRecursion as Each, cons_option}
 use Rattle.flat_model.proofs.Laws.{each-append, each-map_to, each-take, each-weaker}
 use Rattle.flat_ether.specs.Hosts.{Host, HostAct, Ages, Asks_error as Asked, Calls as Called, Comes_in as Comes}
 use Rattle.flat_ether.specs.Laws.{frame_in, frame_out, frames_in, frames_out}
-use Rattle.segment.specs.EtherLaw.{GoByFrames, acts_of, coming, coming_in, heard_of, host_acts, host_at, if_host, takes_if, taking, taking_in, then_takes}
+use Rattle.segment.specs.EtherLaw.{GoByFrames, acts_of, coming, coming_in, frames_received_by, host_acts, host_at, if_host, takes_if, taking, taking_in, then_takes}
 use Rattle.segment.specs.Chances.{entering}
 use Rattle.segment.specs.Flying.{Flying, sent_by}
 use Rattle.segment.specs.Frames.{AreFramesCollected, frame_goes_to, frames_below, frames_given, frames_of, frames_to, given_in, gives_short, hosts_in}
@@ -129,10 +129,10 @@ module _ (P : List ℕ → Type 0) where
   if_one false o act e = refl
 
   -- a frame from outside
-  heard_now : (j other : ℕ) (f : List ℕ) (o : Option Host) (acts : List HostAct) (rest : List (List ℕ))
+  received_now : (j other : ℕ) (f : List ℕ) (o : Option Host) (acts : List HostAct) (rest : List (List ℕ))
       → Each P ((if other == j then f ∷ [] else []) ++ rest) → (Each P rest → Each P (frames_in acts))
       → Each P (frames_in ((if other == j then if_host o (Comes f) else []) ++ acts))
-  heard_now j other f o acts rest outside later = go (other == j) o outside
+  received_now j other f o acts rest outside later = go (other == j) o outside
     where
       go : (b : Bool) (o : Option Host) → Each P ((if b then f ∷ [] else []) ++ rest)
           → Each P (frames_in ((if b then if_host o (Comes f) else []) ++ acts))
@@ -154,7 +154,7 @@ module _ (P : List ℕ → Type 0) where
 
     -- the frames that arrive at the host at this place
     pub frames_come : (acts : List Act) (v : SegmentView) (done : AreActs v acts last) → GoByFrames acts
-        → Fly v.flight → Up acts v done → Each P (heard_of j acts) → Each P (frames_in (acts_of j v acts last done))
+        → Fly v.flight → Up acts v done → Each P (frames_received_by j acts) → Each P (frames_in (acts_of j v acts last done))
     frames_come [] v done framed flies up outside = tt
     frames_come (Ether (JoinsEther d l) ∷ acts) v (mid, is, done) framed flies up outside =
         frames_come acts mid done framed.1 (subst Fly (sym is.flight) flies)
@@ -172,7 +172,7 @@ module _ (P : List ℕ → Type 0) where
         (frames_come acts mid done framed.1 (subst Fly (sym is.1.flight) (each_stay P v.flight flies))
         (up_later (Ether DeliversFrames) acts v mid done up) outside)
     frames_come (Ether (ReceivesFrame other f) ∷ acts) v (mid, is, done) framed flies up outside =
-        heard_now j other f (host_at j v) (acts_of j mid acts last done) (heard_of j acts) outside
+        received_now j other f (host_at j v) (acts_of j mid acts last done) (frames_received_by j acts) outside
         (λ later. frames_come acts mid done framed.1 (subst (λ (w : SegmentView). Fly w.flight) (sym is.is) flies)
         (up_later (Ether (ReceivesFrame other f)) acts v mid done up) later)
     frames_come (Ether (QueriesError other fd fault) ∷ acts) v (mid, is, done) framed flies up outside =

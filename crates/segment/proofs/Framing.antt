@@ -142,70 +142,72 @@ below_none place R old now w past =
 -- ---- frames that come
 
 -- frames, and then others
-pub then_hear : (a b c : Host) (xs ys : List (List ℕ)) → ReceiveEach xs a b → ReceiveEach ys b c
+pub then_receive : (a b c : Host) (xs ys : List (List ℕ)) → ReceiveEach xs a b → ReceiveEach ys b c
     → ReceiveEach (xs ++ ys) a c
-then_hear a b c [] ys same later = subst (λ (h : Host). ReceiveEach ys h c) same later
-then_hear a b c (x ∷ xs) ys (mid, heard, rest) later = (mid, heard, then_hear mid b c xs ys rest later)
+then_receive a b c [] ys same later = subst (λ (h : Host). ReceiveEach ys h c) same later
+then_receive a b c (x ∷ xs) ys (mid, received, rest) later = (mid, received, then_receive mid b c xs ys rest later)
 
 -- the frame, if it's for the host at this place
-abbrev pub if_heard : ℕ → Mac → Flying → List (List ℕ)
-if_heard place mac f = cons_option (if frame_goes_to place mac f then Some f.packet else None) []
+abbrev pub if_received : ℕ → Mac → Flying → List (List ℕ)
+if_received place mac f = cons_option (if frame_goes_to place mac f then Some f.packet else None) []
 
-pub heard_next : (place : ℕ) (mac : Mac) (i : ℕ) (frames : List Frame) (frame : Frame) → i < length frames
+pub received_next : (place : ℕ) (mac : Mac) (i : ℕ) (frames : List Frame) (frame : Frame) → i < length frames
     → frame ≡ get_or frames i frame
     → frames_to place mac (map flying (take (i + 1) frames))
-    ≡ frames_to place mac (map flying (take i frames)) ++ if_heard place mac (flying frame)
-heard_next place mac i frames frame within is =
+    ≡ frames_to place mac (map flying (take i frames)) ++ if_received place mac (flying frame)
+received_next place mac i frames frame within is =
     ap (λ (fs : List Frame). frames_to place mac (map flying fs))
     (take_more frames i frame within ∙ ap (λ (f : Frame). take i frames ++ f ∷ []) (sym is))
     ∙ ap (frames_to place mac) (map-append flying (take i frames) (frame ∷ []))
     ∙ filter_map-append _ (map flying (take i frames)) (flying frame ∷ [])
 
-pub more_heard : (place : ℕ) (mac : Mac) (i : ℕ) (frames : List Frame) (frame : Frame) (a h k : Host)
+pub more_received : (place : ℕ) (mac : Mac) (i : ℕ) (frames : List Frame) (frame : Frame) (a h k : Host)
     → i < length frames → frame ≡ get_or frames i frame
     → ReceiveEach (frames_to place mac (map flying (take i frames))) a h
-    → ReceiveEach (if_heard place mac (flying frame)) h k
+    → ReceiveEach (if_received place mac (flying frame)) h k
     → ReceiveEach (frames_to place mac (map flying (take (i + 1) frames))) a k
-more_heard place mac i frames frame a h k within is before one =
-    subst (λ (fs : List (List ℕ)). ReceiveEach fs a k) (sym (heard_next place mac i frames frame within is))
-    (then_hear a h k (frames_to place mac (map flying (take i frames))) (if_heard place mac (flying frame)) before one)
+more_received place mac i frames frame a h k within is before one =
+    subst (λ (fs : List (List ℕ)). ReceiveEach fs a k) (sym (received_next place mac i frames frame within is))
+    (then_receive a h k (frames_to place mac (map flying (take i frames))) (if_received place mac (flying frame))
+    before one)
 
-pub hear_goes : (place : ℕ) (mac : Mac) (f : Flying) (h k u : Host) (bytes : List ℕ) → frame_goes_to place mac f ≡ true
+pub receive_goes : (place : ℕ) (mac : Mac) (f : Flying) (h k u : Host) (bytes : List ℕ) → frame_goes_to place mac f
+    ≡ true
     → bytes ≡ f.packet → u ≡ k → ReceiveEach (bytes ∷ []) h k
-    → ReceiveEach (if_heard place mac f) h u
-hear_goes place mac f h k u bytes is same end heard =
+    → ReceiveEach (if_received place mac f) h u
+receive_goes place mac f h k u bytes is same end received =
     subst (λ (b : Bool). ReceiveEach (cons_option (if b then Some f.packet else None) []) h u) (sym is)
     (subst (λ (p : List ℕ). ReceiveEach (p ∷ []) h u) same
-    (subst (λ (x : Host). ReceiveEach (bytes ∷ []) h x) (sym end) heard))
+    (subst (λ (x : Host). ReceiveEach (bytes ∷ []) h x) (sym end) received))
 
-pub hear_not : (place : ℕ) (mac : Mac) (f : Flying) (h k : Host) → frame_goes_to place mac f ≡ false → k ≡ h
-    → ReceiveEach (if_heard place mac f) h k
-hear_not place mac f h k is same =
+pub receive_not : (place : ℕ) (mac : Mac) (f : Flying) (h k : Host) → frame_goes_to place mac f ≡ false → k ≡ h
+    → ReceiveEach (if_received place mac f) h k
+receive_not place mac f h k is same =
     subst (λ (b : Bool). ReceiveEach (cons_option (if b then Some f.packet else None) []) h k) (sym is) same
 
 -- How many frames come, with one more looked at. `counted_next` in Taking has the same form for packets: frames go by a
 -- hardware address, packets by a configuration, so one lemma would take both tests as arguments.
-pub heard_counted : (place : ℕ) (mac : Mac) (i : ℕ) (frames : List Frame) (frame : Frame) (n m : ℕ) (goes : Bool)
+pub received_counted : (place : ℕ) (mac : Mac) (i : ℕ) (frames : List Frame) (frame : Frame) (n m : ℕ) (goes : Bool)
     → i < length frames → frame ≡ get_or frames i frame
     → n ≡ length (frames_to place mac (map flying (take i frames))) → goes ≡ frame_goes_to place mac (flying frame)
     → m ≡ cond goes (n + 1) n
     → m ≡ length (frames_to place mac (map flying (take (i + 1) frames)))
-heard_counted place mac i frames frame n m goes within is before test after = go goes test after
+received_counted place mac i frames frame n m goes within is before test after = go goes test after
   where
     all : length (frames_to place mac (map flying (take (i + 1) frames)))
-        ≡ length (frames_to place mac (map flying (take i frames))) + length (if_heard place mac (flying frame))
+        ≡ length (frames_to place mac (map flying (take i frames))) + length (if_received place mac (flying frame))
     all =
-        ap length (heard_next place mac i frames frame within is)
-        ∙ length-append (frames_to place mac (map flying (take i frames))) (if_heard place mac (flying frame))
+        ap length (received_next place mac i frames frame within is)
+        ∙ length-append (frames_to place mac (map flying (take i frames))) (if_received place mac (flying frame))
 
     go : (b : Bool) → b ≡ frame_goes_to place mac (flying frame) → m ≡ cond b (n + 1) n
         → m ≡ length (frames_to place mac (map flying (take (i + 1) frames)))
     go true e h =
-        let one : length (if_heard place mac (flying frame)) ≡ 1 =
+        let one : length (if_received place mac (flying frame)) ≡ 1 =
         ap (λ b. length (cons_option (cond b (Some (flying frame).packet) None) [])) (sym e) in
         omega (arith, all, before)
     go false e h =
-        let none : length (if_heard place mac (flying frame)) ≡ 0 =
+        let none : length (if_received place mac (flying frame)) ≡ 0 =
         ap (λ b. length (cons_option (cond b (Some (flying frame).packet) None) [])) (sym e) in
         omega (arith, all, before)
 

@@ -43,7 +43,8 @@ get_none (x ∷ xs) zero e = absurd (none-some _ (sym e))
 get_none (x ∷ xs) (suc k) e = omega (arith, get_none xs k e)
 
 -- a test that all elements pass
-pub all_pass : {X : Type 0} (p : X → Bool) (xs : List X) (k : ℕ) (x : X) → list_all p xs ≡ true → slice_get xs k ≡ Some x
+pub all_pass : {X : Type 0} (p : X → Bool) (xs : List X) (k : ℕ) (x : X) → list_all p xs ≡ true → slice_get xs k ≡ Some
+    x
     → p x ≡ true
 all_pass p [] k x all e = absurd (none-some _ e)
 all_pass p (y ∷ xs) zero x all e = subst (λ z. p z ≡ true) (same_Some y x e) (and_parts _ _ all).0
@@ -65,8 +66,8 @@ not_same a b t e = go (eqb_tells a b)
     go (inl h) = never (sym (ap not h.0) ∙ t)
     go (inr h) = h.1 e
 
-pub told_apart : (c d : Config) → are_apart c d ≡ true → AreApart c d
-told_apart c d t =
+pub from_are_apart : (c d : Config) → are_apart c d ≡ true → AreApart c d
+from_are_apart c d t =
     let first = and_parts _ _ t in
     let second = and_parts _ _ first.1 in
     record {
@@ -133,10 +134,10 @@ joined_fine d old new fine j = record {
         → (slice_get old.configs k ≡ Some b) ⊎ ((k ≡ length old.configs) × (d ≡ b)) → AreApart a b
     both i k a b h (inl e) (inl f) = fine.apart i k a b h e f
     both i k a b h (inl e) (inr f) =
-        turned b a (told_apart b a (subst (λ (x : Config). are_apart x a ≡ true) f.1
+        turned b a (from_are_apart b a (subst (λ (x : Config). are_apart x a ≡ true) f.1
         (all_pass (are_apart d) old.configs i a j.apart e)))
     both i k a b h (inr e) (inl f) =
-        told_apart a b (subst (λ (x : Config). are_apart x b ≡ true) e.1
+        from_are_apart a b (subst (λ (x : Config). are_apart x b ≡ true) e.1
         (all_pass (are_apart d) old.configs k b j.apart f))
     both i k a b h (inr e) (inr f) = absurd (h (e.0 ∙ sym f.0))
 

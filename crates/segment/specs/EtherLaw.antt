@@ -111,13 +111,13 @@ GoByFrames [] = Unit {0}
 GoByFrames (act ∷ acts) = GoesByFrames act × GoByFrames acts
 
 -- the frames from outside that arrived at the host at a place
-abbrev pub heard_in : ℕ → Act → List (List ℕ)
-heard_in place (Ether (ReceivesFrame other f)) = if other == place then f ∷ [] else []
-heard_in place _ = []
+abbrev pub frames_received_in : ℕ → Act → List (List ℕ)
+frames_received_in place (Ether (ReceivesFrame other f)) = if other == place then f ∷ [] else []
+frames_received_in place _ = []
 
-abbrev pub heard_of : ℕ → List Act → List (List ℕ)
-heard_of place [] = []
-heard_of place (act ∷ acts) = heard_in place act ++ heard_of place acts
+abbrev pub frames_received_by : ℕ → List Act → List (List ℕ)
+frames_received_by place [] = []
+frames_received_by place (act ∷ acts) = frames_received_in place act ++ frames_received_by place acts
 
 -- Two hosts of an Ethernet segment, and all that was done since it had no hosts. The first has sent fewer than 65,536
 -- times, and neither a frame from outside nor a call brought the second a UDP packet with the first's address as its
@@ -131,5 +131,5 @@ pub record AreOnEtherSegment (room i j : ℕ) (first second : Config) (s t : Hos
   pub first_host : host_at i last ≡ Some s
   pub second_host : host_at j last ≡ Some t
   pub few : value_of IpLocalout s.machine.counters < 2 ^ 16
-  pub heard : All (λ f. ¬ ComesFrom first.addr (body_of f)) (heard_of j acts)
+  pub received : All (λ f. ¬ ComesFrom first.addr (body_of f)) (frames_received_by j acts)
   pub handed : All (λ packet. ¬ ComesFrom first.addr packet) (packets_handed (acts_of j (no_hosts room) acts last done))

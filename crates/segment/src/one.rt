@@ -136,7 +136,7 @@ impl Segment {
     /// The neighbours of the host at a place. `None` if there is no such host on an Ethernet.
     pub fn neighbours(&self, place: usize) -> Option<&[Neighbour]>
         ensures { MatchOption result (slice_get (view self.now).links place ≡ None)
-            (λ told. option_map (λ l. l.neighbours) (slice_get (view self.now).links place) ≡ Some told.now) }
+            (λ reported. option_map (λ l. l.neighbours) (slice_get (view self.now).links place) ≡ Some reported.now) }
     {
         let link = self.links.get(place)?;
         Some(link.neighbours())

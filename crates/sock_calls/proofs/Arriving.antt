@@ -35,9 +35,9 @@ use Rattle.sock_calls.proofs.Delivered.{freed, freed_accounts, ends_here, shows_
 use Rattle.sock_calls.proofs.Copies.{named_is}
 
 -- ---- weights
-pub laid_weight : (es : List Entry) → flat.weight_of (layout_entries es) ≡ entries_weight es
-laid_weight [] = refl
-laid_weight (e ∷ es) = go e.cluster (laid_weight es)
+pub placed_weight : (es : List Entry) → flat.weight_of (layout_entries es) ≡ entries_weight es
+placed_weight [] = refl
+placed_weight (e ∷ es) = go e.cluster (placed_weight es)
   where
     go : (o : Option ℕ) → flat.weight_of (layout_entries es) ≡ entries_weight es
         → flat.weight_of (layout_entries (record { bytes = e.bytes; start = e.start; cluster = o } ∷ es))
@@ -50,7 +50,7 @@ kept_weight : {p q : PoolView} {c d : ℕ} {h : IpHead} {t : Table} {to : List �
 kept_weight {p} {q} {c} {d} is =
     ap (λ (k : ℕ). entries_weight (chain_of q k).entries) is.same
     ∙ ap (λ (v : ChainView). entries_weight v.entries) (shown_with p q c _ is.chain)
-    ∙ sym (laid_weight _) ∙ data_weight _ (chain_of p c) ∙ laid_weight (chain_of p c).entries
+    ∙ sym (placed_weight _) ∙ data_weight _ (chain_of p c) ∙ placed_weight (chain_of p c).entries
 
 -- ---- the sockets that match it
 pub sockets_are : (f : Queues) (t : Table) (found : List Block) → Each (λ (b : Block). block_at b.fd t ≡ Some b) found

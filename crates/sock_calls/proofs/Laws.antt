@@ -7,7 +7,7 @@ pub use Rattle.sock_calls.proofs.Frames.{keeps_trans}
 -- What the receive queues weigh is what their chains weigh.
 pub use Rattle.sock_calls.proofs.Weights.{queue_weight, socks_weigh}
 -- A chain has the weight of its layout.
-pub use Rattle.sock_calls.proofs.Arriving.{laid_weight}
+pub use Rattle.sock_calls.proofs.Arriving.{placed_weight}
 -- A chain that loses bytes at an end weighs what it weighed.
 pub use Rattle.sock_calls.proofs.Storing.{only_weighs, without_weighs}
 -- A packet whose datagram has a fault is dropped.

@@ -43,7 +43,7 @@ packets_fit {p} {q} {chain} {mtu} {way} c x routed fits free b way_is mtu_is lac
       arith,
       lacks,
       same,
-      need_is_way c x.to.ip n v b.clusters routed fits b.lies.laid b.lies.size,
+      need_is_way c x.to.ip n v b.clusters routed fits b.lies.placed b.lies.size,
       has_mbufs p c x.to.ip n free,
       b.lies.held,
       makes_mbufs m,
@@ -83,7 +83,8 @@ packets_made {p} {q} {r} {chain} {mtu} {way} {head} {o} {u} {made} c x b way_is 
     held plain queue moves =
     let v : ChainView = chain_of q chain in
     let items_are : packets_of v head mtu ≡ sending.packets c b.clusters x =
-    (λ i. packets_of v (head_is i) (mtu_is i)) ∙ packets_sent c b.clusters x v b.lies.laid (omega (arith, b.lies.size))
+    (λ i. packets_of v (head_is i) (mtu_is i)) ∙ packets_sent c b.clusters x v b.lies.placed
+    (omega (arith, b.lies.size))
     b.datagram in
     let size : length (string v) - 20 ≡ length (sending.datagram x) =
     omega (arith, length-drop 20 (string v), ap (λ (xs : List ℕ). length xs) b.datagram) in

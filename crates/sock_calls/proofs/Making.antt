@@ -3,7 +3,7 @@ use Rattle.std.proofs.Common.{◌≡◌, ℕ, suc, ◌+◌, ◌≤◌, Bool, tru
 use Rattle.std.proofs.lemmas.List.{length-map, length-append, length-drop}
 use Rattle.std.proofs.Math.Seq.{drop-append_seam}
 use Rattle.flat_model.specs.Amounts.Layout as flat
-use Rattle.flat_model.specs.Amounts.Layout.{is_cluster, user, sent, laid_on}
+use Rattle.flat_model.specs.Amounts.Layout.{is_cluster, user, sent, entries_on}
 use Rattle.mbuf_chain.specs.Chain.{Entry, ChainView, PoolView, alone, chain_of, string, without}
 use Rattle.mbuf_chain.proofs.Laws.Steps.{adds_undone}
 use Rattle.chain_ops.specs.Makes.{Makes, LacksMbufs}
@@ -14,7 +14,7 @@ use Rattle.chain_ops.proofs.Laws.Makes.{makes_held, makes_mbufs, makes_as}
 use Rattle.ip_out.specs.Packets.{IsDatagramChain}
 use Rattle.ip_out.proofs.Laws.{datagram_sent}
 use Rattle.sock_calls.specs.Inside.Putting.{IsSendLaidOut, IsStored}
-use Rattle.sock_calls.proofs.SentRooms.{beside, laid_count}
+use Rattle.sock_calls.proofs.SentRooms.{beside, placed_count}
 
 -- ---- the bytes in buffers of their own
 abbrev pub Stores : PoolView → List ℕ → PoolView → ℕ → Type 0
@@ -29,23 +29,23 @@ SentLayout = (cs xs hs : List ℕ) → length cs ≡ count_by is_cluster (user (
       front = alone true;
       entries = stored_first 56 true cs (user (length xs)) xs;
       cells = [];
-    }) hs) ≡ laid_on cs (sent (length xs))
+    }) hs) ≡ entries_on cs (sent (length xs))
 
 pub no_lack : (p : PoolView) (n : ℕ) → Has p (sent n) → Lacks p (user n) → ⊥
 no_lack p n has (inl few) = omega (arith, has.0, few, (beside n).mbufs)
 no_lack p n has (inr few) = omega (arith, has.1, few, (beside n).clusters)
 
-laid_there : {p q : PoolView} {d : ℕ} (bytes hs : List ℕ) → SentLayout → (s : Stores p bytes q d) → length hs ≡ 28
-    → layout_entries (prepended (chain_of q d) hs) ≡ laid_on s.0 (sent (length bytes))
-laid_there {p} {q} {d} bytes hs law s len = ap layout_entries
+placed_there : {p q : PoolView} {d : ℕ} (bytes hs : List ℕ) → SentLayout → (s : Stores p bytes q d) → length hs ≡ 28
+    → layout_entries (prepended (chain_of q d) hs) ≡ entries_on s.0 (sent (length bytes))
+placed_there {p} {q} {d} bytes hs law s len = ap layout_entries
     (λ i. prepended (record { front = s.3.front i; entries = s.3.entries i; cells = [] }) hs) ∙ law s.0 bytes hs s.2 len
 
 count_there : {p q : PoolView} {d : ℕ} (bytes hs : List ℕ) → SentLayout → Stores p bytes q d → length hs ≡ 28
     → length (prepended (chain_of q d) hs) ≡ length (sent (length bytes))
 count_there {p} {q} {d} bytes hs law s len =
     sym (length-map (prepended (chain_of q d) hs) _)
-    ∙ ap (λ (es : List flat.LayoutEntry). length es) (laid_there bytes hs law s len)
-    ∙ laid_count s.0 (sent (length bytes))
+    ∙ ap (λ (es : List flat.LayoutEntry). length es) (placed_there bytes hs law s len)
+    ∙ placed_count s.0 (sent (length bytes))
 
 prepend_few : (v : ChainView) (hs : List ℕ) → prepend_need v (length hs) + length v.entries ≤ length (prepended v hs)
 prepend_few v hs = go (has_front v (length hs)) _ _ (omega (arith, length-drop 1 v.entries))
@@ -93,7 +93,7 @@ stored_is {p} {q} {r} {d} {d'} bytes hs law s is len m string_is =
         free = s.1;
         made = made.adds;
         headed = ap (λ f. f.header) made.front ∙ headed_front (chain_of q d) (length hs) s.3.front;
-        laid = ap layout_entries made.entries ∙ laid_there bytes hs law s len;
+        placed = ap layout_entries made.entries ∙ placed_there bytes hs law s len;
         size = omega (arith, ap (λ (xs : List ℕ). length xs) whole, length-append hs bytes, len);
         held = omega (
           arith,
@@ -108,4 +108,4 @@ stored_is {p} {q} {r} {d} {d'} bytes hs law s is len m string_is =
 -- ---- the UDP header written into it
 pub ready : {p q : PoolView} {cs : List ℕ} {n c : ℕ} → IsSendLaidOut p n cs q c → n ≤ 9216
     → IsDatagramChain (chain_of q c)
-ready {p} {q} {cs} {n} {c} l most = datagram_sent (chain_of q c) cs n l.headed l.laid (omega (arith, l.size, most))
+ready {p} {q} {cs} {n} {c} l most = datagram_sent (chain_of q c) cs n l.headed l.placed (omega (arith, l.size, most))

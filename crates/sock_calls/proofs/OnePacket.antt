@@ -5,7 +5,7 @@ use Rattle.std.proofs.lemmas.Bool.{cond-true, cond-false, le-leb, lt-leb, ne_eqb
 use Rattle.std.proofs.lemmas.List.{append-nil, drop-append-le, length-append, length-map}
 use Rattle.std.proofs.Math.Seq.{drop-append_seam}
 use Rattle.flat_model.specs.Amounts.Layout as flat
-use Rattle.flat_model.specs.Amounts.Layout.{Room, Plain, Cluster, is_cluster, laid_on, need, need_bcast, need_of_part, sent}
+use Rattle.flat_model.specs.Amounts.Layout.{Room, Plain, Cluster, is_cluster, entries_on, need, need_bcast, need_of_part, sent}
 use Rattle.flat_model.specs.Machine.Send.{need_to}
 use Rattle.flat_model.specs.Machine.Sending as sending
 use Rattle.flat_model.specs.Machine.Sending.{is_looped, mtu_to}
@@ -21,7 +21,7 @@ use Rattle.chain_ops.specs.Weights.{layout_entries}
 use Rattle.chain_ops.proofs.Laws.Rooms.{one_cluster}
 use Rattle.ip_out.specs.declared.ways.Way.{Way}
 use Rattle.sock_calls.specs.Inside.Putting.{IsBuilt, IsSendLaidOut, IsStored, way_of}
-use Rattle.sock_calls.proofs.SentRooms.{laid_count}
+use Rattle.sock_calls.proofs.SentRooms.{placed_count}
 
 -- ---- the buffers that it needs
 
@@ -88,7 +88,7 @@ entry xs start o = record { bytes = xs; start = start; cluster = o }
 
 lies : {p q : PoolView} {c : ℕ} (v : ChainView) (cs : List ℕ) (n : ℕ) → Adds p q c v → v.front.header ≡ true
     → length cs ≡ count_by is_cluster (sent n) → AreFree p cs
-    → layout_entries v.entries ≡ laid_on cs (sent n) → length (string v) ≡ n + 28 → IsSendLaidOut p n cs q c
+    → layout_entries v.entries ≡ entries_on cs (sent n) → length (string v) ≡ n + 28 → IsSendLaidOut p n cs q c
 lies {p} {q} {c} v cs n adds headed number free is size =
     let shown : chain_of q c ≡ v = shown_adds adds in
     record {
@@ -96,7 +96,7 @@ lies {p} {q} {c} v cs n adds headed number free is size =
       free = free;
       made = subst (λ (w : ChainView). Adds p q c w) (sym shown) adds;
       headed = ap (λ (w : ChainView). w.front.header) shown ∙ headed;
-      laid = ap (λ (w : ChainView). layout_entries w.entries) shown ∙ is;
+      placed = ap (λ (w : ChainView). layout_entries w.entries) shown ∙ is;
       size = ap (λ (w : ChainView). length (string w)) shown ∙ size;
       held = omega (
         arith,
@@ -104,7 +104,7 @@ lies {p} {q} {c} v cs n adds headed number free is size =
         length-map {B = flat.LayoutEntry} v.entries
             (λ (e : Entry). record { size = length e.bytes; cluster = e.cluster }),
         ap (λ (es : List flat.LayoutEntry). length es) is,
-        laid_count cs (sent n),
+        placed_count cs (sent n),
       );
     }
 
@@ -125,7 +125,7 @@ one_free p k within none = record {
 -- in the mbuf itself
 pub stored_plain : {p q : PoolView} {c : ℕ} (hs xs : List ℕ) (start : ℕ) → length hs ≡ 28 → length xs ≤ 72
     → Adds p q c (one_mbuf true (entry (hs ++ xs) start None) c) → IsStored p xs q c
-unfolding laid_on
+unfolding entries_on
 stored_plain {p} {q} {c} hs xs start len few adds =
     let v : ChainView = one_mbuf true (entry (hs ++ xs) start None) c in
     let rooms = small_rooms (length xs) few in
@@ -135,7 +135,7 @@ stored_plain {p} {q} {c} hs xs start len few adds =
       clusters = [];
       lies = lies v [] (length xs) adds refl (sym (ap (count_by is_cluster) rooms))
           (record { exist = tt; free = tt; once = λ k. omega arith })
-          ((λ i. record { size = size i; cluster = None } ∷ []) ∙ sym (ap (laid_on []) rooms))
+          ((λ i. record { size = size i; cluster = None } ∷ []) ∙ sym (ap (entries_on []) rooms))
           (omega (arith, ap (λ (ys : List ℕ). length ys) whole, size));
       holds = data_of hs xs (string (chain_of q c)) len (ap string (shown_adds adds) ∙ whole);
     }
@@ -152,7 +152,7 @@ pub stored_cluster : {p q : PoolView} {c k : ℕ} (hs xs : List ℕ) (start : �
       entries = entry hs start None ∷ entry xs 56 (Some k) ∷ [];
       cells = cells;
     }) → IsStored p xs q c
-unfolding laid_on
+unfolding entries_on
 stored_cluster {p} {q} {c} {k} hs xs start cells len many most within none adds =
     let v : ChainView = record {
       front = alone true;
@@ -165,7 +165,7 @@ stored_cluster {p} {q} {c} {k} hs xs start cells len many most within none adds 
       clusters = k ∷ [];
       lies = lies v (k ∷ []) (length xs) adds refl (sym (ap (count_by is_cluster) rooms)) (one_free p k within none)
           ((λ i. record { size = len i; cluster = None } ∷ record { size = length xs; cluster = Some k } ∷ [])
-          ∙ sym (ap (laid_on (k ∷ [])) rooms))
+          ∙ sym (ap (entries_on (k ∷ [])) rooms))
           (omega (arith, ap (λ (ys : List ℕ). length ys) whole, length-append hs xs, len));
       holds = data_of hs xs (string (chain_of q c)) len (ap string (shown_adds adds) ∙ whole);
     }

@@ -6,7 +6,7 @@ use Rattle.std.proofs.lemmas.List.{length-map}
 use Rattle.std.proofs.lemmas.List.Sums.{sum_by-cons}
 use Rattle.flat_model.specs.Fragments.Cuts.{Part, cuts}
 use Rattle.flat_model.specs.Amounts.Layout as flat
-use Rattle.flat_model.specs.Amounts.Layout.{Room, Plain, Cluster, size_of, is_cluster, filled, next_room, or_empty, user, sent, laid_on, meets_from, meets, entries_met, need_of_part, need, need_bcast}
+use Rattle.flat_model.specs.Amounts.Layout.{Room, Plain, Cluster, size_of, is_cluster, filled, next_room, or_empty, user, sent, entries_on, meets_from, meets, entries_met, need_of_part, need, need_bcast}
 use Rattle.flat_model.specs.Machine.Send.{need_to}
 use Rattle.flat_model.specs.Machine.Sending.{is_looped, mtu_to}
 use Rattle.flat_model.specs.declared.config.Config.{Config}
@@ -21,14 +21,14 @@ use Rattle.ledger.proofs.Laws.{enough_mbufs}
 use Rattle.sock_calls.specs.Inside.Putting.{IsRouted, way_of}
 
 -- ---- layouts, and the mbufs with these layouts
-pub laid_count : (cs : List ℕ) (rooms : List Room) → length (laid_on cs rooms) ≡ length rooms
-unfolding laid_on
-laid_count [] [] = refl
-laid_count (c ∷ cs) [] = refl
-laid_count [] (Plain n ∷ rooms) = ap suc (laid_count [] rooms)
-laid_count (c ∷ cs) (Plain n ∷ rooms) = ap suc (laid_count (c ∷ cs) rooms)
-laid_count [] (Cluster n ∷ rooms) = ap suc (laid_count [] rooms)
-laid_count (c ∷ cs) (Cluster n ∷ rooms) = ap suc (laid_count cs rooms)
+pub placed_count : (cs : List ℕ) (rooms : List Room) → length (entries_on cs rooms) ≡ length rooms
+unfolding entries_on
+placed_count [] [] = refl
+placed_count (c ∷ cs) [] = refl
+placed_count [] (Plain n ∷ rooms) = ap suc (placed_count [] rooms)
+placed_count (c ∷ cs) (Plain n ∷ rooms) = ap suc (placed_count (c ∷ cs) rooms)
+placed_count [] (Cluster n ∷ rooms) = ap suc (placed_count [] rooms)
+placed_count (c ∷ cs) (Cluster n ∷ rooms) = ap suc (placed_count cs rooms)
 
 -- one more mbuf, which overlaps the range or doesn't
 met_one : (at a b n : ℕ) (e : flat.LayoutEntry) (es : List flat.LayoutEntry) (room : Room) (rooms : List Room)
@@ -59,23 +59,23 @@ met_none : (at a b : ℕ) → length (meets_from (λ (x : flat.LayoutEntry). x.s
 unfolding meets_from
 met_none at a b = refl
 
-met_laid : (cs : List ℕ) (rooms : List Room) (a b at : ℕ)
-    → length (meets_from (λ (x : flat.LayoutEntry). x.size) at (laid_on cs rooms) a b)
+met_placed : (cs : List ℕ) (rooms : List Room) (a b at : ℕ)
+    → length (meets_from (λ (x : flat.LayoutEntry). x.size) at (entries_on cs rooms) a b)
     ≡ length (meets_from size_of at rooms a b)
-unfolding laid_on
-met_laid [] [] a b at = met_none at a b
-met_laid (c ∷ cs) [] a b at = met_none at a b
-met_laid [] (Plain n ∷ rooms) a b at = met_one at a b n (record { size = n; cluster = None }) (laid_on [] rooms)
-    (Plain n) rooms refl (met_laid [] rooms a b)
-met_laid (c ∷ cs) (Plain n ∷ rooms) a b at = met_one at a b n (record { size = n; cluster = None })
-    (laid_on (c ∷ cs) rooms) (Plain n) rooms refl (met_laid (c ∷ cs) rooms a b)
-met_laid [] (Cluster n ∷ rooms) a b at = met_one at a b n (record { size = n; cluster = None }) (laid_on [] rooms)
-    (Cluster n) rooms refl (met_laid [] rooms a b)
-met_laid (c ∷ cs) (Cluster n ∷ rooms) a b at = met_one at a b n (record { size = n; cluster = Some c })
-    (laid_on cs rooms) (Cluster n) rooms refl (met_laid cs rooms a b)
+unfolding entries_on
+met_placed [] [] a b at = met_none at a b
+met_placed (c ∷ cs) [] a b at = met_none at a b
+met_placed [] (Plain n ∷ rooms) a b at = met_one at a b n (record { size = n; cluster = None }) (entries_on [] rooms)
+    (Plain n) rooms refl (met_placed [] rooms a b)
+met_placed (c ∷ cs) (Plain n ∷ rooms) a b at = met_one at a b n (record { size = n; cluster = None })
+    (entries_on (c ∷ cs) rooms) (Plain n) rooms refl (met_placed (c ∷ cs) rooms a b)
+met_placed [] (Cluster n ∷ rooms) a b at = met_one at a b n (record { size = n; cluster = None }) (entries_on [] rooms)
+    (Cluster n) rooms refl (met_placed [] rooms a b)
+met_placed (c ∷ cs) (Cluster n ∷ rooms) a b at = met_one at a b n (record { size = n; cluster = Some c })
+    (entries_on cs rooms) (Cluster n) rooms refl (met_placed cs rooms a b)
 
 -- ---- the buffers of the later fragments
-parts_need : (v : ChainView) (cs : List ℕ) (rooms : List Room) → layout_entries v.entries ≡ laid_on cs rooms
+parts_need : (v : ChainView) (cs : List ℕ) (rooms : List Room) → layout_entries v.entries ≡ entries_on cs rooms
     → (ps : List Part)
     → sum_by (part_need v) ps ≡ sum_by (need_of_part rooms) ps
 parts_need v cs rooms is [] = refl
@@ -83,7 +83,7 @@ parts_need v cs rooms is (p ∷ ps) =
     let here : length (entries_met (layout_entries v.entries) (20 + p.offset) (20 + p.offset + p.size))
     ≡ length (meets rooms (20 + p.offset) (20 + p.offset + p.size)) =
     ap (λ (es : List flat.LayoutEntry). length (entries_met es (20 + p.offset) (20 + p.offset + p.size))) is
-    ∙ met_laid cs rooms (20 + p.offset) (20 + p.offset + p.size) 0 in
+    ∙ met_placed cs rooms (20 + p.offset) (20 + p.offset + p.size) 0 in
     omega (
       arith,
       here,
@@ -92,7 +92,7 @@ parts_need v cs rooms is (p ∷ ps) =
       sum_by-cons (need_of_part rooms) p ps,
     )
 
-pub later_is : (v : ChainView) (cs : List ℕ) (n mtu : ℕ) → layout_entries v.entries ≡ laid_on cs (sent n)
+pub later_is : (v : ChainView) (cs : List ℕ) (n mtu : ℕ) → layout_entries v.entries ≡ entries_on cs (sent n)
     → length (string v) ≡ n + 28 → later_need v mtu ≡ sum_by (need_of_part (sent n)) (drop 1 (cuts (n + 8) mtu))
 later_is v cs n mtu is size =
     let carried : length (string v) - 20 ≡ n + 8 = omega (arith, size) in
@@ -170,12 +170,12 @@ has_mbufs p c ip n h = enough_mbufs p (need_to c ip n).mbufs (need_to c ip n).cl
 
 -- ---- a send needs the buffers of its datagram and of its further packets
 pub need_is_way : (c : Config) (ip n : ℕ) (v : ChainView) (cs : List ℕ) → IsRouted c → (ip ≡ c.bcast → n + 28 ≤ c.mtu)
-    → layout_entries v.entries ≡ laid_on cs (sent n) → length (string v) ≡ n + 28
+    → layout_entries v.entries ≡ entries_on cs (sent n) → length (string v) ≡ n + 28
     → (need_to c ip n).mbufs ≡ length (sent n) + way_need (way_of c ip) v (mtu_to c ip)
 need_is_way c ip n v cs routed fits is size = go (ip == c.bcast) refl (is_looped c ip) refl
   where
     count : length v.entries ≡ length (sent n)
-    count = sym (length-map v.entries _) ∙ ap (λ (es : List flat.LayoutEntry). length es) is ∙ laid_count cs (sent n)
+    count = sym (length-map v.entries _) ∙ ap (λ (es : List flat.LayoutEntry). length es) is ∙ placed_count cs (sent n)
 
     not_looped : (ip == c.bcast) ≡ true → is_looped c ip ≡ false
     not_looped e =

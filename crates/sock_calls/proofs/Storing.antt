@@ -7,7 +7,7 @@ use Rattle.std.proofs.lemmas.List.{length-map}
 use Rattle.std.proofs.lemmas.List.Elements.{recursion_from_All, All-from_recursion}
 use Rattle.flat_model.specs.Amounts.Weight.{Weight, Item, nothing, ◌⊕◌}
 use Rattle.flat_model.specs.Amounts.Layout as flat
-use Rattle.flat_model.specs.Amounts.Layout.{is_cluster, laid_on, need_of, wire}
+use Rattle.flat_model.specs.Amounts.Layout.{is_cluster, entries_on, need_of, wire}
 use Rattle.flat_model.specs.Machine.State.{State, Socket, Unfinished, ends}
 use Rattle.flat_model.specs.Machine.Count.{counted}
 use Rattle.flat_model.specs.Machine.Ledger.{AreTaken, IsFree, exact_ledger}
@@ -39,7 +39,7 @@ use Rattle.sock_calls.specs.Delivery.{IsDelivered, seen, sockets_named}
 use Rattle.ip_out.specs.Headed.{carried_of}
 use Rattle.sock_calls.specs.Whole.{ArrivesWhole, DeliversWhole}
 use Rattle.sock_calls.specs.Inside.Storing.{IsDataStored, data_of}
-use Rattle.sock_calls.proofs.Arriving.{all_open, laid_weight, sockets_are}
+use Rattle.sock_calls.proofs.Arriving.{all_open, placed_weight, sockets_are}
 use Rattle.sock_calls.proofs.Delivered.{ends_accounted, shows_same}
 use Rattle.sock_calls.proofs.Frames.{Kept, kept}
 use Rattle.sock_calls.proofs.Going.{bag_of_times, free_each}
@@ -67,23 +67,25 @@ without_weighs n (e ∷ es) =
 pub data_stored : {p q r s : PoolView} {c : ℕ} {packet clusters : List ℕ} (end : ℕ) → AreFree p clusters
     → length clusters ≡ count_by is_cluster (wire (length packet))
     → Makes p q c (alone true) (stored_first 0 false clusters (wire (length packet)) packet)
-    → layout_entries (stored_first 0 false clusters (wire (length packet)) packet) ≡ laid_on clusters (wire (length packet))
+    → layout_entries (stored_first 0 false clusters (wire (length packet)) packet) ≡ entries_on clusters
+    (wire (length packet))
     → string (chain_of q c) ≡ packet
     → r ≡ with_chain q c (record (chain_of q c) { entries = only_first end (chain_of q c).entries })
     → s ≡ with_chain r c (record (chain_of r c) { entries = without_first 28 (chain_of r c).entries })
     → IsDataStored p packet end s c
 data_stored {p} {q} {r} {s} {c} {packet} {clusters} end free number made layout bytes cut off =
     let es : List Entry = (chain_of q c).entries in
-    let shorter : (chain_of r c).entries ≡ only_first end es = ap (λ (v : ChainView). v.entries) (shown_with q r c _ cut) in
+    let shorter : (chain_of r c).entries ≡ only_first end es = ap (λ (v : ChainView). v.entries)
+    (shown_with q r c _ cut) in
     let rest : (chain_of s c).entries ≡ without_first 28 (chain_of r c).entries =
     ap (λ (v : ChainView). v.entries) (shown_with r s c _ off) in
     let bytes_are : string (chain_of s c) ≡ drop 28 (take end packet) =
     ap flat_bytes rest ∙ without_first_bytes 28 (chain_of r c).entries
     ∙ ap (drop 28) (ap flat_bytes shorter ∙ only_first_bytes end es ∙ ap (take end) bytes) in
-    let weighs : weight_at s c ≡ flat.weight_of (laid_on clusters (wire (length packet))) =
+    let weighs : weight_at s c ≡ flat.weight_of (entries_on clusters (wire (length packet))) =
     ap entries_weight rest ∙ without_weighs 28 (chain_of r c).entries
     ∙ ap entries_weight shorter ∙ only_weighs end es
-    ∙ ap entries_weight made.entries ∙ sym (laid_weight _) ∙ ap flat.weight_of layout in
+    ∙ ap entries_weight made.entries ∙ sym (placed_weight _) ∙ ap flat.weight_of layout in
     let came : Moves p [] q (c ∷ []) = moves_adds made.adds in
     let came_cut : Moves p [] r (c ∷ []) = then_with r c _ [] came (λ k. omega arith) cut in
     record {
@@ -241,7 +243,7 @@ ends_whole {p} {t} {bs} {us} {xs} {c} {e} {end} {packet} {from} {to} why socks c
       step = λ rest a.
           let old : State = with_net p s us c rest in
           let free = some_free p old (need_of (wire (length packet))).clusters a has.1 in
-          let w : Weight = flat.weight_of (laid_on free.0 (wire (length packet))) in (
+          let w : Weight = flat.weight_of (entries_on free.0 (wire (length packet))) in (
             free.0,
             free.1,
             subst (λ (new : State). ArrivesWhole packet (record { bytes = carried_of packet; weight = w }) old new)
@@ -303,7 +305,8 @@ pub full_ends : {p : PoolView} {t : Table} {bs : List SockBufView} {us : List Un
     → e ≡ counted UdpFullSocket c
     → DeliversWhole (seen p (record { pcbs = t; queues = bs }) us xs c) packet
     (seen p (record { pcbs = t; queues = bs }) us xs e)
-full_ends {p} {t} {bs} {us} {xs} {fds} {c} {e} {end} {fd} {packet} {from} {to} socks checked matching one has over is_e =
+full_ends {p} {t} {bs} {us} {xs} {fds} {c} {e} {end} {fd} {packet} {from} {to} socks checked matching one has over
+    is_e =
     ends_whole UdpFullSocket socks checked has is_e (λ rest w.
     let old : State = with_net p (record { pcbs = t; queues = bs }) us c rest in
     let item : Item = record { bytes = drop 28 (take end packet); weight = w } in

@@ -11,7 +11,7 @@ use Rattle.flat_model.specs.declared.counters.Why.{Why}
 use Rattle.flat_model.specs.declared.counters.Why.TheVariants.{NoProtocol, UdpFullSocket, UdpNoPort, UdpNoPortBroadcast}
 use Rattle.flat_model.specs.Amounts.Weight.{Weight, Item, nothing, ◌⊕◌, times as bag_times}
 use Rattle.flat_model.specs.Amounts.Layout as flat
-use Rattle.flat_model.specs.Amounts.Layout.{Room, is_cluster, laid_on, wire}
+use Rattle.flat_model.specs.Amounts.Layout.{Room, is_cluster, entries_on, wire}
 use Rattle.flat_model.specs.Packets.Header.{head_of, u16_at, udp_fault}
 use Rattle.flat_model.specs.Sockets.Fits.{fits}
 use Rattle.flat_model.specs.Sockets.Lookup.{best, receivers}
@@ -43,10 +43,10 @@ record IsBag (p : PoolView) (is_large : Bool) (o : Option ℕ) (n : ℕ) : Type 
   exist : Each (λ (c : ℕ). c < p.clusters) (bag_of o)
   free : Each (λ (c : ℕ). references p c ≡ 0) (bag_of o)
   once : (c : ℕ) → bag_times c (bag_of o) ≤ 1
-  weight : flat.weight_of (laid_on (bag_of o) (one_room is_large n ∷ [])) ≡ record { mbufs = 1; bag = bag_of o }
+  weight : flat.weight_of (entries_on (bag_of o) (one_room is_large n ∷ [])) ≡ record { mbufs = 1; bag = bag_of o }
 
 bag : (p : PoolView) (is_large : Bool) (o : Option ℕ) (n : ℕ) → IsTaken p is_large o → IsBag p is_large o n
-unfolding laid_on
+unfolding entries_on
 bag p true None n h = absurd h
 bag p true (Some c) n h = record {
   number = refl;
@@ -73,13 +73,15 @@ bag p false (Some c) n h = absurd h
 -- ---- what happens to a checked packet
 
 -- The packet arrives if its data are delivered, whichever buffers it takes.
-pub arrives_as : (packet : List ℕ) (end : ℕ) (from to : Addr) (w : Weight) (old new : State) → IsChecked packet end from to
+pub arrives_as : (packet : List ℕ) (end : ℕ) (from to : Addr) (w : Weight) (old new : State) → IsChecked packet end
+    from to
     → GoesTo exact_ledger nothing from (record { bytes = drop 28 (take end packet); weight = w }) to.ip
     (matching_sockets old to.ip (packet_key to.ip to.port from)) old new
     → ArrivesWhole packet (record { bytes = carried_of packet; weight = w }) old new
 arrives_as packet end from to w old new is one =
     let s : List ℕ = carried_of packet in
-    let two = subst (λ (n : ℕ). GoesTo exact_ledger nothing from (record { bytes = drop 28 (take end packet); weight = w })
+    let two = subst
+    (λ (n : ℕ). GoesTo exact_ledger nothing from (record { bytes = drop 28 (take end packet); weight = w })
     to.ip (matching_sockets old to.ip (packet_key to.ip n from)) old new) (sym is.port) one in
     let three = subst (λ (n : ℕ). GoesTo exact_ledger nothing (record { ip = from.ip; port = n })
     (record { bytes = drop 28 (take end packet); weight = w }) to.ip
@@ -221,9 +223,10 @@ module _ (p q : PoolView) (t : Table) (bs cs : List SockBufView) (packet : List 
 
   arrives : ArrivesWhole packet (carried_item (bag_of is.cluster) packet) old new
   arrives =
-      let weighs : flat.weight_of (laid_on (bag_of is.cluster) (wire (length packet))) ≡ w =
-      ap (λ (rooms : List Room). flat.weight_of (laid_on (bag_of is.cluster) rooms)) is.has.room ∙ is_bag.weight in
-      subst (λ (x : Weight). ArrivesWhole packet (record { bytes = carried_of packet; weight = x }) old new) (sym weighs)
+      let weighs : flat.weight_of (entries_on (bag_of is.cluster) (wire (length packet))) ≡ w =
+      ap (λ (rooms : List Room). flat.weight_of (entries_on (bag_of is.cluster) rooms)) is.has.room ∙ is_bag.weight in
+      subst (λ (x : Weight). ArrivesWhole packet (record { bytes = carried_of packet; weight = x }) old new)
+      (sym weighs)
       (arrives_as packet end from to w old new is.checked
       (subst (λ (l : List Socket). GoesTo exact_ledger nothing from data_of to.ip l old new)
       (sym (matched p t bs packet end from to is.checked is.one rest is.found)) appends))

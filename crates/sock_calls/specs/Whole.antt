@@ -3,7 +3,7 @@
 -- is this project's own).
 use Rattle.std.specs.Prelude.{◌≡◌, ℕ, ◌+◌, ◌≤◌, Bool, true, false, if◌then◌else◌, List, [], ◌∷◌, length, Result, Ok, Err}
 use Rattle.params.specs.declared.TheConstants.{MCLBYTES, MHLEN, MINCLSIZE}
-use Rattle.flat_model.specs.Amounts.Layout.{Room as LaidRoom, Plain, Cluster, laid_on, need_of, weight_of, wire}
+use Rattle.flat_model.specs.Amounts.Layout.{Room as LayoutRoom, Plain, Cluster, entries_on, need_of, weight_of, wire}
 use Rattle.flat_model.specs.Amounts.Weight.{Item, Weight, nothing}
 use Rattle.flat_model.specs.Packets.Header.{head_of}
 use Rattle.flat_model.specs.Machine.State.{State, ends}
@@ -23,7 +23,7 @@ use Rattle.sock_calls.specs.Delivery.{IsAccountedAt, KeepsParts, NetView, state_
 -- ---- the buffers of a packet
 
 -- n bytes in one mbuf: in a cluster or in the mbuf itself
-abbrev pub one_room : Bool → ℕ → LaidRoom
+abbrev pub one_room : Bool → ℕ → LayoutRoom
 one_room is_large n = if is_large then Cluster n else Plain n
 
 -- A packet of n bytes takes one mbuf, with or without a cluster. These are free, and so is a second mbuf.
@@ -47,7 +47,7 @@ HasSpace p n InMore = Has p (wire n)
 abbrev pub carried_item : List ℕ → List ℕ → Item
 carried_item clusters packet = record {
   bytes = carried_of packet;
-  weight = weight_of (laid_on clusters (wire (length packet)));
+  weight = weight_of (entries_on clusters (wire (length packet)));
 }
 
 -- the bytes that a packet carries arrive as a whole datagram

@@ -157,15 +157,15 @@ data_weight n v = λ j. record { mbufs = mbufs j; bag = bag j }
     cut : List Entry
     cut = only_first n v.entries
 
-    laid_count : (es : List Entry) → length (layout_entries es) ≡ length es
-    laid_count es = length-map es (λ (e : Entry). record { size = length e.bytes; cluster = e.cluster })
+    placed_count : (es : List Entry) → length (layout_entries es) ≡ length es
+    placed_count es = length-map es (λ (e : Entry). record { size = length e.bytes; cluster = e.cluster })
 
     mbufs : length (layout_entries (without_first 8 cut)) ≡ length (layout_entries v.entries)
     mbufs =
         omega (
           arith,
-          laid_count (without_first 8 cut),
-          laid_count v.entries,
+          placed_count (without_first 8 cut),
+          placed_count v.entries,
           without_first_count 8 cut,
           only_first_count n v.entries,
         )

@@ -46,10 +46,10 @@ unfolding one_at
 times_cons c None bag = omega arith
 times_cons c (Some k) bag = sum_by-cons (λ (j : ℕ). cond {A = ℕ} (nat_eq j c) 1 0) k bag
 
-times_laid : (c : ℕ) (es : List Entry) → times c (weight_of (layout_entries es)).bag ≡ refs c es
+times_placed : (c : ℕ) (es : List Entry) → times c (weight_of (layout_entries es)).bag ≡ refs c es
 unfolding refs
-times_laid c [] = refl
-times_laid c (e ∷ es) = omega (arith, times_cons c e.cluster (weight_of (layout_entries es)).bag, times_laid c es)
+times_placed c [] = refl
+times_placed c (e ∷ es) = omega (arith, times_cons c e.cluster (weight_of (layout_entries es)).bag, times_placed c es)
 
 filled_refs : (c : ℕ) (e : Entry) (fs : List Entry) → refs c (filled_up e fs) ≤ one_at c e.cluster + refs c fs
 unfolding refs
@@ -84,9 +84,9 @@ pub cat_bag : (es fs : List Entry) (c : ℕ)
 cat_bag es fs c =
     omega (
       arith,
-      times_laid c (cat es fs),
-      times_laid c es,
-      times_laid c fs,
+      times_placed c (cat es fs),
+      times_placed c es,
+      times_placed c fs,
       cat_refs c es fs,
       times-append c (weight_of (layout_entries es)).bag (weight_of (layout_entries fs)).bag,
     )

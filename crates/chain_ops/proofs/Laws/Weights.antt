@@ -62,7 +62,8 @@ later (e ∷ es) at a b some h = go (cases_lt at b) (later es (at + length e.byt
     go (inl l) ih =
         let p : 0 < length e.bytes = some.0 in
         let left : b - (at + length e.bytes) ≡ b - at - (length e.bytes - 0) = omega arith in
-        ap clusters (met (record { size = length e.bytes; cluster = e.cluster }) (layout_entries es) at a b (omega arith))
+        ap clusters
+        (met (record { size = length e.bytes; cluster = e.cluster }) (layout_entries es) at a b (omega arith))
         ∙ ap (λ (os : List (Option ℕ)). e.cluster ∷ os)
         (ih ∙ ap (λ (n : ℕ). clusters (layout_entries (copied_from 20 es 0 n))) left)
         ∙ ap (λ (fs : List Entry). clusters (layout_entries fs))
@@ -92,7 +93,8 @@ from_position room (e ∷ es) at a b off len some l ea eb =
         len))
     stays h inside =
         let left : b - (at + length e.bytes) ≡ len - (length e.bytes - off) = omega arith in
-        ap clusters (met (record { size = length e.bytes; cluster = e.cluster }) (layout_entries es) at a b (omega arith))
+        ap clusters
+        (met (record { size = length e.bytes; cluster = e.cluster }) (layout_entries es) at a b (omega arith))
         ∙ ap (λ (os : List (Option ℕ)). e.cluster ∷ os)
         (later es (at + length e.bytes) a b some.1 (omega arith)
         ∙ ap (λ (n : ℕ). clusters (layout_entries (copied_from 20 es 0 n))) left)
@@ -120,14 +122,15 @@ from_position room (e ∷ es) at a b off len some l ea eb =
 -- the weight of the copy of a range is that of the entries that share a byte with it, if none is empty
 pub copied_weight : (header : Bool) (es : List Entry) (off len : ℕ)
     → AllByRecursion (λ (e : Entry). 0 < length e.bytes) es → 0 < len
-    → weight_of (layout_entries (copied header es off len)) ≡ weight_of (entries_met (layout_entries es) off (off + len))
+    → weight_of (layout_entries (copied header es off len)) ≡ weight_of
+    (entries_met (layout_entries es) off (off + len))
 copied_weight header es off len some l =
     same_weight _ _ (sym (from_position (room_low header) es 0 off (off + len) off len some l (omega arith) refl))
 
 -- a copy of all entries has the layout of the original
-pub copied_all-laid : (room : ℕ) (es : List Entry) → layout_entries (copied_all room es) ≡ layout_entries es
-copied_all-laid room [] = refl
-copied_all-laid room (e ∷ es) =
+pub copied_all-placed : (room : ℕ) (es : List Entry) → layout_entries (copied_all room es) ≡ layout_entries es
+copied_all-placed room [] = refl
+copied_all-placed room (e ∷ es) =
     let size : length (take (length e.bytes) e.bytes) ≡ length e.bytes =
     ap (λ (xs : List ℕ). length xs) (take_all (length e.bytes) e.bytes (omega arith)) in
-    λ j. let x : flat.LayoutEntry = record { size = size j; cluster = e.cluster } in x ∷ copied_all-laid 20 es j
+    λ j. let x : flat.LayoutEntry = record { size = size j; cluster = e.cluster } in x ∷ copied_all-placed 20 es j

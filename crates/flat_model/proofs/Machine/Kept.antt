@@ -420,9 +420,9 @@ module _ (c : Config) where
       (λ e g.
       let sender : Addr = record { ip = source; port = u16_at 0 item.bytes } in
       let q : LookupKey = record { local = Some destination; port = Some (u16_at 2 item.bytes); peer = Some sender } in
-      let heard = matching_in old destination q (good.distinct) in
+      let received = matching_in old destination q (good.distinct) in
       good_goes held sender (record item { bytes = udp_bytes item.bytes }) destination
-      (Arrival.matching_sockets old destination q) old new good shorter heard.0 heard.1 g)
+      (Arrival.matching_sockets old destination q) old new good shorter received.0 received.1 g)
       (λ why e g. good_ends held.mbufs (held.mbufs + item.weight.mbufs) old new why (omega arith) good g))
       (λ e g. good_ends held.mbufs (held.mbufs + item.weight.mbufs) old new _ (omega arith) good g)
     where
@@ -438,24 +438,25 @@ module _ (c : Config) where
     pub carries : Carries c f.weight (length f.bytes)
     pub inside : fragment_end f ≤ 65515
 
-  good_lays : (held : Weight) (k : Key) (f : Fragment) (u : Unfinished) (old new : State)
+  good_inserts : (held : Weight) (k : Key) (f : Fragment) (u : Unfinished) (old new : State)
       → Good c (held.mbufs + f.weight.mbufs) old → unfinished_at k old ≡ Some u → FragmentFits f
-      → Arrival.Lays exact_ledger held k f u old new → Good c held.mbufs new
-  good_lays held k f u old new good at fits h = by_choice h
+      → Arrival.Inserts exact_ledger held k f u old new → Good c held.mbufs new
+  good_inserts held k f u old new good at fits h = by_choice h
       (λ e g. good_ends held.mbufs (held.mbufs + f.weight.mbufs) old new _ (omega arith) good g)
       (λ e g. go g)
     where
       waiting : IsWaiting c u
       waiting = (each-find (IsWaiting c) (is_key k) old.unfinished u good.unfinished at).0
 
-      laid : IsMap c (overlay u.bytes f)
-      laid = overlay_is c u.bytes f waiting.bytes fits.carries fits.inside
+      placed : IsMap c (overlay u.bytes f)
+      placed = overlay_is c u.bytes f waiting.bytes fits.carries fits.inside
 
       weighs : (weight_of_pieces (overlay u.bytes f)).mbufs ≤ (weight_of_pieces u.bytes).mbufs + f.weight.mbufs
       weighs = overlay_mbufs c u.bytes f waiting.bytes fits.carries fits.inside
 
       exist : Each (λ i. i < c.clusters) (weight_of_pieces (overlay u.bytes f)).bag
-      exist = pieces_bag (overlay u.bytes f) (λ i. i < c.clusters) (λ offset held e. (laid offset held e).carries.exist)
+      exist = pieces_bag (overlay u.bytes f) (λ i. i < c.clusters)
+          (λ offset held e. (placed offset held e).carries.exist)
 
       go : Arrival.Settles exact_ledger held k (overlay u.bytes f) old new → Good c held.mbufs new
       go (inl (n, w, joined, j, arrives)) =
@@ -475,7 +476,7 @@ module _ (c : Config) where
           arrives
       go (inr (unwhole, e)) =
           subst (Good c held.mbufs) (sym e)
-          (good_set held.mbufs f.weight.mbufs k u (overlay u.bytes f) old good at laid weighs)
+          (good_set held.mbufs f.weight.mbufs k u (overlay u.bytes f) old good at placed weighs)
 
   key_itself : (k : Key) → is_key k (begun k) ≡ true
   key_itself k =
@@ -488,10 +489,10 @@ module _ (c : Config) where
       (λ e t. good_tests old (held ⊕ f.weight) 1 new _ held.mbufs (omega arith) good
       (λ mid at from l.
       let none : unfinished_at k mid ≡ None = still_none mid e from in
-      good_lays held k f (begun k) (begin_unfinished k mid) new
+      good_inserts held k f (begun k) (begin_unfinished k mid) new
       (good_begins (held.mbufs + f.weight.mbufs) k mid at none)
       (find_after (is_key k) mid.unfinished (begun k) none (key_itself k)) fits l) t)
-      (λ u e l. good_lays held k f u old new good e fits l)
+      (λ u e l. good_inserts held k f u old new good e fits l)
     where
       still_none : (mid : State) → unfinished_at k old ≡ None → ((mid ≡ old) ⊎ (mid ≡ reclaimed old))
           → unfinished_at k mid ≡ None

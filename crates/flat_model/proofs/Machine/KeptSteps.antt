@@ -9,7 +9,7 @@ use Rattle.std.proofs.lemmas.List.Elements.{recursion_from_All}
 use Rattle.params.specs.declared.TheConstants.{OUTPUT_QUEUE_PACKETS}
 use Rattle.flat_model.specs.Amounts.Weight.{Weight, Item, all_of, nothing}
 use Rattle.flat_model.specs.Fragments.Cuts.{Part, cuts}
-use Rattle.flat_model.specs.Amounts.Layout.{Need, Room, is_cluster, sent, wire, laid_on, weight_of, need, need_bcast, need_of, need_of_part}
+use Rattle.flat_model.specs.Amounts.Layout.{Need, Room, is_cluster, sent, wire, entries_on, weight_of, need, need_bcast, need_of, need_of_part}
 use Rattle.flat_model.specs.Machine.Event.{Event, Reply, IsEvent, Open, Bind, Connect, Send, Receive, Close, Set_option, Comes, Transmit, Tick, Ask_counters, Ask_usage}
 use Rattle.flat_model.specs.Machine.State.{IsConfig, State, Socket, Datagram, Unfinished, boot, loopback, socket_at, is_key, ends}
 use Rattle.flat_model.specs.Amounts.Choice.{Choice}
@@ -34,7 +34,7 @@ use Rattle.flat_model.proofs.Lists.Each.{by_case, each-append, each-take, none_p
 use Rattle.flat_model.proofs.Packets.Sizes.{length-udp}
 use Rattle.flat_model.proofs.Fragments.Grid.{cuts_short}
 use Rattle.flat_model.proofs.Fragments.Overlaid.{pieces_bag}
-use Rattle.flat_model.proofs.Machine.Laid.{ItemFits, parts_fit, items_fit, items_mbufs, length-packet, laid_mbufs, laid_carries, wire_is, wire_some}
+use Rattle.flat_model.proofs.Machine.Placed.{ItemFits, parts_fit, items_fit, items_mbufs, length-packet, placed_mbufs, placed_carries, wire_is, wire_some}
 use Rattle.flat_model.proofs.Machine.Kept.{Good, less_held, good_has_buffers, good_lacks, good_ends, good_arrives, good_all_arrive, weight_of_socket, weight_of_unfinished, weight_of_item}
 use Rattle.flat_model.proofs.Machine.KeptLists.{count-map, count-filter, mbufs-append, mbufs-filter, mbufs-map}
 use Rattle.flat_model.proofs.Machine.KeptCalls as KeptCalls
@@ -211,20 +211,20 @@ module _ (c : Config) (boots : IsConfig c) where
         omega arith
 
     packets_fit : Each (ItemFits c mtu)
-        (items (laid_on clusters (sent (length x.bytes))) (packet_for x) (cuts (length (datagram x)) mtu))
+        (items (entries_on clusters (sent (length x.bytes))) (packet_for x) (cuts (length (datagram x)) mtu))
     packets_fit =
         subst (λ m. Each (ItemFits c mtu)
-        (items (laid_on clusters (sent (length x.bytes))) (packet_for x) (cuts m mtu)))
+        (items (entries_on clusters (sent (length x.bytes))) (packet_for x) (cuts m mtu)))
         (sym size_of_datagram)
         (items_fit c clusters (length x.bytes) mtu number there (packet_for x) sizes (cuts (length x.bytes + 8) mtu)
         (parts_fit (length x.bytes + 8) mtu low))
 
     packets_few : (all_of weight_of_item
-        (items (laid_on clusters (sent (length x.bytes))) (packet_for x) (cuts (length (datagram x)) mtu))).mbufs
+        (items (entries_on clusters (sent (length x.bytes))) (packet_for x) (cuts (length (datagram x)) mtu))).mbufs
         ≤ length (sent (length x.bytes))
         + sum_by (need_of_part (sent (length x.bytes))) (drop 1 (cuts (length x.bytes + 8) mtu))
     packets_few = subst
-        (λ m. (all_of weight_of_item (items (laid_on clusters (sent (length x.bytes))) (packet_for x)
+        (λ m. (all_of weight_of_item (items (entries_on clusters (sent (length x.bytes))) (packet_for x)
         (cuts m mtu))).mbufs ≤ length (sent (length x.bytes)) + sum_by (need_of_part (sent
         (length x.bytes))) (drop 1 (cuts (length x.bytes + 8) mtu)))
         (sym size_of_datagram)
@@ -328,17 +328,17 @@ module _ (c : Config) (boots : IsConfig c) where
           → Choice answer
           ((clusters : List ℕ) × AreTaken exact_ledger mid (need_of (wire (length packet))).clusters clusters
           × Arrival.Arrives exact_ledger (By_wire (length packet)) nothing
-          (record { bytes = packet; weight = weight_of (laid_on clusters (wire (length packet))) }) mid new)
+          (record { bytes = packet; weight = weight_of (entries_on clusters (wire (length packet))) }) mid new)
           (new ≡ ends Whys.NoBufs mid) → Good c 0 new
       go true mid a r =
           let taken = r.yes refl in
           let at = good_has_buffers c old mid nothing (need_of (wire (length packet))) good a in
-          let size = laid_mbufs taken.0 (wire (length packet)) in
+          let size = placed_mbufs taken.0 (wire (length packet)) in
           good_arrives c (By_wire (length packet)) nothing
-          (record { bytes = packet; weight = weight_of (laid_on taken.0 (wire (length packet))) }) mid new
-          (less_held c (0 + length (laid_on taken.0 (wire (length packet)))) (0 + length (wire (length packet))) mid
+          (record { bytes = packet; weight = weight_of (entries_on taken.0 (wire (length packet))) }) mid new
+          (less_held c (0 + length (entries_on taken.0 (wire (length packet)))) (0 + length (wire (length packet))) mid
           (omega arith) at.0)
-          (laid_carries c taken.0 (wire (length packet)) (length packet) (wire_is (length packet))
+          (placed_carries c taken.0 (wire (length packet)) (length packet) (wire_is (length packet))
           (wire_some (length packet)) taken.1.number (exist mid _ taken.0 at.0.config taken.1)) taken.2
       go false mid a r =
           good_ends c 0 0 mid new Whys.NoBufs (omega arith)

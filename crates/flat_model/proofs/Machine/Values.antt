@@ -4,7 +4,7 @@ use Rattle.flat_model.specs.declared.lookup_key.LookupKey.{LookupKey}
 use Rattle.flat_model.specs.Amounts.Weight.{Item, mbuf, times, all_of}
 use Rattle.flat_model.specs.Machine.Sending.{items}
 use Rattle.flat_model.specs.Fragments.Cuts.{cuts}
-use Rattle.flat_model.specs.Amounts.Layout.{laid_on, Plain, Cluster, filled, user, sent, meets_from, need}
+use Rattle.flat_model.specs.Amounts.Layout.{entries_on, Plain, Cluster, filled, user, sent, meets_from, need}
 use Rattle.flat_model.specs.Packets.Checksum.{folded_sum}
 use Rattle.flat_model.specs.Packets.Header.{packet, udp, head_of, head_fault, udp_fault, udp_bytes}
 use Rattle.flat_model.specs.Fragments.Overlay.{Map, Fragment, Held, empty, overlay, first_owned, is_covered}
@@ -163,13 +163,13 @@ receivers_two = refl
 -- ---- the weights of the largest send: 6, 3, 3, 2, 3, 3, 2 mbufs, and the five clusters counted 2, 3, 4, 3, 3
 
 largest : List Item
-largest = items (laid_on (10 ∷ 11 ∷ 12 ∷ 13 ∷ 14 ∷ []) (sent 9216)) (λ p. []) (cuts 9224 1500)
+largest = items (entries_on (10 ∷ 11 ∷ 12 ∷ 13 ∷ 14 ∷ []) (sent 9216)) (λ p. []) (cuts 9224 1500)
 
 largest_mbufs : map (λ item. item.weight.mbufs) largest ≡ 6 ∷ 3 ∷ 3 ∷ 2 ∷ 3 ∷ 3 ∷ 2 ∷ []
-unfolding largest laid_on filled cuts meets_from
+unfolding largest entries_on filled cuts meets_from
 largest_mbufs = refl
 
 largest_counts : map (λ c. times c (all_of (λ item. item.weight) largest).bag) (10 ∷ 11 ∷ 12 ∷ 13 ∷ 14 ∷ [])
     ≡ 2 ∷ 3 ∷ 4 ∷ 3 ∷ 3 ∷ []
-unfolding largest laid_on filled cuts meets_from
+unfolding largest entries_on filled cuts meets_from
 largest_counts = refl

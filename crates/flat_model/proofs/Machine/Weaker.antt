@@ -2,7 +2,7 @@
 use Rattle.std.proofs.Common.{ℕ, Bool, true, false, List, [], ◌∷◌, length, inl, inr, ap, Option}
 use Rattle.flat_model.specs.Amounts.Choice.{Choice, Case}
 use Rattle.flat_model.specs.Amounts.Weight.{Weight, Item, ◌⊕◌, nothing}
-use Rattle.flat_model.specs.Amounts.Layout.{Need, wire, laid_on, weight_of}
+use Rattle.flat_model.specs.Amounts.Layout.{Need, wire, entries_on, weight_of}
 use Rattle.flat_model.specs.Packets.Header.{Head, head_of}
 use Rattle.flat_model.specs.Fragments.Overlay.{Map, Fragment, overlay}
 use Rattle.flat_model.specs.Fragments.Whole.{bytes_below}
@@ -100,15 +100,16 @@ module _ (L M : Ledger) (weaker : IsWeaker L M) where
   )
   settles held k bytes old new (inr h) = inr h
 
-  lays : (held : Weight) (k : Key) (f : Fragment) (u : Unfinished) (old new : State) → Arrival.Lays L held k f u old new
-      → Arrival.Lays M held k f u old new
-  lays held k f u old new = choice same (settles held k (overlay u.bytes f) old new)
+  inserts : (held : Weight) (k : Key) (f : Fragment) (u : Unfinished) (old new : State) → Arrival.Inserts L held k f u
+      old new
+      → Arrival.Inserts M held k f u old new
+  inserts held k f u old new = choice same (settles held k (overlay u.bytes f) old new)
 
   joins : (held : Weight) (k : Key) (f : Fragment) (old new : State) → Arrival.Joins L held k f old new
       → Arrival.Joins M held k f old new
   joins held k f old new = by_value
-      (tests old (held ⊕ f.weight) 1 new _ _ (λ mid h. lays held k f (begun k) (begin_unfinished k mid) new h))
-      (λ u h. lays held k f u old new h)
+      (tests old (held ⊕ f.weight) 1 new _ _ (λ mid h. inserts held k f (begun k) (begin_unfinished k mid) new h))
+      (λ u h. inserts held k f u old new h)
 
   pulls_up : (origin : Origin) (held w : Weight) (total : ℕ) (old new : State) (P Q : Weight → State → Type 0)
       → ((w : Weight) (mid : State) → P w mid → Q w mid)
@@ -166,7 +167,7 @@ module _ (L M : Ledger) (weaker : IsWeaker L M) where
       clusters,
       taken mid _ clusters t,
       arrives (By_wire (length packet)) nothing
-          (record { bytes = packet; weight = weight_of (laid_on clusters (wire (length packet))) }) mid new r,
+          (record { bytes = packet; weight = weight_of (entries_on clusters (wire (length packet))) }) mid new r,
     )) same c,
   )
 

@@ -6,7 +6,7 @@ use Rattle.std.proofs.lemmas.Option.{none-some, same_Some}
 use Rattle.std.proofs.lemmas.List.Elements.{All-from_recursion}
 use Rattle.flat_model.specs.Amounts.Choice.{Choice, Case}
 use Rattle.flat_model.specs.Runs.Run.{Run, Turn}
-use Rattle.flat_model.specs.Amounts.Layout.{filled, laid_on}
+use Rattle.flat_model.specs.Amounts.Layout.{filled, entries_on}
 use Rattle.flat_model.specs.Machine.Count.{counted, counts_more}
 use Rattle.flat_model.specs.declared.counter.Counter.TheVariants.{IpTotal}
 use Rattle.flat_model.specs.Machine.Event.{Event, Reply, Open, Bind, Receive, Comes, Done, Opened, Received, IsBytes}
@@ -79,7 +79,7 @@ s3 = record s2 {
 
 -- the packet is put into the socket's queue
 comes : Step s2 (Comes w) Done s3
-unfolding filled laid_on counted s3
+unfolding filled entries_on counted s3
 comes = (
   refl,
   (

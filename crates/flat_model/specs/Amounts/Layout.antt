@@ -62,11 +62,11 @@ pub record LayoutEntry : Type 0 where
   pub cluster : Option ℕ
 
 -- the mbufs of a layout with the given clusters, in order
-unfoldable pub laid_on : List ℕ → List Room → List LayoutEntry
-laid_on clusters [] = []
-laid_on clusters (Plain n ∷ rooms) = record { size = n; cluster = None } ∷ laid_on clusters rooms
-laid_on [] (Cluster n ∷ rooms) = record { size = n; cluster = None } ∷ laid_on [] rooms
-laid_on (c ∷ clusters) (Cluster n ∷ rooms) = record { size = n; cluster = Some c } ∷ laid_on clusters rooms
+unfoldable pub entries_on : List ℕ → List Room → List LayoutEntry
+entries_on clusters [] = []
+entries_on clusters (Plain n ∷ rooms) = record { size = n; cluster = None } ∷ entries_on clusters rooms
+entries_on [] (Cluster n ∷ rooms) = record { size = n; cluster = None } ∷ entries_on [] rooms
+entries_on (c ∷ clusters) (Cluster n ∷ rooms) = record { size = n; cluster = Some c } ∷ entries_on clusters rooms
 
 -- the weight of a chain of such mbufs
 abbrev pub weight_of : List LayoutEntry → Weight

@@ -157,8 +157,8 @@ module _ (L : Ledger) where
       ⊎ (((n : ℕ) → ¬ IsWhole bytes n) × (new ≡ set_bytes k bytes old))
 
   -- the fragment is laid over the bytes under its key, or ends if pieces that begin no later have all its bytes already
-  abbrev pub Lays : Weight → Key → Fragment → Unfinished → State → State → Type 0
-  Lays held k f u old new =
+  abbrev pub Inserts : Weight → Key → Fragment → Unfinished → State → State → Type 0
+  Inserts held k f u old new =
       Choice (is_covered u.bytes f)
       (new ≡ ends FragmentDropped old)
       (Settles held k (overlay u.bytes f) old new)
@@ -166,8 +166,8 @@ module _ (L : Ledger) where
   -- the fragment joins the others with its key; a new key takes an mbuf
   abbrev pub Joins : Weight → Key → Fragment → State → State → Type 0
   Joins held k f old new = Case (unfinished_at k old)
-      (Tests old (held ⊕ f.weight) 1 new (λ mid. Lays held k f (begun k) (begin_unfinished k mid) new))
-      (λ u. Lays held k f u old new)
+      (Tests old (held ⊕ f.weight) 1 new (λ mid. Inserts held k f (begun k) (begin_unfinished k mid) new))
+      (λ u. Inserts held k f u old new)
 
   -- A fragment that came from the wire into a cluster is pulled up, which takes an mbuf. This happens before the lookup
   -- of its key.

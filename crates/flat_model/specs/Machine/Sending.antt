@@ -3,7 +3,7 @@ use Rattle.std.specs.Prelude.{ℕ, ◌+◌, Bool, ◌==◌, ◌||◌, if◌then�
 use Rattle.params.specs.declared.TheConstants.{IP_HEADER, PROTOCOL_UDP, LOOPBACK_MTU}
 use Rattle.flat_model.specs.Amounts.Weight.{Weight, Item, mbuf, ◌⊕◌}
 use Rattle.flat_model.specs.Fragments.Cuts.{Part, cuts}
-use Rattle.flat_model.specs.Amounts.Layout.{LayoutEntry, sent, laid_on, weight_of, entries_met}
+use Rattle.flat_model.specs.Amounts.Layout.{LayoutEntry, sent, entries_on, weight_of, entries_met}
 use Rattle.flat_model.specs.Packets.Header.{Head, packet, udp}
 use Rattle.flat_model.specs.Machine.State.{loopback}
 use Rattle.flat_model.specs.declared.config.Config.{Config}
@@ -65,4 +65,4 @@ items entries bytes (p ∷ later) =
 
 -- the packets of a send whose bytes are in these clusters
 abbrev pub packets : Config → List ℕ → Sending → List Item
-packets c clusters x = items (laid_on clusters (sent (length x.bytes))) (packet_for x) (parts_of c x)
+packets c clusters x = items (entries_on clusters (sent (length x.bytes))) (packet_for x) (parts_of c x)

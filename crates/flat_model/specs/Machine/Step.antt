@@ -4,7 +4,7 @@ use Rattle.std.specs.Prelude.{◌≡◌, ℕ, ◌-◌, Bool, ◌==◌, nat_lt, L
 use Rattle.params.specs.declared.TheConstants.{MAX_SOCKETS}
 use Rattle.flat_model.specs.Amounts.Choice.{Choice}
 use Rattle.flat_model.specs.Amounts.Weight.{Item, nothing}
-use Rattle.flat_model.specs.Amounts.Layout.{wire, need_of, laid_on, weight_of}
+use Rattle.flat_model.specs.Amounts.Layout.{wire, need_of, entries_on, weight_of}
 use Rattle.flat_model.specs.Machine.Count.{counts_more}
 use Rattle.flat_model.specs.Machine.Event.{Event, Reply, Open, Bind, Connect, Send, Receive, Close, Set_option, Comes, Transmit, Tick, Ask_counters, Ask_usage, Done, Given, Counted, Shown}
 use Rattle.flat_model.specs.declared.counter.Counter.TheVariants.{IpFragtimeout}
@@ -40,7 +40,7 @@ module _ (L : Ledger) where
       ((clusters : List ℕ)
       × AreTaken L mid (need_of (wire (length packet))).clusters clusters
       × Arrives L (By_wire (length packet)) nothing
-      (record { bytes = packet; weight = weight_of (laid_on clusters (wire (length packet))) }) mid new)
+      (record { bytes = packet; weight = weight_of (entries_on clusters (wire (length packet))) }) mid new)
       (new ≡ ends NoBufs mid)
 
   -- a step, for any ledger of the buffers

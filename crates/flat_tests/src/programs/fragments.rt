@@ -6,7 +6,7 @@ use std::process::Abort;
 /// A fragment for a table, or an observation of the table.
 enum Step {
     /// Lays a fragment over the table: its offset, its bytes, and whether more fragments follow. It isn't covered.
-    Lay(u32, &'static [u8], bool),
+    Insert(u32, &'static [u8], bool),
     /// Whether these bytes at this offset are covered.
     Covers(u32, &'static [u8], bool),
     /// The bytes, with a dot for an offset without a byte.
@@ -17,7 +17,7 @@ enum Step {
     Left(usize),
 }
 
-use Step::{Covers, Lay, Left, Shows, Whole};
+use Step::{Covers, Insert, Left, Shows, Whole};
 
 /// A piece whose front was taken.
 const LEFT: Cell = Cell {
@@ -34,11 +34,11 @@ static TABLES: [(usize, &[Step]); 5] = [
     (
         32,
         &[
-            Lay(16, b"cccccccccccccccc", false),
-            Lay(8, b"dddddddddddddddd", true),
+            Insert(16, b"cccccccccccccccc", false),
+            Insert(8, b"dddddddddddddddd", true),
             Shows(b"........ddddddddddddddddcccccccc"),
             Whole(None),
-            Lay(0, b"eeeeeeeeeeeeeeee", true),
+            Insert(0, b"eeeeeeeeeeeeeeee", true),
             Shows(b"eeeeeeeeeeeeeeeeddddddddcccccccc"),
             Whole(Some(32)),
         ],
@@ -47,12 +47,12 @@ static TABLES: [(usize, &[Step]); 5] = [
     (
         24,
         &[
-            Lay(0, b"aaaaaaaaaaaaaaaa", true),
+            Insert(0, b"aaaaaaaaaaaaaaaa", true),
             Covers(8, b"cccccccc", true),
             Covers(0, b"aaaaaaaaaaaaaaaa", true),
             Covers(8, b"ccccccccc", false),
             Whole(None),
-            Lay(8, b"bbbbbbbbbbbbbbbb", false),
+            Insert(8, b"bbbbbbbbbbbbbbbb", false),
             Shows(b"aaaaaaaaaaaaaaaabbbbbbbb"),
             Whole(Some(24)),
         ],
@@ -61,10 +61,10 @@ static TABLES: [(usize, &[Step]); 5] = [
     (
         24,
         &[
-            Lay(4, b"aa", true),
-            Lay(8, b"bbb", true),
-            Lay(12, b"cccccccc", true),
-            Lay(2, b"xxxxxxxxxxxxxx", true),
+            Insert(4, b"aa", true),
+            Insert(8, b"bbb", true),
+            Insert(12, b"cccccccc", true),
+            Insert(2, b"xxxxxxxxxxxxxx", true),
             Shows(b"..xxxxxxxxxxxxxxcccc...."),
             Left(16),
         ],
@@ -74,26 +74,26 @@ static TABLES: [(usize, &[Step]); 5] = [
     (
         24,
         &[
-            Lay(0, b"aaaaaaaa", true),
+            Insert(0, b"aaaaaaaa", true),
             Whole(None),
-            Lay(16, b"cccccccc", true),
-            Lay(8, b"bbbbbbbb", false),
+            Insert(16, b"cccccccc", true),
+            Insert(8, b"bbbbbbbb", false),
             Whole(None),
         ],
     ),
 ];
 
-/// Returns whether a fragment is covered, and lays it over the table if `lay` is true.
+/// Returns whether a fragment is covered, and lays it over the table if `insert` is true.
 pub(super) fn comes(
     rt: &impl Abort,
     cells: &mut [Option<Cell>],
     fragment: Fragment,
     bytes: &[u8],
-    lay: bool,
+    insert: bool,
 ) -> bool {
     assert!(rt; cells.len() <= 32 && fragment.offset as usize + bytes.len() <= cells.len());
     let covered = is_covered(cells, fragment, bytes);
-    if lay {
+    if insert {
         overlay(cells, fragment, bytes);
     }
     covered
@@ -131,7 +131,9 @@ fn first_wrong(rt: &impl Abort, len: usize, steps: &[Step]) -> Option<usize> {
     let cells = &mut cells[..len];
     for (i, step) in steps.iter().enumerate() {
         let right = match step {
-            Lay(offset, bytes, more) => { !comes(rt, cells, fragment(*offset, *more), bytes, true) }
+            Insert(offset, bytes, more) => {
+                !comes(rt, cells, fragment(*offset, *more), bytes, true)
+            }
             Covers(offset, bytes, wanted) => {
                 comes(rt, cells, fragment(*offset, true), bytes, false) == *wanted
             }

@@ -137,7 +137,7 @@ const ELSEWHERE: Pcb = Pcb {
 };
 
 /// The control blocks that receive a broadcast.
-static HEAR: [(&[Pcb], &[Pcb]); 5] = [
+static MATCHES: [(&[Pcb], &[Pcb]); 5] = [
     (&[A, B, C], &[A, B, C]),
     (&[A, C, B], &[A, C]),
     (&[C, A, B], &[C]),
@@ -241,8 +241,8 @@ fn the_best(rt: HostRuntime) {
 }
 
 #[test]
-fn who_hears(rt: HostRuntime) {
-    for (row, (pcbs, wanted)) in HEAR.iter().enumerate() {
+fn which_sockets_match(rt: HostRuntime) {
+    for (row, (pcbs, wanted)) in MATCHES.iter().enumerate() {
         same_list(&rt, row, receivers(rt.alloc(), PACKET, pcbs), wanted);
     }
 }

@@ -31,7 +31,7 @@ pub record IsInserted (p : PoolView) (d : Datagram) (c : ℕ) (f : QueuedFragmen
   pub covered : is_covered (map_of (fragments p d.fragments)) (fragment_of f) ≡ not answer
   pub map : OnTrue answer (map_of (fragments q e.fragments)
       ≡ overlay (map_of (fragments p d.fragments)) (fragment_of f))
-  pub laid : OnTrue answer (queued q e.fragments ≡ inserted_into f (queued p d.fragments))
+  pub inserted : OnTrue answer (queued q e.fragments ≡ inserted_into f (queued p d.fragments))
   pub none : OnFalse answer (queued q e.fragments ≡ queued p d.fragments)
   pub queue : IsQueue q e.fragments
   pub counted : e.bytes ≡ bytes_held (fragments q e.fragments)

@@ -21,8 +21,8 @@ abbrev pub data_of : ℕ → Head → Part
 data_of i h = record { buffer = buffer_of i h.cluster; start = h.start; len = h.len }
 
 -- the head fields of an mbuf, given its head
-abbrev pub told_head : ℕ → Head → MbufHead
-told_head i h = record {
+abbrev pub reported_head : ℕ → Head → MbufHead
+reported_head i h = record {
   number = i;
   next = h.next;
   next_packet = h.next_packet;
@@ -33,9 +33,9 @@ told_head i h = record {
 }
 
 -- the head fields of an mbuf, and its data bytes
-abbrev pub told_at : StoreView → ℕ → MbufHead × List ℕ
-told_at s i = (told_head i (mbuf_head s i), (entry_at s i).bytes)
+abbrev pub reported_at : StoreView → ℕ → MbufHead × List ℕ
+reported_at s i = (reported_head i (mbuf_head s i), (entry_at s i).bytes)
 
 -- the same for the mbufs from one on
-abbrev pub told_from : StoreView → Option ℕ → List (MbufHead × List ℕ)
-told_from s at = map (told_at s) (cells_from s at)
+abbrev pub reported_from : StoreView → Option ℕ → List (MbufHead × List ℕ)
+reported_from s at = map (reported_at s) (cells_from s at)

@@ -9,7 +9,7 @@ use Rattle.flat_model.specs.Machine.Arrival.{Origin, By_wire, FragmentArrives, A
 use Rattle.pcb_table.specs.Table.{Table}
 use Rattle.flat_model.specs.declared.counters.Counters.{Counters}
 use Rattle.flat_model.specs.declared.counters.Why.{Why}
-use Rattle.flat_model.specs.Amounts.Layout.{Need, is_cluster, laid_on, wire}
+use Rattle.flat_model.specs.Amounts.Layout.{Need, is_cluster, entries_on, wire}
 use Rattle.flat_model.specs.Machine.Step.{ComesIn}
 use Rattle.mbuf_chain.specs.Chain.{PoolView, alone, chain_of, string}
 use Rattle.chain_ops.specs.Makes.{Makes}
@@ -66,7 +66,7 @@ pub record IsPacketStored (p : PoolView) (bytes : List ℕ) (q : PoolView) (c : 
   pub number : length clusters ≡ count_by is_cluster (wire (length bytes))
   pub made : Makes p q c (alone true) (stored_first 0 false clusters (wire (length bytes)) bytes)
   pub layout : layout_entries (stored_first 0 false clusters (wire (length bytes)) bytes)
-      ≡ laid_on clusters (wire (length bytes))
+      ≡ entries_on clusters (wire (length bytes))
   pub bytes_are : string (chain_of q c) ≡ bytes
 
 -- these bytes came from the wire, into new buffers, or into none if the pool had too few

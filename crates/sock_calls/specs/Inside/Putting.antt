@@ -2,7 +2,7 @@
 use Rattle.std.specs.Prelude.{◌≡◌, ◌≢◌, ℕ, ◌+◌, ◌≤◌, ◌%◌, ◌==◌, nat_lt, Bool, true, false, if◌then◌else◌, List, ◌++◌, length, take, drop, count_by}
 use Rattle.params.specs.declared.TheConstants.{MIN_MTU, LOOPBACK, IP_HEADER, IP_UDP_HEADERS, OUTPUT_QUEUE_PACKETS, IP_DEFAULT_TTL, PROTOCOL_UDP}
 use Rattle.flat_model.specs.Machine.Count.{counts_more}
-use Rattle.flat_model.specs.Amounts.Layout.{sent, laid_on, is_cluster}
+use Rattle.flat_model.specs.Amounts.Layout.{sent, entries_on, is_cluster}
 use Rattle.flat_model.specs.Machine.Send.{need_to, to_link, to_self}
 use Rattle.flat_model.specs.Machine.Sending as flat
 use Rattle.flat_model.specs.declared.address.Addr.{Addr}
@@ -70,7 +70,7 @@ pub record IsSendLaidOut (p : PoolView) (n : ℕ) (clusters : List ℕ) (q : Poo
   pub free : AreFree p clusters
   pub made : Adds p q c (chain_of q c)
   pub headed : (chain_of q c).front.header ≡ true
-  pub laid : layout_entries (chain_of q c).entries ≡ laid_on clusters (sent n)
+  pub placed : layout_entries (chain_of q c).entries ≡ entries_on clusters (sent n)
   pub size : length (string (chain_of q c)) ≡ n + IP_UDP_HEADERS
   pub held : held_mbufs q ≡ held_mbufs p + length (sent n)
 

@@ -1,7 +1,7 @@
 -- The data of a packet from the wire, in a new chain (this project's own).
 use Rattle.std.specs.Prelude.{◌≡◌, ℕ, Bool, true, false, List, [], ◌∷◌, ◌++◌, length, take, drop, count_by, Option, Result, Ok, Err}
 use Rattle.params.specs.declared.TheConstants.{IP_UDP_HEADERS}
-use Rattle.flat_model.specs.Amounts.Layout.{is_cluster, laid_on, weight_of, wire}
+use Rattle.flat_model.specs.Amounts.Layout.{is_cluster, entries_on, weight_of, wire}
 use Rattle.flat_model.specs.Amounts.Weight.{Item}
 use Rattle.mbuf_chain.specs.Chain.{PoolView}
 use Rattle.mbuf_chain.specs.Owners.{Moves}
@@ -19,7 +19,7 @@ use Rattle.sock_calls.specs.Sockets.{StepsAt, queues_of}
 abbrev pub data_of : List ℕ → ℕ → List ℕ → Item
 data_of packet end clusters = record {
   bytes = drop IP_UDP_HEADERS (take end packet);
-  weight = weight_of (laid_on clusters (wire (length packet)));
+  weight = weight_of (entries_on clusters (wire (length packet)));
 }
 
 -- From p to q chain c was made: it has the data of a packet, laid out as if the whole packet had been stored in free

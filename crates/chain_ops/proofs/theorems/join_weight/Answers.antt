@@ -6,12 +6,12 @@ use Rattle.chain_ops.specs.Weights.{layout_entries}
 use Rattle.chain_ops.proofs.Laws.Joins.{cat_length, cat_bag, cat_fit, covers_fit}
 use Rattle.chain_ops.proofs.theorems.join_weight.Goals as goal
 
-laid_length : (es : List Entry) → length (layout_entries es) ≡ length es
-laid_length es = length-map es _
+placed_length : (es : List Entry) → length (layout_entries es) ≡ length es
+placed_length es = length-map es _
 
 pub returns-clause-mbufs : goal.returns-clause-mbufs
 returns-clause-mbufs c =
-    λ es fs. omega (arith, cat_length es fs, laid_length es, laid_length fs, laid_length (cat es fs))
+    λ es fs. omega (arith, cat_length es fs, placed_length es, placed_length fs, placed_length (cat es fs))
 
 pub returns-clause-bag : goal.returns-clause-bag
 returns-clause-bag c = cat_bag

@@ -1,4 +1,4 @@
-use Rattle.chain_script.proofs.Told.{boot_strings, string_step, string_prints}
+use Rattle.chain_script.proofs.Reported.{boot_strings, string_step, string_prints}
 use Rattle.chain_script.proofs.laws.strings_law.Goals as goal
 
 pub returns-clause-boot : goal.returns-clause-boot

@@ -5,13 +5,13 @@ use Rattle.flat_model.specs.Fragments.Overlay as Overlay
 use Rattle.flat_plain.specs.declared.maps.Cell.{Cell}
 use Rattle.flat_plain.specs.Tables.{plain_map, held_of}
 use Rattle.flat_plain.proofs.Placing.{place_next}
-use Rattle.flat_plain.proofs.maps.overlay.Invariants.{IsLaid}
+use Rattle.flat_plain.proofs.maps.overlay.Invariants.{IsOverlaid}
 use Rattle.flat_plain.proofs.maps.overlay.Goals as goal
 
-all_laid : (old new : List (Option Cell)) (f : Overlay.Fragment) (i k : ℕ) → IsLaid old new f i → length old ≤ i
+all_overlaid : (old new : List (Option Cell)) (f : Overlay.Fragment) (i k : ℕ) → IsOverlaid old new f i → length old ≤ i
     → length new ≡ length old → Overlay.fragment_end f ≤ length old
     → plain_map new k ≡ Overlay.overlay (plain_map old) f k
-all_laid old new f i k is past same inside = go (cases_lt k i)
+all_overlaid old new f i k is past same inside = go (cases_lt k i)
   where
     go : (k < i) ⊎ (i ≤ k) → plain_map new k ≡ Overlay.overlay (plain_map old) f k
     go (inl lt) = is.below k lt
@@ -22,4 +22,5 @@ all_laid old new f i k is past same inside = go (cases_lt k i)
 
 pub returns : goal.returns
 returns c =
-    λ k. all_laid _ _ _ c.loop-k.k k c.loop-k.invariant (omega arith) (omega arith) (omega (arith, c.requires.inside))
+    λ k. all_overlaid _ _ _ c.loop-k.k k c.loop-k.invariant (omega arith) (omega arith)
+    (omega (arith, c.requires.inside))

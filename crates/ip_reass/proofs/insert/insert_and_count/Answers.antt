@@ -22,7 +22,7 @@ kept c =
       c.as_mut_slice.ensures.len,
       ap (λ (ds : List Datagram). length ds)
           c.as_mut_slice.ensures.value,
-    )) c.as_mut_slice.ensures.value (ap is_left c.in-Waits.is) c.insert_in.ensures.lays refl
+    )) c.as_mut_slice.ensures.value (ap is_left c.in-Waits.is) c.insert_in.ensures.inserts refl
 
 whole : (c : goal.After-count)
     → Lent c.args.pool.now c.args.table.now.items c.args.i c.args.fragment.chain
@@ -40,7 +40,7 @@ whole c =
       c.as_mut_slice.ensures.len,
       ap (λ (ds : List Datagram). length ds)
           c.as_mut_slice.ensures.value,
-    )) c.as_mut_slice.ensures.value (ap is_left c.in-Whole.is) c.insert_in.ensures.lays refl
+    )) c.as_mut_slice.ensures.value (ap is_left c.in-Whole.is) c.insert_in.ensures.inserts refl
 
 pub returns-in-Waits-clause-step : goal.returns-in-Waits-clause-step
 returns-in-Waits-clause-step c = λ rest held new here most is.
@@ -104,7 +104,7 @@ returns-in-Covered-clause-layout c =
       c.as_mut_slice.ensures.len,
       ap (λ (ds : List Datagram). length ds)
           c.as_mut_slice.ensures.value,
-    )) c.as_mut_slice.ensures.value (ap is_left c.in-Covered.is) c.insert_in.ensures.lays refl
+    )) c.as_mut_slice.ensures.value (ap is_left c.in-Covered.is) c.insert_in.ensures.inserts refl
 
 pub returns-clause-layout : goal.returns-clause-layout
 returns-clause-layout c =

@@ -2,14 +2,14 @@ use Rattle.std.proofs.Common.{sym, subst}
 use Rattle.ip_reass.specs.Fragments.{fragments, map_of}
 use Rattle.ip_reass.specs.Inside.Walks.{ReportsWhole, arrived, is_left}
 use Rattle.ip_reass.specs.declared.datagram.Datagram.{Datagram}
-use Rattle.ip_reass.proofs.Entered.{laid_in_table, datagram_put, apart_at}
+use Rattle.ip_reass.proofs.Entered.{inserted_in_table, datagram_put, apart_at}
 use Rattle.ip_reass.proofs.insert.insert_in.Goals as goal
 
-pub returns-clause-lays : goal.returns-clause-lays
-returns-clause-lays c =
-    laid_in_table c.args.pool.now c.insert.new.pool c.args.table.now c.args.i c.args.chain c.index-table-i.result
+pub returns-clause-inserts : goal.returns-clause-inserts
+returns-clause-inserts c =
+    inserted_in_table c.args.pool.now c.insert.new.pool c.args.table.now c.args.i c.args.chain c.index-table-i.result
     (arrived c.args.pool.now c.args.chain c.args.span.offset c.args.span.more) (is_left c.insert.result)
-    c.insert.new.datagram c.requires.table c.requires.place c.requires.owned c.insert.ensures.laid
+    c.insert.new.datagram c.requires.table c.requires.place c.requires.owned c.insert.ensures.inserted
 
 pub insert-requires-clause-apart : goal.insert-requires-clause-apart
 insert-requires-clause-apart c =

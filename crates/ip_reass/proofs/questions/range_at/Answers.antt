@@ -31,8 +31,8 @@ returns c =
     let more =
     c.more.ensures ∙ more_at c.args.pool.now c.args.train.now c.args.k c.tag.result c.requires.held within
     c.tag.ensures in
-    let told : HeldRange = record { offset = c.offset.result; len = c.chain_len.result; more = c.more.result } in
-    let same : told ≡ held_by (fragment_at fs c.args.k) =
+    let reported : HeldRange = record { offset = c.offset.result; len = c.chain_len.result; more = c.more.result } in
+    let same : reported ≡ held_by (fragment_at fs c.args.k) =
     λ i. record { offset = offset i; len = len i; more = more i } in
     ap Some same ∙ sym (nth_is fs c.args.k c.requires.apart c.requires.small
     (omega (arith, within, length-fragments c.args.pool.now c.args.train.now c.requires.held)))

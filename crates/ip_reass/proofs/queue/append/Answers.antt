@@ -6,7 +6,7 @@ use Rattle.ip_reass.specs.Inside.Steps.{IsInserted}
 use Rattle.ip_reass.specs.Fragments.{bytes_held, fragment_of, fragments, map_of}
 use Rattle.ip_reass.specs.Inside.Walks.{AllAbove, AllUpto, arrived, reach}
 use Rattle.ip_reass.proofs.Counted.{held_after}
-use Rattle.ip_reass.proofs.Lays.{Laid, Settled, IsLast, appended, is_last, laid_in}
+use Rattle.ip_reass.proofs.Inserts.{Inserted, Settled, IsLast, appended, is_last, inserted_in}
 use Rattle.ip_reass.proofs.Walks.{length-fragments, upto_reach}
 use Rattle.ip_reass.proofs.Whole.{held_most, held_within, open_stops, gap_stops, whole_held}
 use Rattle.ip_reass.proofs.queue.append.Goals.{After-insert}
@@ -21,9 +21,9 @@ all c =
     c.requires.queue.held c.new-tag.ensures.half c.new-tag.ensures.odd c.insert.ensures.queued_packets
     c.insert.ensures.moves
 
-laid : (c : After-insert) → Laid c.args.pool.now c.args.datagram.now.fragments
+inserted : (c : After-insert) → Inserted c.args.pool.now c.args.datagram.now.fragments
     (arrived c.args.pool.now c.args.chain c.args.span.offset c.args.span.more) c.insert.new.pool c.insert.new.self
-laid c =
+inserted c =
     let l = length-fragments c.args.pool.now c.args.datagram.now.fragments c.requires.queue.held in
     let fs : List Fragment = fragments c.args.pool.now c.args.datagram.now.fragments in
     let whole : Rattle.std.proofs.Common.take c.args.datagram.now.fragments.len
@@ -35,7 +35,7 @@ laid c =
     (fragments c.args.pool.now c.args.datagram.now.fragments) ≡ Rattle.std.proofs.Common.[] =
     drop_all c.args.datagram.now.fragments.len (fragments c.args.pool.now c.args.datagram.now.fragments)
     (omega (arith, l)) in
-    laid_in c.args.pool.now c.insert.new.pool c.args.datagram.now.fragments c.insert.new.self
+    inserted_in c.args.pool.now c.insert.new.pool c.args.datagram.now.fragments c.insert.new.self
     c.args.datagram.now.fragments.len 0 c.args.chain
     (arrived c.args.pool.now c.args.chain c.args.span.offset c.args.span.more) c.requires.queue
     (subst (AllUpto c.args.span.offset) (sym whole)
@@ -67,34 +67,34 @@ counted c =
           c.requires.queue.held (all c).queue_is refl,
     )
 
-is_laid : (c : After-insert) → IsInserted c.args.pool.now c.args.datagram.now c.args.chain
+is_inserted : (c : After-insert) → IsInserted c.args.pool.now c.args.datagram.now c.args.chain
     (arrived c.args.pool.now c.args.chain c.args.span.offset c.args.span.more) true c.insert.new.pool
     (record (c.args.datagram.now) { fragments = c.insert.new.self; bytes = c.from.result + c.len-len.result })
-is_laid c = record {
+is_inserted c = record {
   same = refl;
-  covered = (laid c).covered;
-  map = (laid c).map_is;
-  laid = (laid c).queue_is;
+  covered = (inserted c).covered;
+  map = (inserted c).map_is;
+  inserted = (inserted c).queue_is;
   none = tt;
-  queue = record { held = c.insert.ensures.held; apart = (laid c).apart; small = (laid c).small };
+  queue = record { held = c.insert.ensures.held; apart = (inserted c).apart; small = (inserted c).small };
   counted = counted c;
   moves = c.insert.ensures.moves;
 }
 
-pub returns-then-span-clause-laid : goal.returns-then-span-clause-laid
-returns-then-span-clause-laid c = is_laid c.before
+pub returns-then-span-clause-inserted : goal.returns-then-span-clause-inserted
+returns-then-span-clause-inserted c = is_inserted c.before
 
 pub returns-then-span-clause-whole : goal.returns-then-span-clause-whole
 returns-then-span-clause-whole c =
-    open_stops (fragments c.insert.new.pool c.insert.new.self) c.len-place.result (laid c.before).apart
+    open_stops (fragments c.insert.new.pool c.insert.new.self) c.len-place.result (inserted c.before).apart
     (whole_of c.before).len ((whole_of c.before).more ∙ c.if-span.true)
 
-pub returns-then-bytes-span-clause-laid : goal.returns-then-bytes-span-clause-laid
-returns-then-bytes-span-clause-laid c = is_laid c.before.before.before
+pub returns-then-bytes-span-clause-inserted : goal.returns-then-bytes-span-clause-inserted
+returns-then-bytes-span-clause-inserted c = is_inserted c.before.before.before
 
 pub returns-then-bytes-span-clause-whole : goal.returns-then-bytes-span-clause-whole
 returns-then-bytes-span-clause-whole c =
-    gap_stops (fragments c.insert.new.pool c.insert.new.self) (laid c.before.before.before).apart
+    gap_stops (fragments c.insert.new.pool c.insert.new.self) (inserted c.before.before.before).apart
     (omega (
       arith,
       counted c.before.before.before,
@@ -103,14 +103,15 @@ returns-then-bytes-span-clause-whole c =
       c.if-bytes-span.true,
     ))
 
-pub returns-clause-laid : goal.returns-clause-laid
-returns-clause-laid c = is_laid c.before.before.before
+pub returns-clause-inserted : goal.returns-clause-inserted
+returns-clause-inserted c = is_inserted c.before.before.before
 
 pub returns-clause-whole : goal.returns-clause-whole
 returns-clause-whole c =
     subst (λ (n : ℕ). IsWhole (map_of (fragments c.insert.new.pool c.insert.new.self)) n)
     (sym (counted c.before.before.before))
-    (whole_held (fragments c.insert.new.pool c.insert.new.self) c.len-place.result (laid c.before.before.before).apart
+    (whole_held (fragments c.insert.new.pool c.insert.new.self) c.len-place.result
+    (inserted c.before.before.before).apart
     (whole_of c.before.before.before).len ((whole_of c.before.before.before).more ∙ c.if-span.false)
     (omega (
       arith,

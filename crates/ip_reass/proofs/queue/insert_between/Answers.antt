@@ -2,7 +2,7 @@ use Rattle.std.proofs.Common.{refl, sym, ap, ◌∙◌, arith, ℕ, ◌++◌, �
 use Rattle.ip_reass.specs.Fragments.{fragment_of, fragments, cut, cut_to, queued, queued_end}
 use Rattle.ip_reass.specs.Inside.Walks.{arrived, after, reach}
 use Rattle.ip_reass.proofs.Counted.{held_as, fragments_as}
-use Rattle.ip_reass.proofs.Lays.{Covered, covered_in, Laid, laid_in, Settled, reaches}
+use Rattle.ip_reass.proofs.Inserts.{Covered, covered_in, Inserted, inserted_in, Settled, reaches}
 use Rattle.ip_reass.proofs.Whole.{held_within}
 use Rattle.ip_reass.proofs.queue.insert_between.Goals.{After-insert_trimmed-gone}
 use Rattle.ip_reass.proofs.queue.insert_between.Goals as goal
@@ -16,12 +16,12 @@ none c =
     c.requires.queue c.requires.live c.requires.apart
     c.walk_to-before.ensures.upto c.walk_to-before.ensures.above (omega arith) c.free_chain.ensures
 
-pub returns-then-len-lost-clause-laid : goal.returns-then-len-lost-clause-laid
-returns-then-len-lost-clause-laid c = record {
+pub returns-then-len-lost-clause-inserted : goal.returns-then-len-lost-clause-inserted
+returns-then-len-lost-clause-inserted c = record {
   same = refl;
   covered = (none c).covered;
   map = tt;
-  laid = tt;
+  inserted = tt;
   none = (none c).queue_is;
   queue = (none c).is;
   counted =
@@ -52,21 +52,22 @@ done c =
     }
 
 some : (c : After-insert_trimmed-gone)
-    → Laid c.args.pool.now c.args.datagram.now.fragments
+    → Inserted c.args.pool.now c.args.datagram.now.fragments
     (arrived c.args.pool.now c.args.chain c.args.span.offset c.args.span.more) c.insert_trimmed-gone.new.pool
     c.insert_trimmed-gone.new.train
 some c =
-    laid_in c.args.pool.now c.insert_trimmed-gone.new.pool c.args.datagram.now.fragments c.insert_trimmed-gone.new.train
+    inserted_in c.args.pool.now c.insert_trimmed-gone.new.pool c.args.datagram.now.fragments
+    c.insert_trimmed-gone.new.train
     (after c.walk_to-before.result.front) c.saturating_sub-lost.result c.args.chain
     (arrived c.args.pool.now c.args.chain c.args.span.offset c.args.span.more) c.requires.queue
     c.walk_to-before.ensures.upto c.walk_to-before.ensures.above (omega arith) (omega arith) c.requires.small (done c)
 
-pub returns-clause-laid : goal.returns-clause-laid
-returns-clause-laid c = record {
+pub returns-clause-inserted : goal.returns-clause-inserted
+returns-clause-inserted c = record {
   same = refl;
   covered = (some c.before.before).covered;
   map = (some c.before.before).map_is;
-  laid = (some c.before.before).queue_is;
+  inserted = (some c.before.before).queue_is;
   none = tt;
   queue =
       record {

@@ -7,7 +7,7 @@ use Rattle.ip_reass.specs.Inside.Walks.{arrived, after}
 use Rattle.ip_reass.proofs.Fronts.{front_beside, front_within}
 use Rattle.ip_reass.proofs.Steps.{Changed, changed}
 use Rattle.ip_reass.proofs.Counted.{held_between}
-use Rattle.ip_reass.proofs.Lays.{Waits, waits, Settled, settled}
+use Rattle.ip_reass.proofs.Inserts.{Waits, waits, Settled, settled}
 use Rattle.ip_reass.proofs.queue.insert_trimmed.Goals as goal
 
 -- the trimmed chain, as `clear` needs it

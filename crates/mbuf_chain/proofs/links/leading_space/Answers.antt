@@ -30,11 +30,11 @@ returns-else-is_some-clause-value c =
     (front_else c.args.store.now c.args.first c.data_start.result c.args.at c.head-head.result
     (rooms_at c.args.store.now c.args.first c.args.at c.head-head.result c.requires.pool c.requires.live
     c.requires.place c.head-head.ensures.value) (sym c.is_some.ensures
-    ∙ c.if-is_some.false) c.data_start.ensures).told.value
+    ∙ c.if-is_some.false) c.data_start.ensures).reported.value
 
 pub returns-else-is_some-clause-within : goal.returns-else-is_some-clause-within
 returns-else-is_some-clause-within c =
     (front_else c.args.store.now c.args.first c.data_start.result c.args.at c.head-head.result
     (rooms_at c.args.store.now c.args.first c.args.at c.head-head.result c.requires.pool c.requires.live
     c.requires.place c.head-head.ensures.value) (sym c.is_some.ensures
-    ∙ c.if-is_some.false) c.data_start.ensures).told.within
+    ∙ c.if-is_some.false) c.data_start.ensures).reported.within

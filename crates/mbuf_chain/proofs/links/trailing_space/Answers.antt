@@ -34,10 +34,10 @@ pub returns-else-is_some-clause-value : goal.returns-else-is_some-clause-value
 returns-else-is_some-clause-value c =
     (back_else c.args.store.now c.args.first c.args.at c.head-head.result
     (rooms_at c.args.store.now c.args.first c.args.at c.head-head.result c.requires.pool c.requires.live
-    c.requires.place c.head-head.ensures.value) (sym c.is_some.ensures ∙ c.if-is_some.false)).told.value
+    c.requires.place c.head-head.ensures.value) (sym c.is_some.ensures ∙ c.if-is_some.false)).reported.value
 
 pub returns-else-is_some-clause-within : goal.returns-else-is_some-clause-within
 returns-else-is_some-clause-within c =
     (back_else c.args.store.now c.args.first c.args.at c.head-head.result
     (rooms_at c.args.store.now c.args.first c.args.at c.head-head.result c.requires.pool c.requires.live
-    c.requires.place c.head-head.ensures.value) (sym c.is_some.ensures ∙ c.if-is_some.false)).told.within
+    c.requires.place c.head-head.ensures.value) (sym c.is_some.ensures ∙ c.if-is_some.false)).reported.within

@@ -10,9 +10,9 @@ returns-clause-done g c =
       after = c.snapshot_of-after.result;
       does = c.perform-reply.ensures.does;
       captured =
-          Captures-action c.args.capture.now.line c.args.capture.now.trace c.note.new.self.trace
+          Captures-action c.args.capture.now.line c.args.capture.now.trace c.keep_action.new.self.trace
           c.args.action reply (packet_behind c.moved_by-moved.result) c.ticks_of.result c.moved_by-moved.ensures.packet
-          c.ticks_of.ensures c.note.ensures.notes;
+          c.ticks_of.ensures c.keep_action.ensures.logs;
       was = c.snapshot_of-before.ensures;
       now = c.snapshot_of-after.ensures;
       reports = c.set_reply.ensures.reply_line;

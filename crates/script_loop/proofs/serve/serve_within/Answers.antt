@@ -31,7 +31,7 @@ chunks-preserved g c =
       within = c.in_ok-count-in-Ok.ensures.within.0;
       short = c.in_ok-count-in-Ok.ensures.within.1;
       read = MoreBy-then 0 0 0 _ _ _ (omega arith) c.chunks.invariant.read c.in-Ok.ensures.count;
-      wrote = MoreBy-then 0 0 0 _ _ _ (omega arith) c.chunks.invariant.wrote c.in_ok-count-in-Ok.ensures.told;
+      wrote = MoreBy-then 0 0 0 _ _ _ (omega arith) c.chunks.invariant.wrote c.in_ok-count-in-Ok.ensures.counted;
       served =
           (_, _, Moves-then _ _ _ _ _ _ _ _ _ _ kept.2 c.in-Ok.ensures.bytes.0 taken.1, rw (append-nil _) at taken.2);
     }
@@ -58,7 +58,7 @@ returns-in_err-count-in-Ok-clause-read g c =
 pub returns-in_err-count-in-Ok-clause-wrote : goal.returns-in_err-count-in-Ok-clause-wrote
 returns-in_err-count-in-Ok-clause-wrote g c =
     let p = err_from_is_err_and c.from_residual.result c.from_residual.ensures.1 in
-    rw (p.1, p.2) (MoreBy-then 0 _ _ _ _ _ (omega arith) c.chunks.invariant.wrote c.in_err-count-in-Ok.ensures.told)
+    rw (p.1, p.2) (MoreBy-then 0 _ _ _ _ _ (omega arith) c.chunks.invariant.wrote c.in_err-count-in-Ok.ensures.counted)
 
 pub returns-in_err-count-in-Ok-clause-started : goal.returns-in_err-count-in-Ok-clause-started
 returns-in_err-count-in-Ok-clause-started g c =

@@ -13,7 +13,7 @@ loop-at-init g c = record {
   within = c.requires.count;
   short = c.requires.short;
   fewer = omega arith;
-  told = MoreBy-none _;
+  counted = MoreBy-none _;
   taken = (
     [],
     refl,
@@ -72,7 +72,7 @@ loop-at-preserved g c =
             c.in_ok-now.ensures.fewer,
             cut-length rest (take at rest) c.split_at.result.1.now cut,
           );
-      told = MoreBy-then 0 0 0 _ _ _ (omega arith) c.loop-at.invariant.told c.in_ok-now.ensures.told;
+      counted = MoreBy-then 0 0 0 _ _ _ (omega arith) c.loop-at.invariant.counted c.in_ok-now.ensures.counted;
       taken = (
         taken.0 ++ piece,
         taken.1 ∙ ap (λ (t : List ℕ). taken.0 ++ t) cut ∙ sym (append_assoc taken.0 piece _),

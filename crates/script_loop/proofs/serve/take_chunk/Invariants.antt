@@ -10,7 +10,7 @@ invariant-loop-at g l = record {
   within : l.now ≤ 10000000;
   short : length l.line ≤ 1048576;
   fewer : budget l.now l.line + length l.chunk ≤ budget l.fn.count l.fn.line + length l.rest;
-  told : MoreBy 0 (g.W.Sink.failures l.fn.writer) (g.W.Sink.failures l.writer);
+  counted : MoreBy 0 (g.W.Sink.failures l.fn.writer) (g.W.Sink.failures l.writer);
   taken : (front : List ℕ) × (l.chunk ≡ front ++ l.rest)
       × ((begin : g.A.Answers.State) (seen written : List ℕ)
       → Answered g.A.Answers.may_answer begin (g.A.Answers.state l.fn.machine) seen l.fn.line l.fn.count written

@@ -5,7 +5,7 @@ use Rattle.script_loop.proofs.StreamLemmas.{MoreBy-none, MoreBy-then, MoreBy-som
 use Rattle.script_loop.proofs.streams.send.Goals as goal
 
 pub loop-rest-init : goal.loop-rest-init
-loop-rest-init g c = record { sent = search rules; told = MoreBy-none _ }
+loop-rest-init g c = record { sent = search rules; counted = MoreBy-none _ }
 
 pub loop-rest-preserved : goal.loop-rest-preserved
 loop-rest-preserved g c =
@@ -17,7 +17,7 @@ loop-rest-preserved g c =
         let e = kept.1 in grind (arith, common_steps, e),
         Appends-trans _ _ _ kept.0 (take n rest) kept.2 c.in-Ok.ensures.bytes,
       );
-      told =
-          MoreBy-then 0 0 0 _ _ _ (omega arith) c.loop-rest.invariant.told
+      counted =
+          MoreBy-then 0 0 0 _ _ _ (omega arith) c.loop-rest.invariant.counted
           (MoreBy-some c.in-Ok.n _ _ (omega arith) c.in-Ok.ensures.count);
     }

@@ -7,7 +7,7 @@ abbrev pub invariant-loop-rest : goal.invariant-loop-rest
 invariant-loop-rest g l = record {
   sent : (written : List ℕ) × (l.bytes ≡ written ++ l.rest)
       × Appends (g.W.Write.contents l.fn.writer) (g.W.Write.contents l.writer) written;
-  told : MoreBy 0 (g.W.Sink.failures l.fn.writer) (g.W.Sink.failures l.writer);
+  counted : MoreBy 0 (g.W.Sink.failures l.fn.writer) (g.W.Sink.failures l.writer);
 }
 
 abbrev pub decreases-loop-rest : goal.decreases-loop-rest

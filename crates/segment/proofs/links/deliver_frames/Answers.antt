@@ -11,8 +11,8 @@ use Rattle.segment.proofs.Walking.{walk_ends}
 use Rattle.segment.proofs.links.deliver_frames.Goals as goal
 use Rattle.segment.proofs.links.deliver_frames.Goals.{then-place-len, else-place-len}
 
-abbrev hears_so : List Flying → ℕ → Host → Host → Type 0
-hears_so due place h k = ReceiveEach (frames_to place h.link.link.mac due) h k
+abbrev receives_so : List Flying → ℕ → Host → Host → Type 0
+receives_so due place h k = ReceiveEach (frames_to place h.link.link.mac due) h k
 
 pub loop-place-preserved : goal.loop-place-preserved
 loop-place-preserved g c =
@@ -31,7 +31,7 @@ loop-place-preserved g c =
           let l = w.index_mut-then-place-len.result.now in
           record {
             walked =
-                walked_by (hears_so due) old stacks now.stacks.items links now.links.items place s
+                walked_by (receives_so due) old stacks now.stacks.items links now.links.items place s
                 w.hand_frames.new.stack l w.hand_frames.new.link inv.walked
                 (omega (arith, c.len.ensures, w.if-place-len.true)) (omega (arith, inv.links, inv.end))
                 w.index_mut.ensures.value w.index_mut-then-place-len.ensures.value w.hand_frames.ensures
@@ -44,7 +44,7 @@ loop-place-preserved g c =
           }
       | else-place-len w ↦ record {
         walked =
-            walked_past (hears_so due) old stacks now.stacks.items links now.links.items place inv.walked
+            walked_past (receives_so due) old stacks now.stacks.items links now.links.items place inv.walked
             (omega (arith, c.len.ensures, w.if-place-len.false))
             (ap (λ v. v.items) w.stacks-is) (ap (λ v. v.items) w.links-is);
         links = ap (λ v. length v.items) w.links-is ∙ inv.links;

@@ -1,7 +1,7 @@
 use Rattle.std.proofs.Common.{◌-◌, arith}
 use Rattle.mbuf_chain.proofs.Laws.Owners.{moves_trans}
 use Rattle.ip_reass.proofs.Arriving.{good_small}
-use Rattle.ip_reass.proofs.AtOnce.{Fits, at_once, end_accounts, fits_is, laid_len, stored}
+use Rattle.ip_reass.proofs.AtOnce.{Fits, at_once, end_accounts, fits_is, inserted_len, stored}
 use Rattle.ip_reass.proofs.table.Reass.arrive_bytes.Goals as goal
 
 pub insert_or_begin-requires-clause-ready : goal.insert_or_begin-requires-clause-ready
@@ -18,7 +18,7 @@ insert_or_begin-requires-clause-some c =
     fits_is c.args.pool.now c.args.head c.args.packet.now c.requires.fits in
     omega (
       arith,
-      laid_len c.args.packet.now c.store_carried-chain.ensures.0 fits.many c.store_carried-chain.ensures.2,
+      inserted_len c.args.packet.now c.store_carried-chain.ensures.0 fits.many c.store_carried-chain.ensures.2,
       fits.many,
     )
 
@@ -28,7 +28,7 @@ insert_or_begin-requires-clause-small c =
     fits_is c.args.pool.now c.args.head c.args.packet.now c.requires.fits in
     omega (
       arith,
-      laid_len c.args.packet.now c.store_carried-chain.ensures.0 fits.many c.store_carried-chain.ensures.2,
+      inserted_len c.args.packet.now c.store_carried-chain.ensures.0 fits.many c.store_carried-chain.ensures.2,
       fits.total,
       good_small c.args.head (c.args.head.total - 20) fits.good,
     )

@@ -103,7 +103,8 @@ returns-in-Kept-clause-layout c =
     (arrived c.args.pool.now c.args.chain c.args.head.offset c.args.head.more) r c.insert_and_count-arrival.new.pool
     c.insert_and_count-arrival.new.table.items) c.in-Kept.is
     ((before c).layout c.args.head.offset c.args.head.more c.insert_and_count-arrival.result
-    c.insert_and_count-arrival.new.pool c.insert_and_count-arrival.new.table.items c.insert_and_count-arrival.ensures.layout)
+    c.insert_and_count-arrival.new.pool c.insert_and_count-arrival.new.table.items
+    c.insert_and_count-arrival.ensures.layout)
 
 pub returns-in-Kept-clause-step : goal.returns-in-Kept-clause-step
 returns-in-Kept-clause-step c = λ rest held new acc goes.
@@ -166,13 +167,14 @@ after c =
     (record { datagrams = c.self.inside.datagrams.items; room = c.self.inside.index.room })
     c.place_of.new.counters c.place_of.result c.key_of.ensures c.self.view_is c.in-Some.is c.place_of.ensures
 
-laid : goal.returns-clause-layout
-laid c =
+inserted : goal.returns-clause-layout
+inserted c =
     (after c).layout c.args.head.offset c.args.head.more c.insert_and_count-arrival.result
-    c.insert_and_count-arrival.new.pool c.insert_and_count-arrival.new.table.items c.insert_and_count-arrival.ensures.layout
+    c.insert_and_count-arrival.new.pool c.insert_and_count-arrival.new.table.items
+    c.insert_and_count-arrival.ensures.layout
 
 pub returns-clause-layout : goal.returns-clause-layout
-returns-clause-layout c = laid c
+returns-clause-layout c = inserted c
 
 pub returns-clause-step : goal.returns-clause-step
 returns-clause-step c = λ rest held new acc goes.
@@ -185,7 +187,8 @@ returns-clause-whole c = c.insert_and_count-arrival.ensures.whole
 pub returns-clause-cause : goal.returns-clause-cause
 returns-clause-cause c =
     (after c).cause c.args.head.offset c.args.head.more c.insert_and_count-arrival.result
-    c.insert_and_count-arrival.new.pool c.insert_and_count-arrival.new.table.items c.insert_and_count-arrival.ensures.layout
+    c.insert_and_count-arrival.new.pool c.insert_and_count-arrival.new.table.items
+    c.insert_and_count-arrival.ensures.layout
     c.insert_and_count-arrival.ensures.cause
 
 pub returns-clause-ready : goal.returns-clause-ready
@@ -195,14 +198,14 @@ returns-clause-ready c = record {
       fragments_after c.args.pool.now c.insert_and_count-arrival.new.pool c.args.self.now.datagrams
       c.insert_and_count-arrival.new.table.items (key_in c.args.head)
       (arrived c.args.pool.now c.args.chain c.args.head.offset c.args.head.more) c.insert_and_count-arrival.result
-      (laid c) c.requires.ready.table c.requires.ready.fragments c.insert_and_count-arrival.ensures.table;
+      (inserted c) c.requires.ready.table c.requires.ready.fragments c.insert_and_count-arrival.ensures.table;
   room =
       omega (arith, c.insert_and_count-arrival.ensures.moves.mbufs, (after c).room, c.follow.ensures.room);
   distinct =
       distinct_after c.args.pool.now c.insert_and_count-arrival.new.pool c.args.self.now.datagrams
       c.insert_and_count-arrival.new.table.items (key_in c.args.head)
       (arrived c.args.pool.now c.args.chain c.args.head.offset c.args.head.more) c.insert_and_count-arrival.result
-      (laid c) c.requires.ready.distinct;
+      (inserted c) c.requires.ready.distinct;
 }
 
 pub returns-clause-moves : goal.returns-clause-moves

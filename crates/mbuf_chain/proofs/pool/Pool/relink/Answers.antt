@@ -2,7 +2,7 @@ use Rattle.std.proofs.Common.{◌≡◌, true, sym, subst, ap, ◌∙◌}
 use Rattle.std.specs.Option.{IfSome}
 use Rattle.mbuf_chain.specs.Chain.{PoolView, IsLive, chain_of, with_chain}
 use Rattle.mbuf_chain.specs.Steps.{placed}
-use Rattle.mbuf_chain.proofs.Bounds.{bounded, told}
+use Rattle.mbuf_chain.proofs.Bounds.{bounded, reported}
 use Rattle.mbuf_chain.proofs.Focused.{open_on, first_out}
 use Rattle.mbuf_chain.proofs.Trained.{relinked}
 use Rattle.mbuf_chain.proofs.pool.Pool.relink.Goals as goal
@@ -14,7 +14,7 @@ change_head-requires-clause-out c =
 
 pub change_head-requires-clause-possible : goal.change_head-requires-clause-possible
 change_head-requires-clause-possible c =
-    told c.self.inside.store c.args.next c.self.invariant
+    reported c.self.inside.store c.args.next c.self.invariant
     (subst (λ (p : PoolView). IfSome c.args.next (IsLive p)) (sym c.self.view_is) c.requires.link)
 
 pub invariant_of-self : goal.invariant_of-self

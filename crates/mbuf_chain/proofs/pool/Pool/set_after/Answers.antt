@@ -3,7 +3,7 @@ use Rattle.std.specs.Option.{IfSome}
 use Rattle.mbuf_pool.proofs.Laws.{sets_out}
 use Rattle.mbuf_chain.specs.Chain.{PoolView, IsLive, chain_of, with_chain}
 use Rattle.mbuf_chain.specs.Steps.{placed}
-use Rattle.mbuf_chain.proofs.Bounds.{bounded, told}
+use Rattle.mbuf_chain.proofs.Bounds.{bounded, reported}
 use Rattle.mbuf_chain.proofs.Focused.{open_on, first_out}
 use Rattle.mbuf_chain.proofs.Trained.{packet_after, packet_there, placed_made, trained_twice}
 use Rattle.mbuf_chain.proofs.pool.Pool.set_after.Goals as goal
@@ -15,7 +15,7 @@ change_head-requires-clause-out c =
 
 pub change_head-requires-clause-possible : goal.change_head-requires-clause-possible
 change_head-requires-clause-possible c =
-    told c.self.inside.store c.args.after c.self.invariant
+    reported c.self.inside.store c.args.after c.self.invariant
     (subst (λ (p : PoolView). IfSome c.args.after (IsLive p)) (sym c.self.view_is) c.requires.link)
 
 pub change_head-requires-2-clause-out : goal.change_head-requires-2-clause-out

@@ -7,5 +7,6 @@ use Rattle.play_script.proofs.captured.CapturedStack.wait.Goals as goal
 
 pub returns-clause-captured : goal.returns-clause-captured
 returns-clause-captured g c =
-    Captures-action c.args.line c.args.self.now.capture.trace c.note.new.self.trace (Ticks c.args.ticks) Done None
-    c.args.ticks (sym (ticks_move c.args.ticks Done)) refl c.note.ensures.notes
+    Captures-action c.args.line c.args.self.now.capture.trace c.keep_action.new.self.trace (Ticks c.args.ticks) Done
+    None
+    c.args.ticks (sym (ticks_move c.args.ticks Done)) refl c.keep_action.ensures.logs

@@ -1,6 +1,6 @@
 use Rattle.std.proofs.Common.{None, refl}
 use Rattle.flat_model.specs.Machine.Event.{Done, Tick}
-use Rattle.play_script.proofs.CaptureLemmas.{Captures-one, Keeps-none, Notes-ticks}
+use Rattle.play_script.proofs.CaptureLemmas.{Captures-one, Keeps-none, Logs-ticks}
 use Rattle.stack_call.specs.Moves.{StackSteps}
 use Rattle.play_script.proofs.captured.CapturedStackWire.tick.Goals as goal
 
@@ -12,7 +12,7 @@ returns g c =
       tt,
       c.tick.ensures,
       Captures-one line old c.tick-2.new.self.trace Tick Done None 1 refl refl
-          (Notes-ticks line 1 old old c.tick-2.new.self.trace None (Keeps-none old, refl) c.tick-2.ensures.trace),
+          (Logs-ticks line 1 old old c.tick-2.new.self.trace None (Keeps-none old, refl) c.tick-2.ensures.trace),
       c.tick-2.ensures.line,
       refl,
     )

@@ -38,7 +38,7 @@ returns c =
           c.of-verdict.ensures);
       prints = c.put_record.ensures;
       counts =
-          c.note.ensures ∙ ap₂ (λ (a b : Counters). judged seen a b old.verdicts) before.ensures after.ensures;
+          c.count_record.ensures ∙ ap₂ (λ (a b : Counters). judged seen a b old.verdicts) before.ensures after.ensures;
       totals =
           c.after-totals.ensures ∙ ap₂ (λ (a b : Counters). totals_after here a b old.totals) before.ensures
           after.ensures;
