@@ -23,7 +23,7 @@ packet-requires-clause-fits c =
 
 pub returns-clause-packet : goal.returns-clause-packet
 returns-clause-packet c =
-    subst (λ (v : StackView). option_map (λ n. take n c.packet.new.room) c.packet.result
+    subst (λ (v : StackView). option_map (λ n. take n c.packet.new.buffer) c.packet.result
     ≡ nth_packet c.args.i (state_of v).output)
     (lent_shows c.self.inside c.as_ref-host.result.now c.args.self.now c.as_ref-host.ensures c.self.view_is)
     c.packet.ensures.packet
