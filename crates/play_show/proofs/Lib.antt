@@ -1,2 +1,3 @@
 mod ShownLemmas
+mod Waiting
 pub mod Laws

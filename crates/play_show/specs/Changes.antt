@@ -23,13 +23,17 @@ abbrev pub waiting_of : Result NextDatagram Errno → ℕ
 waiting_of (Ok next) = next.waiting
 waiting_of (Err errno) = 0
 
+-- how many datagrams wait in each socket, that of descriptor 3 first
+abbrev pub IsWaiting : State → List ℕ → Type 0
+IsWaiting s xs = (k : ℕ) → k < MAX_SOCKETS → get_or xs k 0 ≡ waiting_of (next_datagram (FIRST_DESCRIPTOR + k) s)
+
 -- A snapshot of a state: its counters and its pool, the number of packets that wait for the link, and the number of
 -- datagrams that wait in each socket.
 pub record IsSnapshot (step : State → Event → Reply → State → Type 0) (s : State) (x : Snapshot) : Type 0 where
   pub counters : step s Ask_counters (Counted x.counters) s
   pub usage : step s Ask_usage (Shown x.usage) s
   pub output : x.output ≡ length s.output
-  pub waiting : (k : ℕ) → k < MAX_SOCKETS → get_or x.waiting k 0 ≡ waiting_of (next_datagram (FIRST_DESCRIPTOR + k) s)
+  pub waiting : IsWaiting s x.waiting
 
 -- ---- what an event did
 

@@ -1,6 +1,4 @@
 //! The log of what passes on the wire during a line.
-ghost use Rattle.std.specs.Prelude.{◌≤◌};
-ghost use Rattle.params.specs.declared.TheConstants.{MAX_MTU};
 
 use crate::add::{add, add_number};
 use crate::event::{Event, Happened, add_due, add_events, add_objects, add_packet};
@@ -34,23 +32,26 @@ struct Packet {
     sender: usize,
     len: usize,
     buffer: [u8; OUTPUT],
-    ghost within: { len ≤ MAX_MTU },
 }
 
 impl Packet {
-    fn of(sender: usize, packet: &[u8]) -> Packet {
-        let mut buffer = [0; OUTPUT];
-        let len = packet.len().min(OUTPUT);
-        buffer[..len].copy_from_slice(&packet[..len]);
+    fn new() -> Packet {
         Packet {
-            sender,
-            len,
-            buffer,
+            sender: 0,
+            len: 0,
+            buffer: [0; OUTPUT],
         }
     }
 
+    fn set(&mut self, sender: usize, packet: &[u8]) {
+        let len = packet.len().min(OUTPUT);
+        self.sender = sender;
+        self.len = len;
+        self.buffer[..len].copy_from_slice(&packet[..len]);
+    }
+
     fn bytes(&self) -> &[u8] {
-        &self.buffer[..self.len]
+        &self.buffer[..self.len.min(OUTPUT)]
     }
 }
 
@@ -63,8 +64,10 @@ pub(crate) struct Log {
     json: bool,
     /// The number of the line.
     number: u64,
-    /// The packets of half a carry, and what happened to them.
+    /// The packets of half a carry: the first `kept` of these. A place is filled again, since each has 9 KB.
     packets: Vec<Packet>,
+    kept: usize,
+    /// What happened to them.
     events: Vec<Event>,
     /// How many packets of each host were sent once, by the places of the hosts.
     sent: [u64; MAX_HOSTS],
@@ -92,6 +95,7 @@ impl Log {
             json: false,
             number: 0,
             packets: Vec::with_capacity(alloc, KEPT)?,
+            kept: 0,
             events: Vec::with_capacity(alloc, FATES)?,
             sent: [0; MAX_HOSTS],
             printed: 0,
@@ -119,7 +123,7 @@ impl Log {
 
     /// Forgets the packets.
     fn clear(&mut self) {
-        self.packets.clear();
+        self.kept = 0;
         self.events.clear();
         self.sent = [0; MAX_HOSTS];
         self.printed = 0;
@@ -129,8 +133,12 @@ impl Log {
 
     /// Logs a packet, and returns whether there was space for it.
     fn keep(&mut self, sender: usize, packet: &[u8]) -> bool {
-        if self.packets.len() < self.packets.capacity() {
-            self.packets.push_reserved(Packet::of(sender, packet));
+        if self.kept == self.packets.len() && self.kept < self.packets.capacity() {
+            self.packets.push_reserved(Packet::new());
+        }
+        if let Some(place) = self.packets.get_mut(self.kept) {
+            place.set(sender, packet);
+            self.kept = self.kept.saturating_add(1);
             return true;
         }
         self.partial = true;
@@ -146,7 +154,7 @@ impl Log {
 
     /// Logs what happened to the packet with this number, if it's logged.
     fn add_event(&mut self, number: usize, happened: Happened) {
-        if number < self.packets.len() && self.events.len() < self.events.capacity() {
+        if number < self.kept && self.events.len() < self.events.capacity() {
             self.events.push_reserved(Event { number, happened });
         } else {
             self.partial = true;
@@ -156,7 +164,7 @@ impl Log {
     /// Writes all logged packets and what happened to them, and clears the log.
     pub(crate) fn report_packets(&mut self, names: &[Buffer<NAME>], ether: bool) {
         self.report_sent(names);
-        for number in 0..self.packets.len() {
+        for number in 0..self.kept {
             self.report_packet(names, ether, number);
         }
         self.report_more();
@@ -264,7 +272,7 @@ impl Watch for Log {
             }
             _ => Happened::WireFull,
         };
-        let number = self.packets.len();
+        let number = self.kept;
         if self.keep(sender, packet) {
             self.add_event(number, happened);
         } else {
@@ -280,7 +288,7 @@ impl Watch for Log {
 
     fn arriving(&mut self, number: usize, _place: usize, stack: &Stack, link: Tallies) {
         self.before = None;
-        if number < self.packets.len() {
+        if number < self.kept {
             self.before = Some(Look::at(stack, link));
         }
     }

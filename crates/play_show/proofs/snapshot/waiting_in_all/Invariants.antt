@@ -3,7 +3,7 @@ use Rattle.params.specs.declared.TheConstants.{FIRST_DESCRIPTOR, MAX_SOCKETS}
 use Rattle.sock_calls.specs.Questions.{next_datagram}
 use Rattle.play_show.specs.Changes.{waiting_of}
 use Rattle.net_stack.specs.Stack.{state_of}
-use Rattle.play_show.proofs.snapshot.snapshot_of.Given as goal
+use Rattle.play_show.proofs.snapshot.waiting_in_all.Given as goal
 
 abbrev pub invariant-places : goal.invariant-places
 invariant-places l = record {
