@@ -22,7 +22,7 @@ FIELDS = {
     "protocol": "(and_parts _ _ e).1",
 }
 # What a wrong definition can break in the law: the fields of a key, or a send.
-LEMMAS = re.compile(rf"Rattle\.{NAME}\.proofs\.(Second\.key_\w+|Told\.\S+)")
+LEMMAS = re.compile(rf"Rattle\.{NAME}\.proofs\.(Second\.key_\w+|Recorded\.\S+)")
 LAWS = f"Rattle.{NAME}.proofs.Laws"
 
 
@@ -38,7 +38,7 @@ def replaced(text: str, old: str, new: str) -> str:
 
 def from_definitions(place: str, text: str) -> str:
     """Returns a file of proofs whose lemmas don't cite `whole_key` and `next_number`."""
-    if place == "proofs/Told.antt":
+    if place == "proofs/Recorded.antt":
         text = replaced(text, "next_number fd out x named ∙ ap (λ n. (n + 1) % 65536) got.0.id;", "left_is.id;")
         return replaced(text, " next_number,", "")
     if place == "proofs/Second.antt":
