@@ -67,7 +67,7 @@ function openNext() {
 // ---- predict, then reveal
 
 // Whether the page says that the expected reply came: in a lesson it always does.
-const isToldMet = step => Boolean(step.expected) && !(step.isMet && page.known && !isExercise());
+const isMetShown = step => Boolean(step.expected) && !(step.isMet && page.known && !isExercise());
 const isUnsolved = ({ expected, line }) => expected === null && !line.startsWith("--");
 const isExercise = () => Boolean(page.known) && page.known.kind === "exercises";
 

@@ -20,7 +20,7 @@ function leadOf(step, note, verdicts) {
     note && h("p", { class: "note" }, note), verdicts,
     step.kind !== "bad" && h("p", { class: "reply" }, h("span", {}, "reply "),
       h("code", {}, cut(step.says || step.reply, 160))),
-    step.below.length > 0 && belowView(step.below), isToldMet(step) && expectedView(step));
+    step.below.length > 0 && belowView(step.below), isMetShown(step) && expectedView(step));
 }
 
 // The lines that the program prints below the reply.
@@ -103,8 +103,8 @@ const GIVES_UP = new Set(["ip.fragtimeout", "ip.reclaimed"]);
 // Datagrams that a line dropped: they were unfinished before it, and it completed no datagram.
 function givenUp(step, before, now) {
   const left = now.pieces.map(it => it.key), gone = before.pieces.filter(it => !left.includes(it.key));
-  const told = it => h("span", { class: "rule" }, `${it.key}: bytes ${bytesTold(it)} came.`);
-  return has(step, "ip.reassembled") ? [] : gone.map(told);
+  const lineOf = it => h("span", { class: "rule" }, `${it.key}: bytes ${bytesText(it)} came.`);
+  return has(step, "ip.reassembled") ? [] : gone.map(lineOf);
 }
 
 // The cause of a drop: the program's cause, or otherwise the meaning of the counter.
@@ -199,7 +199,7 @@ function outputView(output, before) {
 }
 
 const sortedPieces = ({ pieces }) => [...pieces].sort((a, b) => a.from - b.from);
-const bytesTold = it => sortedPieces(it).map(({ from, to }) => `${from} to ${to - 1}`).join(", ");
+const bytesText = it => sortedPieces(it).map(({ from, to }) => `${from} to ${to - 1}`).join(", ");
 
 // The pieces of an unfinished datagram in order, on one scale.
 function piecesView(datagram, most) {
@@ -209,7 +209,7 @@ function piecesView(datagram, most) {
   return h("div", { class: "pieces" }, h("small", {}, key),
     h("div", { class: `pieces-bar${end ? "" : " open"}`, "aria-hidden": "true",
       style: `width: ${(100 * whole) / most}%` }, bars),
-    h("small", {}, `has bytes ${bytesTold(datagram)}${end ? ` of ${end}` : "; its length isn't known yet"}`));
+    h("small", {}, `has bytes ${bytesText(datagram)}${end ? ` of ${end}` : "; its length isn't known yet"}`));
 }
 
 function unfinishedView({ pieces, owned }) {

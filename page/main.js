@@ -68,7 +68,7 @@ const badgesOf = step => step.changed.map(({ host, name, by, isLost }) =>
   h("span", { class: DROPS.has(name) || isLost ? "badge drop" : "badge" }, `${host ? `${host} ` : ""}+${by} ${name}`));
 
 // Whether the expected reply of a line was met.
-const markOf = step => isToldMet(step) && (step.isMet
+const markOf = step => isMetShown(step) && (step.isMet
   ? h("span", { class: "badge came" }, "✓ expected")
   : h("span", { class: "badge drop" }, "✗ expected ", step.expected));
 

@@ -144,7 +144,7 @@ const TYPES = { 0x0800: "IPv4", 0x0806: "ARP" };
 const word16 = (bytes, at) => 256 * bytes[at] + bytes[at + 1];
 const word32 = (bytes, at) => 65536 * word16(bytes, at) + word16(bytes, at + 2);
 const macAt = (bytes, at) => Array.from(bytes.subarray(at, at + 6), byte => hexOf([byte])).join(":");
-const macTold = mac => (mac === MAC_BROADCAST ? "all" : mac);
+const macText = mac => (mac === MAC_BROADCAST ? "all" : mac);
 
 // The fields of a frame (RFC 894) in order, then those of its IP packet or ARP packet (RFC 826). `arp` or `packet` has
 // the bytes after its header, if it's one of these.
@@ -159,7 +159,7 @@ class Frame {
     this.source = macAt(bytes, 6);
     this.type = word16(bytes, 12);
     const name = TYPES[this.type];
-    this.add("Ethernet destination", 0, 6, "destination", macTold(this.destination), 32);
+    this.add("Ethernet destination", 0, 6, "destination", macText(this.destination), 32);
     this.add("Ethernet source", 6, 6, "source", this.source, 32);
     this.add("type", 12, 2, "other", `${hex16(this.type)}${name ? ` ${name}` : ""}`, 32);
     this.addBody(bytes.subarray(ETHER_HEADER));
@@ -202,7 +202,7 @@ class Frame {
   // A summary in one line: source, destination and contents.
   get tells() {
     if (this.isShort) return `${plural(this.length, "byte")}, no whole Ethernet header`;
-    const who = `${this.source} → ${macTold(this.destination)}`;
+    const who = `${this.source} → ${macText(this.destination)}`;
     if (this.packet) return `${who}: ${this.packet.tells}`;
     if (!this.arp) return `${who}: type ${hex16(this.type)}, ${plural(this.length - ETHER_HEADER, "byte")}`;
     const { operation, mac, ip, target } = this.arp;

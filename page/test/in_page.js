@@ -331,9 +331,9 @@ function faultsOfQuestions({ mode, name, title }) {
   const wrong = page.notes.questions[i].answers.findIndex(it => !it.isRight);
   document.querySelectorAll(".predict input")[wrong].click();
   document.querySelector(".predict .main").click();
-  const isTold = document.querySelector("#look .verdict.no") && document.querySelector("#look .reply");
+  const isSeen = document.querySelector("#look .verdict.no") && document.querySelector("#look .reply");
   return [...(isHidden ? [] : [`${title}: the reply is seen before it's guessed`]),
-    ...(isTold ? [] : [`${title}: a wrong guess isn't told`])];
+    ...(isSeen ? [] : [`${title}: a wrong guess isn't shown`])];
 }
 
 // Writes an answer into the field of a question, and presses its button. Returns the page's message.
@@ -461,7 +461,7 @@ function faultsOfWire() {
   if (!document.activeElement.closest(".puts")) faults.push("the keyboard isn't at the buttons of the wire");
   byId("put-carry").click();
   const isLost = page.steps[8].moved.some(it => it.fate === "lost") && !page.steps[8].moved.some(it => it.to);
-  if (!isLost) faults.push("a packet that was lost isn't told");
+  if (!isLost) faults.push("a packet that was lost isn't shown");
   byId("put-loss").click();
   if (page.steps[9].line !== "loss 0%" || page.at !== 9) faults.push("the wire isn't mended by its button");
   const before = byId("script").value;

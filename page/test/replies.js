@@ -178,7 +178,7 @@ function tryHeaders(engine) {
   }
   for (const bytes of packets) {
     const [got, wanted] = [engine.header(Uint8Array.from(bytes)), headerBy(bytes)].map(it => JSON.stringify(it));
-    if (got !== wanted) return fault(`the headers of ${page.hexOf(bytes)}`, `${wanted} is right, and ${got} is told`);
+    if (got !== wanted) return fault(`the headers of ${page.hexOf(bytes)}`, `right are ${wanted}, not ${got}`);
   }
   return null;
 }
@@ -258,7 +258,7 @@ const SENT = n => Array.from({ length: n }, (_, i) => (i & 255).toString(16).pad
 const RX = (bytes, more = "", to = "10.0.0.1:7") => `rx udp 10.0.0.2:5000 > ${to} ${bytes} ${more}`.trim();
 const TWO = ["socket", "setsockopt 3 reuseport 1", "bind 3 0.0.0.0 7", "socket", "setsockopt 4 reuseport 1",
   "bind 4 0.0.0.0 7"];
-const LAID = [
+const CHAINS = [
   [["socket", "bind 3 0.0.0.0 7", RX('"hi"')], "H28+16 56+2"],
   [["socket", "bind 3 0.0.0.0 7", RX('"hi"'), RX("@1472", "id 2")], "H28+16 56+2 / H28+16 28+1472x1"],
   [["socket", "bind 3 0.0.0.0 7", RX('"hi"'), RX("@1472", "id 2"), "recvfrom 3 9000"], "H28+16 28+1472x1"],
@@ -273,7 +273,7 @@ const LAID = [
     "; ; H28+0 ; H48+20 40+220x1 / H48+80 20+8"],
 ];
 
-// A state in the form of LAID.
+// A state in the form of CHAINS.
 function wordsOf(state) {
   const at = new Map(state.mbufs.map(it => [it.n, it]));
   const wordOf = it => `${it.pkthdr === null ? "" : "H"}${it.data}+${it.len}`
@@ -284,9 +284,9 @@ function wordsOf(state) {
   return [...state.sockets.map(it => trainOf(it.first)), trainOf(state.output.first), ...late].join(" ; ").trim();
 }
 
-function tryLaid(engine) {
+function tryChains(engine) {
   const config = page.DEFAULT_CONFIG, bare = text => text.replace(/^[; ]+|[; ]+$/g, "");
-  for (const [lines, wanted] of LAID) {
+  for (const [lines, wanted] of CHAINS) {
     const { own } = page.tracePlay(engine, lines.join("\n"));
     const got = wordsOf(engine.state(config, own.map(it => it.line + "\n").join(""))), last = lines[lines.length - 1];
     if (bare(got) !== bare(wanted)) {
@@ -357,11 +357,11 @@ function tryWaiting(say, { state, sockets, output, pieces }, chainsOf) {
   const isOutput = output.length === state.output.len && packets.length === output.length
     && output.every((it, i) => isBytesOf(it.packet.bytes, packets[i]));
   if (!isOutput) say("other packets are in the state than wait for the link");
-  const laid = state.unfinished.map(it => chainsOf(it.first).map(([head]) => [head.rcvif >> 1, head.pkthdr]));
-  const told = pieces.map(it => it.pieces.map(({ from, to }) => [from, to - from]));
+  const stored = state.unfinished.map(it => chainsOf(it.first).map(([head]) => [head.rcvif >> 1, head.pkthdr]));
+  const shown = pieces.map(it => it.pieces.map(({ from, to }) => [from, to - from]));
   // (`show unfinished` prints the first 32)
-  const isAll = laid.length === told.length || (told.length === 32 && laid.length > 32);
-  if (!isAll || JSON.stringify(laid.slice(0, told.length)) !== JSON.stringify(told)) {
+  const isAll = stored.length === shown.length || (shown.length === 32 && stored.length > 32);
+  if (!isAll || JSON.stringify(stored.slice(0, shown.length)) !== JSON.stringify(shown)) {
     say("other fragments are in the state than are shown");
   }
 }
@@ -665,7 +665,7 @@ async function main() {
   for (const script of plays) {
     if (!exercises.includes(script) && !OTHERS.includes(path.basename(script))) tryScript(engine, "run", script);
   }
-  tryLaid(engine);
+  tryChains(engine);
   tryAllStates(engine);
   tryCaptures(engine, path.join(examples, "play"));
   tryTshark(engine, path.join(examples, "play", "by_tcpdump.pcap"));

@@ -79,7 +79,7 @@ fn begins_between(first: u32, offset: u32, after: u32) -> bool
     offset < first && first < after
 }
 
-/// Returns the cell at an offset after the fragment has been laid over the table.
+/// Returns the cell at an offset after the fragment is inserted into the table.
 fn overlaid(old: Option<Cell>, k: u32, fragment: Fragment, first: u32, bytes: &[u8]) -> Option<Cell>
     requires small { length bytes.now ≤ 65536 }
     requires offset { fragment.offset ≤ 65536 }

@@ -14,7 +14,7 @@ pub record IsFragmentOf (s : List ℕ) (mtu : ℕ) (f : Fragment) : Type 0 where
   pub bytes : f.bytes ≡ bytes_of_part s part
   pub more : f.more ≡ part.more
 
--- these fragments laid over an empty map, the last of the list first
+-- these fragments, inserted into an empty map, the last of the list first
 abbrev pub inserted : List Fragment → Map
 inserted [] = empty
 inserted (f ∷ fragments) = overlay (inserted fragments) f

@@ -27,34 +27,34 @@ fn place_at(pool: &Pool, train: &Train, i: u32) -> QueuedPlace
     at
 }
 
-/// Copies the bytes of all mbufs to the front of `room`, in which they must fit, and returns their number.
-fn copy_all(pieces: Pieces<'_>, room: &mut [u8]) -> usize
-    requires { length (concat pieces) ≤ length room.old }
-    ensures copied { take result room.new ≡ concat pieces.entry }
-    ensures within { result ≤ length room.new }
-    ensures rest { drop result room.new ≡ drop result room.old }
+/// Copies the bytes of all mbufs to the front of `buffer`, in which they must fit, and returns their number.
+fn copy_all(pieces: Pieces<'_>, buffer: &mut [u8]) -> usize
+    requires { length (concat pieces) ≤ length buffer.old }
+    ensures copied { take result buffer.new ≡ concat pieces.entry }
+    ensures within { result ≤ length buffer.new }
+    ensures rest { drop result buffer.new ≡ drop result buffer.old }
 {
     let mut at = 0;
     'mbufs: for piece in pieces {
         let end = at + piece.len();
-        room[at..end].copy_from_slice(piece);
+        buffer[at..end].copy_from_slice(piece);
         at = end;
     }
     at
 }
 
 /// Copies the packet at index `i`: see `Queue::packet`.
-pub(crate) fn copy_packet(pool: &Pool, train: &Train, i: u32, room: &mut [u8]) -> Option<usize>
+pub(crate) fn copy_packet(pool: &Pool, train: &Train, i: u32, buffer: &mut [u8]) -> Option<usize>
     requires held { IsHeld pool.now train.now }
-    requires fits { IfSome (nth_packet i (train_packets pool.now train.now)) (λ bytes. length bytes ≤ length room.old) }
-    ensures packet { option_map (λ n. take n room.new) result ≡ nth_packet i (train_packets pool.now train.now) }
-    ensures within { IfSome result (λ n. n ≤ length room.new) }
-    ensures same { IfNone result (room.new ≡ room.old) }
-    ensures rest { IfSome result (λ n. drop n room.new ≡ drop n room.old) }
+    requires fits { IfSome (nth_packet i (train_packets pool.now train.now)) (λ p. length p ≤ length buffer.old) }
+    ensures packet { option_map (λ n. take n buffer.new) result ≡ nth_packet i (train_packets pool.now train.now) }
+    ensures within { IfSome result (λ n. n ≤ length buffer.new) }
+    ensures same { IfNone result (buffer.new ≡ buffer.old) }
+    ensures rest { IfSome result (λ n. drop n buffer.new ≡ drop n buffer.old) }
 {
     if i >= train.len() {
         return None;
     }
     let at = place_at(pool, train, i);
-    Some(copy_all(train.pieces_at(pool, at), room))
+    Some(copy_all(train.pieces_at(pool, at), buffer))
 }

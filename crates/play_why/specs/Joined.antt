@@ -1,5 +1,5 @@
--- The bytes of a datagram, reassembled from its fragments. Each is laid over those before it, as in the stack
--- (`overlay` of flat_model; volume 2, chapter 10).
+-- The bytes of a datagram, reassembled from its fragments. Each is inserted into the bytes of those before it, as in
+-- the stack (`overlay` of flat_model; volume 2, chapter 10).
 use Rattle.std.specs.Prelude.{◌≡◌, ℕ, ◌+◌, ◌≤◌, ◌&&◌, Bool, false, cond, nat_le, nat_lt, List, [], ◌∷◌, ◌++◌, length, slice_index_or, flat_map, max, if◌then◌else◌, Option, Some, None, IfSome}
 use Rattle.flat_model.specs.Amounts.Weight.{nothing}
 use Rattle.flat_model.specs.Fragments.Overlay.{Held, Map, Fragment, empty, fragment_end, overlay, stays}
@@ -30,7 +30,7 @@ fragments_of key = flat_map (fragment_if key)
 
 -- ---- the reassembled bytes
 
--- each fragment laid over those before it
+-- each fragment, inserted into the bytes of those before it
 abbrev pub inserted_over : Map → List Fragment → Map
 inserted_over bytes [] = bytes
 inserted_over bytes (f ∷ fs) = inserted_over (overlay bytes f) fs
@@ -61,7 +61,7 @@ spot_held (Some spot) =
 abbrev pub spots_map : List (Option Spot) → Map
 spots_map spots offset = spot_held (slice_index_or spots offset None)
 
--- what is at an offset of a fragment after it was laid over the bytes, and at another one
+-- what is at an offset of a fragment after it was inserted, and at another one
 abbrev pub inside : Option Held → ℕ → ℕ → ℕ → Option Held
 inside old offset byte first =
     if stays offset old then old
@@ -79,7 +79,7 @@ pub record IsWithin (spots : List (Option Spot)) (n : ℕ) : Type 0 where
   pub past : (k : ℕ) → n ≤ k → spots_map spots k ≡ None
   pub firsts : (k : ℕ) → IfSome (spots_map spots k) (λ held. held.piece.first ≤ n)
 
--- a table has these fragments, laid one over another
+-- a table has the bytes of these fragments, inserted one after another
 pub record IsReassembled (spots : List (Option Spot)) (reach : ℕ) (fs : List Fragment) : Type 0 where
   pub map : (k : ℕ) → spots_map spots k ≡ inserted_over empty fs k
   pub reach_is : reach ≡ reach_from 0 fs

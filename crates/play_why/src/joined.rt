@@ -99,14 +99,14 @@ fn is_between(k: usize, offset: usize, end: usize) -> bool
     offset <= k && k < end
 }
 
-/// Returns what is at an offset of a fragment after it was laid over the bytes.
+/// Returns what is at an offset of a fragment after it was inserted.
 fn inserted_inside(old: Option<Spot>, offset: usize, new: Spot) -> Option<Spot>
     ensures { joined.spot_held result ≡ joined.inside (joined.spot_held old) offset new.byte new.first }
 {
     if stays(old, offset) { old } else { Some(new) }
 }
 
-/// Returns what is at another offset after a fragment was laid over the bytes.
+/// Returns what is at another offset after a fragment was inserted.
 fn inserted_outside(old: Option<Spot>, offset: usize, end: usize) -> Option<Spot>
     ensures { joined.spot_held result ≡ joined.outside (joined.spot_held old) offset end }
 {
@@ -124,7 +124,7 @@ fn inserted_outside(old: Option<Spot>, offset: usize, end: usize) -> Option<Spot
     }
 }
 
-/// Returns what is at offset `k` after a fragment was laid over the bytes. `first` is the least offset that its piece
+/// Returns what is at offset `k` after a fragment was inserted. `first` is the least offset that its piece
 /// owns.
 fn inserted(old: Option<Spot>, k: usize, offset: usize, bytes: &[u8], first: usize) -> Option<Spot>
     requires { offset + length bytes.now ≤ DATAGRAM }

@@ -76,6 +76,6 @@ lies map f offset true old = if stays f.offset old then old else Some (brought m
 lies map f offset false None = None
 lies map f offset false (Some held) = Some (cut_back f held)
 
--- the map after the fragment is laid over it
+-- the map after the fragment is inserted
 unfoldable pub overlay : Map → Fragment → Map
 overlay map f offset = lies map f offset (is_within f offset) (map offset)

@@ -156,7 +156,7 @@ module _ (L : Ledger) where
       (counts_reassembled (end_unfinished k old)) new)
       ⊎ (((n : ℕ) → ¬ IsWhole bytes n) × (new ≡ set_bytes k bytes old))
 
-  -- the fragment is laid over the bytes under its key, or ends if pieces that begin no later have all its bytes already
+  -- the fragment is inserted into the bytes under its key, or ends if pieces that begin no later have all its bytes
   abbrev pub Inserts : Weight → Key → Fragment → Unfinished → State → State → Type 0
   Inserts held k f u old new =
       Choice (is_covered u.bytes f)

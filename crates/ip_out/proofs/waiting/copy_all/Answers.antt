@@ -12,18 +12,18 @@ mbufs-preserved c =
     let part : c.copy_from_slice.new.self ≡ piece = c.copy_from_slice.ensures.after in
     let all = length-append piece rest in
     let was = ap (λ (ps : List (List ℕ)). length (concat ps)) c.in-Some.ensures.steps in
-    let room : at ≤ length c.mbufs.room = omega (arith, c.mbufs.invariant.within, c.mbufs.auto.room) in
+    let room : at ≤ length c.mbufs.buffer = omega (arith, c.mbufs.invariant.within, c.mbufs.auto.buffer) in
     let size : length c.copy_from_slice.new.self ≡ length piece = ap (λ (xs : List ℕ). length xs) part in
     record {
       within = omega (arith, c.mbufs.invariant.within, all, was);
       copied = ap (λ (xs : List ℕ). xs ++ rest)
-          (take-put_mid at _ c.mbufs.room c.copy_from_slice.new.self (at + length piece) (omega (arith, size)) room)
-          ∙ ap (λ (xs : List ℕ). (take at c.mbufs.room ++ xs) ++ rest) part
-          ∙ append_assoc (take at c.mbufs.room) piece rest
-          ∙ ap (λ (ps : List (List ℕ)). take at c.mbufs.room ++ concat ps) (sym c.in-Some.ensures.steps)
+          (take-put_mid at _ c.mbufs.buffer c.copy_from_slice.new.self (at + length piece) (omega (arith, size)) room)
+          ∙ ap (λ (xs : List ℕ). (take at c.mbufs.buffer ++ xs) ++ rest) part
+          ∙ append_assoc (take at c.mbufs.buffer) piece rest
+          ∙ ap (λ (ps : List (List ℕ)). take at c.mbufs.buffer ++ concat ps) (sym c.in-Some.ensures.steps)
           ∙ c.mbufs.invariant.copied;
       kept =
-          λ n le. drop-put_mid at _ c.mbufs.room c.copy_from_slice.new.self n (omega (arith, le)) room
+          λ n le. drop-put_mid at _ c.mbufs.buffer c.copy_from_slice.new.self n (omega (arith, le)) room
           (omega (arith, size))
           ∙ c.mbufs.invariant.kept n (omega (arith, le));
     }

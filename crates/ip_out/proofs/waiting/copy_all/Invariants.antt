@@ -4,7 +4,7 @@ use Rattle.ip_out.proofs.waiting.copy_all.Given as goal
 
 abbrev pub invariant-mbufs : goal.invariant-mbufs
 invariant-mbufs l = record {
-  within : l.at + length (concat l.piece-iterator) ≤ length l.initial.room;
-  copied : take l.at l.room ++ concat l.piece-iterator ≡ concat l.fn.pieces;
-  kept : (n : ℕ) → l.at ≤ n → drop n l.room ≡ drop n l.initial.room;
+  within : l.at + length (concat l.piece-iterator) ≤ length l.initial.buffer;
+  copied : take l.at l.buffer ++ concat l.piece-iterator ≡ concat l.fn.pieces;
+  kept : (n : ℕ) → l.at ≤ n → drop n l.buffer ≡ drop n l.initial.buffer;
 }
