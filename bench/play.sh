@@ -7,14 +7,14 @@ source "$(dirname "$0")/../tools/script.bash"
 words "[PROGRAM]" "$@"
 
 program=${1:-"$(dirname "$0")/../crates/bsdplay/out/bsdplay"}
-room=$(mktemp -d)
-trap 'rm -rf "$room"' EXIT
+scratch=$(mktemp -d)
+trap 'rm -rf "$scratch"' EXIT
 
-cat > "$room/head" << 'END'
+cat > "$scratch/head" << 'END'
 socket => ok 3
 bind 3 0.0.0.0 7 => ok
 END
-cat > "$room/lines" << 'END'
+cat > "$scratch/lines" << 'END'
 # a packet by name, a packet in digits, and the reads of both
 rx udp 10.0.0.2:5000 > 10.0.0.1:7 "hi" => ok
 recvfrom 3 100 => from 10.0.0.2 5000 "hi"
@@ -41,13 +41,14 @@ END
 count() {
   local times=$1
   shift
-  cp "$room/head" "$room/script"
-  for ((i = 0; i < times; i++)); do cat "$room/lines"; done >> "$room/script"
-  valgrind --tool=callgrind --callgrind-out-file="$room/out" "$program" "$@" "$room/script" 2> "$room/said" > /dev/null
-  awk '/Collected/ {print $4}' "$room/said"
+  cp "$scratch/head" "$scratch/script"
+  for ((i = 0; i < times; i++)); do cat "$scratch/lines"; done >> "$scratch/script"
+  valgrind --tool=callgrind --callgrind-out-file="$scratch/out" "$program" "$@" "$scratch/script" 2> "$scratch/said" \
+    > /dev/null
+  awk '/Collected/ {print $4}' "$scratch/said"
 }
 
-lines=$(wc -l < "$room/lines")
+lines=$(wc -l < "$scratch/lines")
 for options in "" --quiet; do
   few=$(count 20 $options)
   many=$(count 80 $options)

@@ -99,9 +99,9 @@ def run(program: pathlib.Path, case: Case) -> str | None:
 def tried(cases: Sequence[Case]) -> dict[str, str]:
     """Plays cases with bsdudp in one `rt try`. Returns the differences, by the cases' names. rt doesn't compare
     standard error."""
-    with tempfile.TemporaryDirectory() as room:
-        known = written(pathlib.Path(room), cases)
-        done = rt_try("bsdudp", room)
+    with tempfile.TemporaryDirectory() as scratch:
+        known = written(pathlib.Path(scratch), cases)
+        done = rt_try("bsdudp", scratch)
     text, found = (done.stdout + done.stderr).decode(errors="replace"), {}
     ended = dict(re.findall(r"(?m)^case=(\S+) (.*)$", text))
     for name, case in known.items():

@@ -71,7 +71,7 @@ def core_for(once, module) -> Callable[..., pathlib.Path]:
         module("libbsdudp")
         name = f"core-{target}{''.join(options)}"
         kept = None if options else OUT / "core" / target
-        folder = once(name, lambda room: made("portable/core", *options, target, kept or room))
+        folder = once(name, lambda scratch: made("portable/core", *options, target, kept or scratch))
         return kept or folder
 
     return of

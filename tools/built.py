@@ -44,9 +44,9 @@ def files_below(folder: str) -> list[str]:
 
 def manual_pages() -> Iterator[tuple[str, File]]:
     """Yields the manual pages of the programs."""
-    with tempfile.TemporaryDirectory() as room:
-        subprocess.run([TOP / "dist/man", room], check=True)
-        for path in sorted(pathlib.Path(room).iterdir()):
+    with tempfile.TemporaryDirectory() as scratch:
+        subprocess.run([TOP / "dist/man", scratch], check=True)
+        for path in sorted(pathlib.Path(scratch).iterdir()):
             yield f"share/man/man1/{path.name}", (path.read_bytes(), False)
 
 

@@ -65,11 +65,11 @@ def laws_of(text: str, names: set[str]) -> str:
     return re.sub(r"pub use ([\w.]+)\.\{([^}]*)\}", kept, text)
 
 
-def make(crates: pathlib.Path, room: pathlib.Path) -> None:
+def make(crates: pathlib.Path, scratch: pathlib.Path) -> None:
     """Makes the crate in an empty folder, with the wrong definitions."""
     for part in (*PARTS, EDITS):
-        shutil.copytree(crates / NAME / part, room / part)
-    lib = room / "src/lib.rt"
+        shutil.copytree(crates / NAME / part, scratch / part)
+    lib = scratch / "src/lib.rt"
     lib.write_text(replaced(lib.read_text("utf-8"), "\nmod usage;", "\nmod usage;\nmod wire_laws;"), "utf-8")
     names: set[str] = set()
     for file in sorted(it for part in PARTS for it in (crates / "flat_wire" / part).rglob("*") if it.is_file()):
@@ -81,12 +81,12 @@ def make(crates: pathlib.Path, room: pathlib.Path) -> None:
         text = from_definitions(place, text)
         names |= cited(text)
         # (a module `laws` and a file Laws can't both be there)
-        to = room / re.sub(r"\blaws\b", "wire_laws", place)
+        to = scratch / re.sub(r"\blaws\b", "wire_laws", place)
         if to.name == "Lib.antt":
             text = to.read_text("utf-8") + text
         elif to.exists():
             raise Fault(f"both crates have {place}")
         to.parent.mkdir(parents=True, exist_ok=True)
         to.write_text(text, "utf-8")
-    laws = room / "proofs/Laws.antt"
+    laws = scratch / "proofs/Laws.antt"
     laws.write_text(laws_of(laws.read_text("utf-8"), names), "utf-8")

@@ -38,23 +38,24 @@ def retargeted(text):
     return text, exports
 
 
-def compiled(module, kit, room, made):
+def compiled(module, kit, scratch, made):
     """Returns the module for WebAssembly with a 64-bit memory, linked with its heap."""
     heap, level, layout, _ = made
     clang = kit / "toolchain/bin/clang"
-    text = readable(module, kit, room)
+    text = readable(module, kit, scratch)
     text, exports = retargeted(text)
-    (room / "wasm.ll").write_text(text)
+    (scratch / "wasm.ll").write_text(text)
     how = ["-c", f"--target={TARGET}", "-mcpu=lime1", "-mllvm", "-expand-div-rem-bits=64", *level]
     how += ["-ffunction-sections", "-fdata-sections"]
-    run(clang, *how, "-x", "ir", room / "wasm.ll", "-o", room / "module.o")
+    run(clang, *how, "-x", "ir", scratch / "wasm.ll", "-o", scratch / "module.o")
     of_c = ["-ffreestanding", "-nostdinc", "-fwrapv", "-Wall", "-Werror"]
-    run(clang, *how, *of_c, TOP / "portable" / heap, "-o", room / "heap.o")
+    run(clang, *how, *of_c, TOP / "portable" / heap, "-o", scratch / "heap.o")
     wanted = ["--no-entry", "--gc-sections", *layout]
     wanted += [f"--export={it}" for it in exports]
-    linker = ["-flavor", "wasm", "-mwasm64", *wanted, room / "module.o", room / "heap.o", "-o", room / "linked.wasm"]
+    linker = ["-flavor", "wasm", "-mwasm64", *wanted, scratch / "module.o", scratch / "heap.o"]
+    linker += ["-o", scratch / "linked.wasm"]
     run(clang.parent / "ld.lld", *linker)
-    return room / "linked.wasm"
+    return scratch / "linked.wasm"
 
 
 def number_at(data, at):
@@ -85,11 +86,11 @@ def without_table(data):
     return bytes(out)
 
 
-def lowered(module, kit, room, made):
+def lowered(module, kit, scratch, made):
     """Returns the module with 32-bit addresses."""
     if not shutil.which("wasm-opt"):
         raise Stop("there is no wasm-opt: apt-get install binaryen")
-    (room / "plain.wasm").write_bytes(without_table(compiled(module, kit, room, made).read_bytes()))
+    (scratch / "plain.wasm").write_bytes(without_table(compiled(module, kit, scratch, made).read_bytes()))
     features = [f"--enable-{it}" for it in FEATURES]
-    run("wasm-opt", *features, "--memory64-lowering", *made[-1], room / "plain.wasm", "-o", room / "lowered.wasm")
-    return room / "lowered.wasm"
+    run("wasm-opt", *features, "--memory64-lowering", *made[-1], scratch / "plain.wasm", "-o", scratch / "lowered.wasm")
+    return scratch / "lowered.wasm"

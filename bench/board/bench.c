@@ -4,7 +4,7 @@
 #include "echo.h"
 
 static struct bsdudp stack;
-static uint8_t room[LONGEST], out[PAD + FRAME_HEAD + MTU] __attribute__((aligned(4)));
+static uint8_t buffer[LONGEST], out[PAD + FRAME_HEAD + MTU] __attribute__((aligned(4)));
 static uint32_t fd;
 
 #ifdef ETHER
@@ -35,8 +35,8 @@ static void turn(void)
     int len;
     for (i = 0; i < packet_count; i++)
         come(&stack, packets[i], lengths[i]);
-    while ((len = bsdudp_recvfrom(&stack, fd, room, sizeof room, &from)) >= 0)
-        bsdudp_sendto(&stack, fd, &from, room, (size_t)len);
+    while ((len = bsdudp_recvfrom(&stack, fd, buffer, sizeof buffer, &from)) >= 0)
+        bsdudp_sendto(&stack, fd, &from, buffer, (size_t)len);
     while (go(&stack, out + PAD, sizeof out - PAD) > 0)
         gone++;
 }

@@ -57,11 +57,11 @@ static err_t link_of(struct netif *netif)
 static void echo(void *of, struct udp_pcb *pcb, struct pbuf *bytes, const ip_addr_t *from, u16_t port)
 {
 #ifdef COPIES
-    static uint8_t room[LONGEST];
-    u16_t len = pbuf_copy_partial(bytes, room, sizeof room, 0);
+    static uint8_t buffer[LONGEST];
+    u16_t len = pbuf_copy_partial(bytes, buffer, sizeof buffer, 0);
     struct pbuf *answer = pbuf_alloc(PBUF_TRANSPORT, len, PBUF_RAM);
     if (answer != NULL) {
-        pbuf_take(answer, room, len);
+        pbuf_take(answer, buffer, len);
         udp_sendto(pcb, answer, from, port);
         pbuf_free(answer);
     }

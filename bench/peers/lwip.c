@@ -94,7 +94,7 @@ static void heard(void *of, struct udp_pcb *pcb, struct pbuf *bytes, const ip_ad
 }
 
 /* Copies the oldest datagram out with its sender, and returns its length; -1 if none waits. */
-static int received(u8_t *to, u16_t room, ip_addr_t *from, u16_t *port)
+static int received(u8_t *to, u16_t size, ip_addr_t *from, u16_t *port)
 {
     if (in.count == 0)
         return -1;
@@ -104,7 +104,7 @@ static int received(u8_t *to, u16_t room, ip_addr_t *from, u16_t *port)
     in.first = place(in.first, 1);
     in.count--;
     in.bytes -= bytes->tot_len;
-    u16_t len = pbuf_copy_partial(bytes, to, room, 0);
+    u16_t len = pbuf_copy_partial(bytes, to, size, 0);
     pbuf_free(bytes);
     return len;
 }
@@ -160,7 +160,7 @@ static void start(void)
    arrived. */
 uint32_t EXPORT(send_and_receive)(const uint8_t *bytes, size_t len, uint32_t times)
 {
-    static u8_t packet[MTU], room[MOST];
+    static u8_t packet[MTU], buffer[MOST];
     ip_addr_t from;
     u16_t port, size;
     uint32_t well = 0;
@@ -169,10 +169,10 @@ uint32_t EXPORT(send_and_receive)(const uint8_t *bytes, size_t len, uint32_t tim
         bool gone = sent(bytes, (u16_t)len);
         while ((size = tx(packet)) != 0)
             rx(packet, size);
-        if (gone && received(room, MOST, &from, &port) == (int)len)
+        if (gone && received(buffer, MOST, &from, &port) == (int)len)
             well++;
     }
-    return memcmp(room, bytes, len) == 0 ? well : 0;
+    return memcmp(buffer, bytes, len) == 0 ? well : 0;
 }
 
 /*
@@ -181,7 +181,7 @@ uint32_t EXPORT(send_and_receive)(const uint8_t *bytes, size_t len, uint32_t tim
  */
 uint32_t EXPORT(receive)(const uint8_t *packet, size_t len, uint32_t before, bool is_read, uint32_t times)
 {
-    static u8_t room[MOST];
+    static u8_t buffer[MOST];
     ip_addr_t from;
     u16_t port;
     uint32_t well = 0;
@@ -190,10 +190,10 @@ uint32_t EXPORT(receive)(const uint8_t *packet, size_t len, uint32_t before, boo
         rx(packet, (u16_t)len);
     for (uint32_t k = 0; k < times; k++) {
         rx(packet, (u16_t)len);
-        if (!is_read || received(room, MOST, &from, &port) >= 0)
+        if (!is_read || received(buffer, MOST, &from, &port) >= 0)
             well++;
     }
-    while (received(room, MOST, &from, &port) >= 0)
+    while (received(buffer, MOST, &from, &port) >= 0)
         ;
     return well;
 }

@@ -5,7 +5,7 @@
 
 static unsigned char memory[2][BSDUDP_MEMORY(512, 64)] __attribute__((aligned(BSDUDP_ALIGNMENT)));
 static struct bsdudp near_ = BSDUDP_NONE, far_ = BSDUDP_NONE;
-static uint8_t bytes[BSDUDP_DATAGRAM], room[BSDUDP_DATAGRAM], packet[BSDUDP_TX_ROOM];
+static uint8_t bytes[BSDUDP_DATAGRAM], buffer[BSDUDP_DATAGRAM], packet[BSDUDP_TX_ROOM];
 
 /* Whether the datagram arrived. */
 static int travels(size_t len)
@@ -17,7 +17,7 @@ static int travels(size_t len)
         return 0;
     while ((got = bsdudp_tx(&near_, packet, sizeof packet)) > 0)
         bsdudp_rx(&far_, packet, (size_t)got);
-    return bsdudp_recvfrom(&far_, 3, room, sizeof room, &from) == (int)len;
+    return bsdudp_recvfrom(&far_, 3, buffer, sizeof buffer, &from) == (int)len;
 }
 
 int main(int argc, char **argv)

@@ -39,7 +39,7 @@ typedef struct {
 
 static Host hosts[HOSTS];
 static int host_count;
-static uint8_t bytes[MOST], room[MOST + 1];
+static uint8_t bytes[MOST], buffer[MOST + 1];
 
 static void stop(const char *what)
 {
@@ -97,9 +97,9 @@ static void echo_by_linux(int ready, int begin)
         _exit(1);
     for (;;) {
         socklen_t size = sizeof from;
-        ssize_t len = recvfrom(it, room, sizeof room, 0, (struct sockaddr *)&from, &size);
+        ssize_t len = recvfrom(it, buffer, sizeof buffer, 0, (struct sockaddr *)&from, &size);
         if (len >= 0)
-            sendto(it, room, (size_t)len, 0, (struct sockaddr *)&from, size);
+            sendto(it, buffer, (size_t)len, 0, (struct sockaddr *)&from, size);
     }
 }
 
@@ -146,7 +146,7 @@ static void start(const char *name, const char *program)
         it->socket = client();
         if (it->socket >= 0 && send(it->socket, bytes, 1, 0) == 1) {
             usleep(50000);
-            if (recv(it->socket, room, sizeof room, MSG_DONTWAIT) == 1)
+            if (recv(it->socket, buffer, sizeof buffer, MSG_DONTWAIT) == 1)
                 return;
         }
         close(it->socket);
@@ -156,7 +156,7 @@ static void start(const char *name, const char *program)
 
 static void await(const Host *it, int len)
 {
-    if (recv(it->socket, room, sizeof room, 0) != len || memcmp(room, bytes, (size_t)len) != 0) {
+    if (recv(it->socket, buffer, sizeof buffer, 0) != len || memcmp(buffer, bytes, (size_t)len) != 0) {
         fprintf(stderr, "bench: %s, %d bytes: ", it->name, len);
         stop("an echo didn't come, or came otherwise");
     }

@@ -66,7 +66,7 @@ enum { MTU = 1500 };
 
 static unsigned char memory[BSDUDP_MEMORY(16, 4)] __attribute__((aligned(BSDUDP_ALIGNMENT)));
 static struct bsdudp stack = BSDUDP_NONE;
-static uint8_t room[MTU];
+static uint8_t buffer[MTU];
 
 /* "hi" from 10.0.0.2 port 5000 to 10.0.0.1 port 7 */
 static const uint8_t packet[30] = {
@@ -88,7 +88,7 @@ static int run(void)
     n = bsdudp_recvfrom(&stack, (uint32_t)fd, bytes, sizeof bytes, &from);
     if (n != 2 || bsdudp_sendto(&stack, (uint32_t)fd, &from, bytes, (size_t)n) != n)
         return 3;
-    n = bsdudp_tx(&stack, room, sizeof room);
+    n = bsdudp_tx(&stack, buffer, sizeof buffer);
     print("bytes of the answer: ", (unsigned long)n);
     print("bytes of memory: ", sizeof memory);
     return n == 30 && bsdudp_end(&stack) == 0 ? 0 : 4;

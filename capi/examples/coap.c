@@ -185,8 +185,8 @@ void coap_serve(struct coap *server)
 {
     struct bsdudp_addr from;
     int len;
-    while ((len = bsdudp_recvfrom(server->host, server->fd, server->room, server->room_len, &from)) >= 0)
-        take(server, &from, server->room, (uint32_t)len);
+    while ((len = bsdudp_recvfrom(server->host, server->fd, server->buffer, server->buffer_len, &from)) >= 0)
+        take(server, &from, server->buffer, (uint32_t)len);
 }
 
 void coap_tick(struct coap *server)

@@ -41,12 +41,12 @@ struct coap_response {
     uint8_t bytes[COAP_RESPONSE];
 };
 
-/* A server. Set its members up to `room`, and leave the others 0. */
+/* A server. Set its members up to `buffer`, and leave the others 0. */
 struct coap {
     struct bsdudp *host;
     const struct coap_resource *resources;
-    uint32_t count, room_len; /* how many resources there are, and how many bytes of room for a message that comes */
-    uint8_t *room;
+    uint32_t count, buffer_len; /* the number of resources, and of bytes in `buffer` */
+    uint8_t *buffer;            /* for a received message */
     uint32_t fd, now, given; /* its socket, the ticks so far, and the responses so far */
     uint16_t last_id;
     struct coap_response responses[COAP_RESPONSES];

@@ -15,11 +15,11 @@ static struct tftp_file files[FILES];
 static uint32_t ticks;
 static char led = '0', text[160];
 
-/* One room for frames and messages: the stack copies a frame before a server writes there. A frame begins 2 bytes after
-   an aligned place, so that the packet in it is aligned: memcpy takes words then. */
-enum { FRAME_ROOM = 2 + BSDUDP_ETHER_ROOM, ROOM = (int)TFTP_ROOM > (int)FRAME_ROOM ? (int)TFTP_ROOM : (int)FRAME_ROOM };
-static uint8_t room[ROOM] __attribute__((aligned(4)));
-static uint8_t *const frame = room + 2;
+/* Frames and messages share a buffer: the stack copies a frame before a server writes there. A frame begins 2 bytes
+   after an aligned place, so that the packet in it is aligned: memcpy takes words then. */
+enum { FRAME_ROOM = 2 + BSDUDP_ETHER_ROOM, SIZE = (int)TFTP_ROOM > (int)FRAME_ROOM ? (int)TFTP_ROOM : (int)FRAME_ROOM };
+static uint8_t buffer[SIZE] __attribute__((aligned(4)));
+static uint8_t *const frame = buffer + 2;
 
 /* Writes a text and a number, and returns their end. */
 static char *put(char *at, const char *before, uint32_t number)
@@ -85,8 +85,8 @@ static const struct coap_resource resources[] = {
 enum { RESOURCES = sizeof resources / sizeof resources[0] };
 
 static struct coap coap = {
-    .host = &host, .resources = resources, .count = RESOURCES, .room = room, .room_len = sizeof room};
-static struct tftp tftp = {.host = &host, .files = files, .count = FILES, .room = room};
+    .host = &host, .resources = resources, .count = RESOURCES, .buffer = buffer, .buffer_len = sizeof buffer};
+static struct tftp tftp = {.host = &host, .files = files, .count = FILES, .buffer = buffer};
 
 /* ---- the loop */
 
@@ -106,7 +106,7 @@ static int start(const struct device *it)
 
 static void greet(const struct device *it)
 {
-    const uint32_t servers = sizeof coap + sizeof tftp + sizeof files + sizeof room + sizeof text;
+    const uint32_t servers = sizeof coap + sizeof tftp + sizeof files + sizeof buffer + sizeof text;
     char *at = put(text, "CoAP and TFTP. Bytes of memory: the stack ", (uint32_t)it->memory_len);
     at = put(at, ", the servers ", servers);
     at = put(at, ", the file ram ", it->ram_len);

@@ -29,7 +29,7 @@ static const struct link {
 };
 enum { LINKS = sizeof links / sizeof links[0] };
 
-static uint8_t room[BSDUDP_TX_ROOM], bytes[BSDUDP_DATAGRAM];
+static uint8_t buffer[BSDUDP_TX_ROOM], bytes[BSDUDP_DATAGRAM];
 
 static int is_known(int type)
 {
@@ -70,9 +70,9 @@ static void echo(struct bsdudp *stack, pcap_dumper_t *out, struct timeval when)
     int len;
     while ((len = bsdudp_recvfrom(stack, FD, bytes, sizeof bytes, &from)) >= 0) {
         (void)bsdudp_sendto(stack, FD, &from, bytes, (size_t)len); /* if it fails, this echo is lost */
-        while ((len = bsdudp_tx(stack, room, sizeof room)) > 0) {
+        while ((len = bsdudp_tx(stack, buffer, sizeof buffer)) > 0) {
             struct pcap_pkthdr head = {when, (bpf_u_int32)len, (bpf_u_int32)len};
-            pcap_dump((u_char *)out, &head, room);
+            pcap_dump((u_char *)out, &head, buffer);
         }
     }
 }

@@ -50,12 +50,12 @@ static void *net_task(void *none)
 }
 
 /* A bsdudp_recvfrom that waits. A flag that is set after the call and before the wait stays set, so none is missed. */
-static int receive(uint32_t fd, void *room, size_t len, struct bsdudp_addr *from)
+static int receive(uint32_t fd, void *buffer, size_t len, struct bsdudp_addr *from)
 {
     for (;;) {
         int result;
         lock(&turn);
-        result = bsdudp_recvfrom(&stack, fd, room, len, from);
+        result = bsdudp_recvfrom(&stack, fd, buffer, len, from);
         unlock(&turn);
         if (result != -BSDUDP_EWOULDBLOCK)
             return result;

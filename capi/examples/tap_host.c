@@ -21,7 +21,7 @@
 enum { FD = BSDUDP_FIRST_FD, HALF_SECOND = 500, MBUFS = 512, CLUSTERS = 64 };
 
 static unsigned char memory[BSDUDP_ETHER_MEMORY(MBUFS, CLUSTERS)] __attribute__((aligned(BSDUDP_ALIGNMENT)));
-static uint8_t frame[2048], room[BSDUDP_ETHER_ROOM], bytes[BSDUDP_DATAGRAM];
+static uint8_t frame[2048], buffer[BSDUDP_ETHER_ROOM], bytes[BSDUDP_DATAGRAM];
 static volatile sig_atomic_t is_over;
 
 static void stop(int signal)
@@ -55,8 +55,8 @@ static void serve(struct bsdudp *host, int device)
     do {
         if ((len = bsdudp_recvfrom(host, FD, bytes, sizeof bytes, &from)) >= 0)
             (void)bsdudp_sendto(host, FD, &from, bytes, (size_t)len); /* if it fails, this echo is lost */
-        for (int sent; (sent = bsdudp_ether_transmit(host, room, sizeof room)) > 0;)
-            if (write(device, room, (size_t)sent) < 0 && errno != EIO) /* the device is not up yet: no cable */
+        for (int sent; (sent = bsdudp_ether_transmit(host, buffer, sizeof buffer)) > 0;)
+            if (write(device, buffer, (size_t)sent) < 0 && errno != EIO) /* the device is not up yet: no cable */
                 perror("write");
     } while (len >= 0);
 }

@@ -6,12 +6,12 @@
 enum { RRQ = 1, WRQ = 2, DATA = 3, ACK = 4, ERROR = 5, OACK = 6, HEAD = 4, BLKSIZE = 1, TSIZE = 2 };
 enum { IN_USE = 0, NO_FILE = 1, NO_ACCESS = 2, FULL = 3, ILLEGAL = 4, UNKNOWN_TRANSFER = 5, NO_FAULT = 6 };
 
-/* Reports an error to the sender of the message in the room, unless that is an error itself. */
+/* Reports an error to the sender of the message in the buffer, unless that is an error itself. */
 static void refuse(struct tftp *server, uint32_t fd, const struct bsdudp_addr *to, int code)
 {
     static const char errors[][21] = {"\0\5\0\0in use",  "\0\5\0\1no file", "\0\5\0\2not writable",
                                       "\0\5\0\3no room", "\0\5\0\4illegal", "\0\5\0\5unknown transfer"};
-    if (server->room[1] != ERROR)
+    if (server->buffer[1] != ERROR)
         bsdudp_sendto(server->host, fd, to, errors[code], HEAD + strlen(errors[code] + HEAD) + 1);
 }
 
@@ -38,17 +38,17 @@ static void send(struct tftp *server, struct tftp_transfer *it)
 {
     const uint8_t head[HEAD] = {0, it->is_write ? ACK : DATA, (uint8_t)(it->block >> 8), (uint8_t)it->block};
     const uint32_t rest = it->file->len - it->at, len = it->is_write ? 0 : rest < it->size ? rest : it->size;
-    uint8_t *at = server->room + HEAD + len;
-    memcpy(server->room, head, HEAD);
-    memcpy(server->room + HEAD, it->file->bytes + it->at, len);
+    uint8_t *at = server->buffer + HEAD + len;
+    memcpy(server->buffer, head, HEAD);
+    memcpy(server->buffer + HEAD, it->file->bytes + it->at, len);
     if (it->block == 0 && it->options != 0) {
-        server->room[1] = OACK;
-        at = it->options & BLKSIZE ? put_option(server->room + 2, "blksize", it->size) : server->room + 2;
+        server->buffer[1] = OACK;
+        at = it->options & BLKSIZE ? put_option(server->buffer + 2, "blksize", it->size) : server->buffer + 2;
         at = it->options & TSIZE ? put_option(at, "tsize", it->is_write ? it->total : it->file->len) : at;
     }
-    it->is_once = it->is_done || (it->is_write && server->room[1] == OACK);
+    it->is_once = it->is_done || (it->is_write && server->buffer[1] == OACK);
     it->ticks = it->is_once ? TFTP_LINGER : (uint8_t)(2 << (it->tries < 2 ? it->tries : 2));
-    bsdudp_sendto(server->host, it->fd, &it->peer, server->room, (size_t)(at - server->room));
+    bsdudp_sendto(server->host, it->fd, &it->peer, server->buffer, (size_t)(at - server->buffer));
 }
 
 /* The next block of a writer came. */
@@ -59,7 +59,7 @@ static void store(struct tftp *server, struct tftp_transfer *it, uint32_t len)
         end(server, it);
         return;
     }
-    memcpy(it->file->room + it->at, server->room + HEAD, len);
+    memcpy(it->file->buffer + it->at, server->buffer + HEAD, len);
     it->at += len;
     it->block++;
     it->tries = 0;
@@ -73,8 +73,8 @@ static void store(struct tftp *server, struct tftp_transfer *it, uint32_t len)
    nothing: else each block after it went out twice, the "sorcerer's apprentice" (RFC 1123, 4.2.3.1). */
 static void take(struct tftp *server, struct tftp_transfer *it, const struct bsdudp_addr *from, uint32_t len)
 {
-    const int opcode = server->room[0] << 8 | server->room[1], wanted = it->is_write ? DATA : ACK;
-    const uint32_t block = (uint32_t)server->room[2] << 8 | server->room[3], last = it->block & 0xffff;
+    const int opcode = server->buffer[0] << 8 | server->buffer[1], wanted = it->is_write ? DATA : ACK;
+    const uint32_t block = (uint32_t)server->buffer[2] << 8 | server->buffer[3], last = it->block & 0xffff;
     if (len < HEAD)
         return;
     if (from->ip != it->peer.ip || from->port != it->peer.port) {
@@ -129,8 +129,8 @@ static void take_option(struct tftp_transfer *it, const char *name, const char *
    transfer that only awaits a copy of its last block gives way, and else the client asks again. */
 static void begin(struct tftp *server, const struct bsdudp_addr *from, uint32_t len)
 {
-    const uint8_t *at = server->room + 2, *last = server->room + len;
-    const int opcode = len < 2 ? 0 : server->room[0] << 8 | server->room[1], is_write = opcode == WRQ;
+    const uint8_t *at = server->buffer + 2, *last = server->buffer + len;
+    const int opcode = len < 2 ? 0 : server->buffer[0] << 8 | server->buffer[1], is_write = opcode == WRQ;
     const char *name = next_text(&at, last), *mode = next_text(&at, last), *value;
     struct tftp_file *file = server->files, *no_file = file + server->count;
     struct tftp_transfer *it, *place = NULL;
@@ -144,8 +144,8 @@ static void begin(struct tftp *server, const struct bsdudp_addr *from, uint32_t 
         fault = ILLEGAL;
     else if (file == no_file)
         fault = NO_FILE;
-    else if (is_write && (file->room == NULL || new.total > file->most))
-        fault = file->room == NULL ? NO_ACCESS : FULL;
+    else if (is_write && (file->buffer == NULL || new.total > file->most))
+        fault = file->buffer == NULL ? NO_ACCESS : FULL;
     for (it = server->transfers; fault == NO_FAULT && it < server->transfers + TFTP_TRANSFERS; it++) {
         if (it->file != NULL && it->peer.ip == from->ip && it->peer.port == from->port) {
             if (it->is_write && it->block == 0)
@@ -183,10 +183,10 @@ void tftp_serve(struct tftp *server)
     struct tftp_transfer *it;
     struct bsdudp_addr from;
     int len;
-    while ((len = bsdudp_recvfrom(server->host, server->fd, server->room, TFTP_ROOM, &from)) >= 0)
+    while ((len = bsdudp_recvfrom(server->host, server->fd, server->buffer, TFTP_ROOM, &from)) >= 0)
         begin(server, &from, (uint32_t)len);
     for (it = server->transfers; it < server->transfers + TFTP_TRANSFERS; it++)
-        while (it->file != NULL && (len = bsdudp_recvfrom(server->host, it->fd, server->room, TFTP_ROOM, &from)) >= 0)
+        while (it->file != NULL && (len = bsdudp_recvfrom(server->host, it->fd, server->buffer, TFTP_ROOM, &from)) >= 0)
             take(server, it, &from, (uint32_t)len);
 }
 

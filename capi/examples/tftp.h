@@ -7,8 +7,8 @@
 #include "bsdudp.h"
 
 /* How many transfers run at once, and the longest block that is agreed on: 512 to 9,212 bytes. A request beyond that
-   many transfers is ignored, and its client repeats it. A message has 4 bytes more than its block, and the room for it
-   one more, by which a longer one is known. */
+   many transfers is ignored, and its client repeats it. A message has 4 bytes more than its block, and its buffer one
+   more, by which a longer one is known. */
 enum { TFTP_PORT = 69, TFTP_TRANSFERS = 4, TFTP_BLOCK = 8192, TFTP_ROOM = 4 + TFTP_BLOCK + 1 };
 
 /* A message goes out TFTP_TRIES times: after 2 ticks, 4, 8, 8 and so on (RFC 1123, 4.2.3.2). The tick never repeats two
@@ -20,7 +20,7 @@ enum { TFTP_TRIES = 6, TFTP_LINGER = 24 };
 struct tftp_file {
     const char *name;
     const uint8_t *bytes; /* what clients read: `len` bytes */
-    uint8_t *room;        /* where clients write: the same bytes, `most` at most; NULL if they may not */
+    uint8_t *buffer;      /* where clients write: the same bytes, `most` at most; NULL if they may not */
     uint32_t len, most;
     uint8_t version; /* counts how often it was written */
 };
@@ -38,12 +38,12 @@ struct tftp_transfer {
     uint8_t tries, is_write, is_done, is_once; /* `is_once`: the tick doesn't send again what was sent last */
 };
 
-/* A server. Set its members up to `room`, and leave the others 0. */
+/* A server. Set its members up to `buffer`, and leave the others 0. */
 struct tftp {
     struct bsdudp *host;
     struct tftp_file *files;
     uint32_t count; /* how many files there are */
-    uint8_t *room;  /* TFTP_ROOM bytes for one message; others may use them between the calls */
+    uint8_t *buffer; /* TFTP_ROOM bytes for one message; others may use them between the calls */
     uint32_t fd;
     struct tftp_transfer transfers[TFTP_TRANSFERS];
 };

@@ -8,7 +8,7 @@
 enum { TURNS = 20000, HELD = 64, LONGEST = 3000, MTU = 576, FD = BSDUDP_FIRST_FD };
 
 static unsigned long long seed = 1;
-static uint8_t wire[HELD][MTU], bytes[LONGEST], room[LONGEST];
+static uint8_t wire[HELD][MTU], bytes[LONGEST], buffer[LONGEST];
 static int lens[HELD], held;
 
 static unsigned dice(unsigned n)
@@ -66,10 +66,10 @@ int main(int argc, char **argv)
             sent++;
         put_on_wire(&near);
         take_off_wire(&far, 8);
-        while ((len = bsdudp_recvfrom(&far, FD, room, sizeof room, &from)) >= 0) {
-            memcpy(&which, room, 4);
+        while ((len = bsdudp_recvfrom(&far, FD, buffer, sizeof buffer, &from)) >= 0) {
+            memcpy(&which, buffer, 4);
             came++;
-            wrong += which >= sent || datagram(which, bytes) != len || memcmp(room, bytes, (size_t)len) != 0;
+            wrong += which >= sent || datagram(which, bytes) != len || memcmp(buffer, bytes, (size_t)len) != 0;
         }
         if (turn % 50 == 0)
             bsdudp_tick(&far);

@@ -248,7 +248,7 @@ int bsdudp_end(struct bsdudp *stack);
    -BSDUDP_EMSGSIZE if `len` is above BSDUDP_PACKET. */
 int bsdudp_rx(struct bsdudp *stack, const void *packet, size_t len);
 
-/* Removes the oldest packet from the output queue and copies it to the front of `room`. The rest of the buffer is
+/* Removes the oldest packet from the output queue and copies it to the front of `buffer`. The rest of the buffer is
    unchanged. Source: the book, chapter 3 (IF_DEQUEUE).
 
    Returns the length of the packet in bytes, at most the MTU; 0 if the queue is empty.
@@ -257,7 +257,7 @@ int bsdudp_rx(struct bsdudp *stack, const void *packet, size_t len);
    -BSDUDP_ENXIO if the handle holds no stack.
    -BSDUDP_EOPNOTSUPP if it holds a host, which sends frames: bsdudp_ether_transmit.
    -BSDUDP_EMSGSIZE if `len` is below the MTU. */
-int bsdudp_tx(struct bsdudp *stack, void *room, size_t len);
+int bsdudp_tx(struct bsdudp *stack, void *buffer, size_t len);
 
 /* Advances the stack's clock by half a second. An unfinished datagram is dropped after 60 ticks, and the neighbours of
    a host grow older. Source: the book, chapter 10 (ip_slowtimo); RFC 791, section 3.2.
@@ -309,7 +309,7 @@ int bsdudp_ether_boot(struct bsdudp *stack, const struct bsdudp_config *config, 
    -BSDUDP_EMSGSIZE if `len` is above BSDUDP_ETHER_FRAME. */
 int bsdudp_ether_receive(struct bsdudp *stack, const void *frame, size_t len);
 
-/* Copies the next frame for the network card to the front of `room`. The contents of the rest of the buffer are
+/* Copies the next frame for the network card to the front of `buffer`. The contents of the rest of the buffer are
    unspecified, and so are those of the whole buffer if there is no frame. The card or its driver pads a short frame to
    60 bytes and adds the frame check sequence. The order is: ARP replies and requests, packets that waited for a
    hardware address, ICMP replies, packets of the stack's output queue. Source: the book, chapters 4 (ether_output) and
@@ -321,7 +321,7 @@ int bsdudp_ether_receive(struct bsdudp *stack, const void *frame, size_t len);
    -BSDUDP_ENXIO if the handle holds no stack.
    -BSDUDP_EOPNOTSUPP if it holds a bare stack, which sends packets: bsdudp_tx.
    -BSDUDP_EMSGSIZE if `len` is below BSDUDP_ETHER_ROOM. */
-int bsdudp_ether_transmit(struct bsdudp *stack, void *room, size_t len);
+int bsdudp_ether_transmit(struct bsdudp *stack, void *buffer, size_t len);
 
 /* Reads, and then clears, what other hosts reported by ICMP about the datagrams that a connected socket sent to its
    peer. A report is a result and not a failure of this call, so it is a positive number. The host keeps the last eight
@@ -444,17 +444,17 @@ int bsdudp_sendto(struct bsdudp *stack, uint32_t fd, const struct bsdudp_addr *t
    -BSDUDP_EMSGSIZE, -BSDUDP_EACCES, -BSDUDP_ENOBUFS and -BSDUDP_EQUEUE as bsdudp_sendto returns them. */
 int bsdudp_send(struct bsdudp *stack, uint32_t fd, const void *bytes, size_t len);
 
-/* Removes the oldest datagram from a socket's receive queue, copies up to `len` bytes of it to `room`, and stores its
+/* Removes the oldest datagram from a socket's receive queue, copies up to `len` bytes of it to `buffer`, and stores its
    sender in `*from`. The rest of the datagram is lost. The call does not block. Source: the book, chapter 16
    (soreceive).
 
    Returns the number of bytes copied.
 
-   Errors, with `room` and `*from` unchanged:
+   Errors, with `buffer` and `*from` unchanged:
    -BSDUDP_ENXIO if the handle holds no stack.
    -BSDUDP_EBADF if no open socket has the descriptor `fd`.
    -BSDUDP_EWOULDBLOCK if the receive queue is empty. */
-int bsdudp_recvfrom(struct bsdudp *stack, uint32_t fd, void *room, size_t len, struct bsdudp_addr *from);
+int bsdudp_recvfrom(struct bsdudp *stack, uint32_t fd, void *buffer, size_t len, struct bsdudp_addr *from);
 
 /* Closes a socket. The datagrams in its receive queue are lost. Source: the book, chapter 15 (soclose).
 

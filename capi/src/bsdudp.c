@@ -51,9 +51,9 @@ int bsdudp_rx(struct bsdudp *s, const void *packet, size_t len)
     return s->tick_link != NULL ? -BSDUDP_EOPNOTSUPP : bsdudp_core_rx(&s->core, packet, len);
 }
 
-int bsdudp_tx(struct bsdudp *s, void *room, size_t len)
+int bsdudp_tx(struct bsdudp *s, void *buffer, size_t len)
 {
-    return s->tick_link != NULL ? -BSDUDP_EOPNOTSUPP : bsdudp_core_tx(&s->core, room, len);
+    return s->tick_link != NULL ? -BSDUDP_EOPNOTSUPP : bsdudp_core_tx(&s->core, buffer, len);
 }
 
 int bsdudp_tick(struct bsdudp *s)
@@ -85,9 +85,9 @@ int bsdudp_send(struct bsdudp *s, uint32_t fd, const void *bytes, size_t len)
     return bsdudp_core_send(&s->core, fd, bytes, len);
 }
 
-int bsdudp_recvfrom(struct bsdudp *s, uint32_t fd, void *room, size_t len, struct bsdudp_addr *from)
+int bsdudp_recvfrom(struct bsdudp *s, uint32_t fd, void *buffer, size_t len, struct bsdudp_addr *from)
 {
-    return bsdudp_core_recvfrom(&s->core, fd, room, len, from);
+    return bsdudp_core_recvfrom(&s->core, fd, buffer, len, from);
 }
 
 int bsdudp_setsockopt(struct bsdudp *s, uint32_t fd, int option, int on)

@@ -67,9 +67,9 @@ int bsdudp_ether_receive(struct bsdudp *s, const void *frame, size_t len)
     return bsdudp_core_ether_receive(&s->core, &s->link, frame, len);
 }
 
-int bsdudp_ether_transmit(struct bsdudp *s, void *room, size_t len)
+int bsdudp_ether_transmit(struct bsdudp *s, void *buffer, size_t len)
 {
-    return bsdudp_core_ether_transmit(&s->core, &s->link, room, len);
+    return bsdudp_core_ether_transmit(&s->core, &s->link, buffer, len);
 }
 
 int bsdudp_ether_last_error(struct bsdudp *s, uint32_t fd)

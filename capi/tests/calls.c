@@ -18,7 +18,7 @@
 #define ALIGNED __attribute__((aligned(BSDUDP_ALIGNMENT)))
 
 static unsigned char memory[BSDUDP_MEMORY(64, 16)] ALIGNED, other[BSDUDP_MEMORY(64, 16)] ALIGNED;
-static uint8_t bytes[BSDUDP_DATAGRAM + 1], room[BSDUDP_DATAGRAM], packet[BSDUDP_PACKET + 1];
+static uint8_t bytes[BSDUDP_DATAGRAM + 1], buffer[BSDUDP_DATAGRAM], packet[BSDUDP_PACKET + 1];
 static struct bsdudp near_ = BSDUDP_NONE, far_ = BSDUDP_NONE;
 static const struct bsdudp_addr any = {0, 7}, to_far = {0x0a000002, 7}, to_all = {0x0a0000ff, 7};
 
@@ -47,7 +47,7 @@ static int without_a_stack(struct bsdudp *s)
     WANT(bsdudp_connect(s, 3, &to_far), -BSDUDP_ENXIO);
     WANT(bsdudp_sendto(s, 3, &to_far, bytes, 1), -BSDUDP_ENXIO);
     WANT(bsdudp_send(s, 3, bytes, 1), -BSDUDP_ENXIO);
-    WANT(bsdudp_recvfrom(s, 3, room, sizeof room, &from), -BSDUDP_ENXIO);
+    WANT(bsdudp_recvfrom(s, 3, buffer, sizeof buffer, &from), -BSDUDP_ENXIO);
     WANT(bsdudp_close(s, 3), -BSDUDP_ENXIO);
     WANT(bsdudp_setsockopt(s, 3, BSDUDP_SO_BROADCAST, 1), -BSDUDP_ENXIO);
     WANT(bsdudp_setsockopt(s, 3, 1, 1), -BSDUDP_ENXIO);
@@ -185,11 +185,11 @@ static int traffic(void)
     WANT(next.port, 1024);
     WANT(next.len, 3000);
     WANT(next.waiting, 1);
-    WANT(bsdudp_recvfrom(&far_, 5, room, sizeof room, &from), -BSDUDP_EBADF);
-    WANT(bsdudp_recvfrom(&far_, 3, room, 2999, &from), 2999);
-    WANT(memcmp(room, bytes, 2999), 0);
+    WANT(bsdudp_recvfrom(&far_, 5, buffer, sizeof buffer, &from), -BSDUDP_EBADF);
+    WANT(bsdudp_recvfrom(&far_, 3, buffer, 2999, &from), 2999);
+    WANT(memcmp(buffer, bytes, 2999), 0);
     WANT(from.ip == 0x0a000001 && from.port == 1024, 1);
-    WANT(bsdudp_recvfrom(&far_, 3, room, sizeof room, &from), -BSDUDP_EWOULDBLOCK);
+    WANT(bsdudp_recvfrom(&far_, 3, buffer, sizeof buffer, &from), -BSDUDP_EWOULDBLOCK);
     WANT(bsdudp_next(&far_, 3, &next), -BSDUDP_EWOULDBLOCK);
     WANT(bsdudp_next(&far_, 5, &next), -BSDUDP_EBADF);
     WANT(bsdudp_send(&near_, 3, bytes, 0), 0);
@@ -236,8 +236,8 @@ static int unfinished(void)
     WANT(range.offset == 2960 && range.len == 48 && range.more == 0, 1);
     WANT(bsdudp_rx(&far_, cut[1], sizeof cut[1]), 0);
     WANT(bsdudp_unfinished_len(&far_), 0);
-    WANT(bsdudp_recvfrom(&far_, 3, room, sizeof room, &from), 3000);
-    WANT(memcmp(room, bytes, 3000), 0);
+    WANT(bsdudp_recvfrom(&far_, 3, buffer, sizeof buffer, &from), 3000);
+    WANT(memcmp(buffer, bytes, 3000), 0);
     return 0;
 }
 

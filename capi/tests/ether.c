@@ -20,7 +20,7 @@
 enum { GUARD = 64, UNTOUCHED = 0xa5, ARP_FRAME = 42, KEPT = 2400, OWN = 0x0a000001, PEER = 0x0a000002 };
 
 static unsigned char memory[GUARD + BSDUDP_ETHER_MEMORY(64, 16) + GUARD] ALIGNED;
-static uint8_t frame[BSDUDP_ETHER_FRAME + 1], room[BSDUDP_ETHER_ROOM], bytes[2000];
+static uint8_t frame[BSDUDP_ETHER_FRAME + 1], buffer[BSDUDP_ETHER_ROOM], bytes[2000];
 static struct bsdudp host = BSDUDP_NONE;
 static const struct bsdudp_link own_link = {{2, 1, 3, 5, 7, 9}, 0xffffff00, PEER, 0};
 static const uint8_t peer_mac[6] = {0x12, 0x34, 0x56, 0x78, 0x9a, 0xbc}, all[6] = {255, 255, 255, 255, 255, 255};
@@ -129,7 +129,7 @@ static int reported(int code, unsigned from, unsigned to)
 static int drained(void)
 {
     int count = 0;
-    while (bsdudp_ether_transmit(&host, room, sizeof room) > 0)
+    while (bsdudp_ether_transmit(&host, buffer, sizeof buffer) > 0)
         count++;
     return count;
 }
@@ -144,7 +144,7 @@ static int answers(struct bsdudp *s, int answer)
     WANT(bsdudp_ether_address(s), answer);
     WANT(bsdudp_ether_last_error(s, BSDUDP_FIRST_FD), answer);
     WANT(bsdudp_ether_receive(s, frame, 14), answer);
-    WANT(bsdudp_ether_transmit(s, room, sizeof room), answer);
+    WANT(bsdudp_ether_transmit(s, buffer, sizeof buffer), answer);
     WANT(bsdudp_ether_tallies(s, &tallies), answer);
     WANT(bsdudp_ether_neighbour(s, 0, &neighbour), answer);
     WANT(tallies.ignored == 99 && neighbour.ip == 99, 1);
@@ -219,7 +219,7 @@ static int one_or_the_other(void)
     WANT(bsdudp_rx(&bare, bytes, 20), 0);
     WANT(bsdudp_end(&bare), 0);
     WANT(bsdudp_rx(&host, bytes, 20), -BSDUDP_EOPNOTSUPP);
-    WANT(bsdudp_tx(&host, room, sizeof room), -BSDUDP_EOPNOTSUPP);
+    WANT(bsdudp_tx(&host, buffer, sizeof buffer), -BSDUDP_EOPNOTSUPP);
     return 0;
 }
 
@@ -233,17 +233,17 @@ static int frames(void)
     near_.ip = 99;
     WANT(bsdudp_ether_address(&host), 1);
     put_arp(wanted, all, 1, own_link.mac, OWN, nobody, OWN);
-    WANT(bsdudp_ether_transmit(&host, room, sizeof room), ARP_FRAME); /* it announces its address */
-    WANT(memcmp(room, wanted, ARP_FRAME), 0);
+    WANT(bsdudp_ether_transmit(&host, buffer, sizeof buffer), ARP_FRAME); /* it announces its address */
+    WANT(memcmp(buffer, wanted, ARP_FRAME), 0);
     WANT(bsdudp_ether_receive(&host, frame, BSDUDP_ETHER_FRAME + 1), -BSDUDP_EMSGSIZE);
-    WANT(bsdudp_ether_transmit(&host, room, sizeof room - 1), -BSDUDP_EMSGSIZE);
-    WANT(bsdudp_ether_transmit(&host, room, sizeof room), 0);
+    WANT(bsdudp_ether_transmit(&host, buffer, sizeof buffer - 1), -BSDUDP_EMSGSIZE);
+    WANT(bsdudp_ether_transmit(&host, buffer, sizeof buffer), 0);
     WANT(bsdudp_ether_neighbour(&host, 0, &near_), -BSDUDP_EINVAL);
     WANT(near_.ip, 99);
     WANT(asked(PEER, OWN), 0);
     put_arp(wanted, peer_mac, 2, own_link.mac, OWN, peer_mac, PEER);
-    WANT(bsdudp_ether_transmit(&host, room, sizeof room), ARP_FRAME);
-    WANT(memcmp(room, wanted, ARP_FRAME), 0);
+    WANT(bsdudp_ether_transmit(&host, buffer, sizeof buffer), ARP_FRAME);
+    WANT(memcmp(buffer, wanted, ARP_FRAME), 0);
     WANT(bsdudp_ether_neighbour(&host, 0, &near_), 0);
     WANT(near_.ip == PEER && near_.known == 1 && near_.tries == 0 && near_.ticks == KEPT, 1);
     WANT(memcmp(near_.mac, peer_mac, 6), 0);
@@ -252,17 +252,17 @@ static int frames(void)
     WANT(bsdudp_socket(&host), 3);
     WANT(bsdudp_sendto(&host, 3, &to, "hi", 2), 2);
     put_arp(wanted, all, 1, own_link.mac, OWN, nobody, to.ip);
-    WANT(bsdudp_ether_transmit(&host, room, sizeof room), ARP_FRAME);
-    WANT(memcmp(room, wanted, ARP_FRAME), 0);
-    WANT(bsdudp_ether_transmit(&host, room, sizeof room), 0);
+    WANT(bsdudp_ether_transmit(&host, buffer, sizeof buffer), ARP_FRAME);
+    WANT(memcmp(buffer, wanted, ARP_FRAME), 0);
+    WANT(bsdudp_ether_transmit(&host, buffer, sizeof buffer), 0);
     WANT(bsdudp_ether_neighbour(&host, 1, &near_), 0);
     WANT(near_.ip == to.ip && near_.known == 0 && near_.tries == 1 && near_.ticks == 3, 1);
     WANT(memcmp(near_.mac, nobody, 6), 0);
     WANT(bsdudp_ether_neighbour(&host, 2, &near_), -BSDUDP_EINVAL);
     put_arp(frame, own_link.mac, 2, peer_mac, to.ip, own_link.mac, OWN);
     WANT(bsdudp_ether_receive(&host, frame, ARP_FRAME), 0);
-    WANT(bsdudp_ether_transmit(&host, room, sizeof room), 14 + 20 + 8 + 2);
-    WANT(memcmp(room, peer_mac, 6), 0);
+    WANT(bsdudp_ether_transmit(&host, buffer, sizeof buffer), 14 + 20 + 8 + 2);
+    WANT(memcmp(buffer, peer_mac, 6), 0);
     return 0;
 }
 

@@ -57,13 +57,13 @@ static void deliver(int device, int leave)
 
 /* The device's packets go onto the wire while there is space. If the device has no more, the packets of the stack are
    delivered. */
-static ssize_t lossy_read(int device, void *packet, size_t room)
+static ssize_t lossy_read(int device, void *packet, size_t size)
 {
     static uint8_t fresh[LONGEST];
     ssize_t len = 0;
     while (in.count + 2 <= HELD && (len = read(device, fresh, sizeof fresh)) > 0)
         put(&in, fresh, (size_t)len);
-    if (in.count == 0 || room < LONGEST) {
+    if (in.count == 0 || size < LONGEST) {
         deliver(device, 0);
         return -1;
     }

@@ -55,12 +55,12 @@ static struct bsdudp_config config_of(uint32_t mbufs, uint32_t clusters)
 static int works(struct bsdudp *s)
 {
     struct bsdudp_addr self = {0x7f000001, 7}, from;
-    uint8_t bytes[3] = {1, 2, 3}, room[8];
+    uint8_t bytes[3] = {1, 2, 3}, buffer[8];
     WANT(bsdudp_socket(s), 3);
     WANT(bsdudp_bind(s, 3, &self), 0);
     WANT(bsdudp_sendto(s, 3, &self, bytes, sizeof bytes), 3);
-    WANT(bsdudp_recvfrom(s, 3, room, sizeof room, &from), 3);
-    WANT(memcmp(room, bytes, 3), 0);
+    WANT(bsdudp_recvfrom(s, 3, buffer, sizeof buffer, &from), 3);
+    WANT(memcmp(buffer, bytes, 3), 0);
     return 0;
 }
 

@@ -221,18 +221,18 @@ static void call_send(void)
 }
 
 /* Whether the bytes of a buffer from `len` on are unchanged. */
-static bool is_untouched(const uint8_t *room, size_t len, size_t end)
+static bool is_untouched(const uint8_t *buffer, size_t len, size_t end)
 {
-    while (len < end && room[len] == UNTOUCHED)
+    while (len < end && buffer[len] == UNTOUCHED)
         len++;
     return len >= end;
 }
 
 static void call_recvfrom(void)
 {
-    static uint8_t room[BSDUDP_PACKET];
+    static uint8_t buffer[BSDUDP_PACKET];
     uint32_t fd = some_fd(), k;
-    size_t len = dice(3) == 0 ? 1 + dice(100) : sizeof room;
+    size_t len = dice(3) == 0 ? 1 + dice(100) : sizeof buffer;
     struct bsdudp_addr sender = {1, 2};
     struct bsdudp_next next;
     uint64_t set = 0;
@@ -242,8 +242,8 @@ static void call_recvfrom(void)
         if (set >> k & 1)
             fd = BSDUDP_FIRST_FD + k;
     waits = bsdudp_next(&stack, fd, &next);
-    memset(room, UNTOUCHED, sizeof room);
-    number = bsdudp_recvfrom(&stack, fd, room, len, &sender);
+    memset(buffer, UNTOUCHED, sizeof buffer);
+    number = bsdudp_recvfrom(&stack, fd, buffer, len, &sender);
     ask("recvfrom %u %u", fd, (unsigned)len);
     if (number < 0) {
         answer_number(number, false);
@@ -252,14 +252,14 @@ static void call_recvfrom(void)
     } else {
         answer("from");
         put_addr(reply, &reply_len, &sender);
-        put_hex(reply, &reply_len, room, (size_t)number);
+        put_hex(reply, &reply_len, buffer, (size_t)number);
         if (waits != 0 || next.ip != sender.ip || next.port != sender.port || next.waiting == 0)
             wrong("next tells another datagram");
         if ((size_t)number != (next.len < len ? next.len : len))
             wrong("next tells another length");
     }
-    if (!is_untouched(room, number < 0 ? 0 : (size_t)number, sizeof room))
-        wrong("the room behind the bytes was written to");
+    if (!is_untouched(buffer, number < 0 ? 0 : (size_t)number, sizeof buffer))
+        wrong("the buffer behind the bytes was written to");
     if (fd >= BSDUDP_FIRST_FD && fd < BSDUDP_FIRST_FD + BSDUDP_SOCKETS)
         if ((set >> (fd - BSDUDP_FIRST_FD) & 1) != (number >= 0))
             wrong("readable tells otherwise");
@@ -353,26 +353,26 @@ static void call_rx(void)
 
 static void call_tx(void)
 {
-    static uint8_t room[BSDUDP_TX_ROOM + 8];
+    static uint8_t buffer[BSDUDP_TX_ROOM + 8];
     int next = bsdudp_next_packet(&stack), waiting = bsdudp_output_len(&stack), len;
-    memset(room, UNTOUCHED, sizeof room);
-    if (bsdudp_tx(&stack, room, mtu - 1) != -BSDUDP_EMSGSIZE || bsdudp_output_len(&stack) != waiting)
-        wrong("a room shorter than the MTU is taken, or changes something");
-    len = bsdudp_tx(&stack, room, mtu);
+    memset(buffer, UNTOUCHED, sizeof buffer);
+    if (bsdudp_tx(&stack, buffer, mtu - 1) != -BSDUDP_EMSGSIZE || bsdudp_output_len(&stack) != waiting)
+        wrong("a buffer shorter than the MTU is taken, or changes something");
+    len = bsdudp_tx(&stack, buffer, mtu);
     ask("tx");
     if (len != next || bsdudp_output_len(&stack) != waiting - (waiting > 0))
         wrong("next_packet or output_len tells otherwise");
-    if (len < 0 || !is_untouched(room, (size_t)len, sizeof room))
-        wrong("the room behind the packet was written to");
+    if (len < 0 || !is_untouched(buffer, (size_t)len, sizeof buffer))
+        wrong("the buffer behind the packet was written to");
     if (len == 0) {
         answer("none");
         return;
     }
     answer("packet");
-    put_hex(reply, &reply_len, room, (size_t)len);
+    put_hex(reply, &reply_len, buffer, (size_t)len);
     kept_count += kept_count < KEPT;
     kept_len[kept_count - 1] = (size_t)len;
-    memcpy(kept[kept_count - 1], room, (size_t)len);
+    memcpy(kept[kept_count - 1], buffer, (size_t)len);
     if (dice(2) == 0) /* as the peer's reply */
         turn_round(kept[kept_count - 1]);
 }

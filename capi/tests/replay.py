@@ -112,9 +112,9 @@ def read_by_tshark(path, count):
         raise Wrong(f"tshark says of {path.name}: {wrong or rows}")
 
 
-def played(program, source, room, counted):
+def played(program, source, scratch, counted):
     """Plays a capture with pcap.c, which must print its counters. Returns the file that it wrote."""
-    written = pathlib.Path(room, "written.pcap")
+    written = pathlib.Path(scratch, "written.pcap")
     words = [program, source, written, "10.0.0.1", "10.0.0.255"]
     limit = (SECONDS, SECONDS)
     limited = {"preexec_fn": lambda: resource.setrlimit(resource.RLIMIT_CPU, limit)}
@@ -124,10 +124,10 @@ def played(program, source, room, counted):
     return written
 
 
-def by_pcap(program, name, room):
+def by_pcap(program, name, scratch):
     """Plays a stored capture with pcap.c. Returns the packets that it wrote."""
     source = CAPTURES / f"{name}.pcap"
-    written = played(program, source, room, source.with_suffix(".stdout").read_text(encoding="ascii"))
+    written = played(program, source, scratch, source.with_suffix(".stdout").read_text(encoding="ascii"))
     wanted = echoes(source)
     if not wanted or list(datagrams(packets(written))) != wanted:
         raise Wrong(f"pcap replies otherwise to {name}.pcap")
@@ -152,35 +152,35 @@ def read_by_link(path, count):
         raise Wrong(f"tshark finds {len(said.splitlines())} packets in {path.name}, not {count}")
 
 
-def by_links(program, room, wanted):
+def by_links(program, scratch, wanted):
     """The packets of ethernet.pcap with the headers of the other link types get the same replies. Frames of another
     protocol, and those that end in their header, have no packet."""
     heard = [packet for _, packet in packets(CAPTURES / "ethernet.pcap")]
     counted = (CAPTURES / "ethernet.stdout").read_text(encoding="ascii")
     for name, (link, header, other) in LINKS.items():
-        source = pathlib.Path(room, f"{name}.pcap")
+        source = pathlib.Path(scratch, f"{name}.pcap")
         frames = [header + packet for packet in heard]
         if other is not None:
             frames[1:1] = [other + heard[0], header[:-1]]
         write(source, link, [(1, frame) for frame in frames])
         read_by_link(source, len(heard))
-        if [packet for _, packet in packets(played(program, source, room, counted))] != wanted:
+        if [packet for _, packet in packets(played(program, source, scratch, counted))] != wanted:
             raise Wrong(f"pcap replies otherwise to {source.name} than to ethernet.pcap")
-    source = pathlib.Path(room, "other.pcap")
+    source = pathlib.Path(scratch, "other.pcap")
     write(source, 105, [(1, heard[0])])  # IEEE 802.11
     refused = subprocess.run([program, source, "/dev/null", "10.0.0.1", "10.0.0.255"], capture_output=True, check=False)
     if refused.returncode != 1 or not refused.stderr.startswith(b"link type 105 isn't known"):
         raise Wrong(f"pcap takes a link that it doesn't know: {refused}")
 
 
-def by_jumps(program, room):
+def by_jumps(program, scratch):
     """Two fragments of a datagram with the longest time between them that a capture can have: the first one is dropped.
     If the time goes back, there is no tick."""
     both = [packet for _, packet in packets(CAPTURES / "late.pcap")][:2]
-    source = pathlib.Path(room, "jump.pcap")
+    source = pathlib.Path(scratch, "jump.pcap")
     for times, told in (((0, LATEST), "ip.fragtimeout 1\n"), ((LATEST, 0), "ip.reassembled 1\nip.localout 1\n")):
         write(source, 228, zip(times, both))
-        played(program, source, room, f"ip.total 2\nip.fragments 2\n{told}")
+        played(program, source, scratch, f"ip.total 2\nip.fragments 2\n{told}")
 
 
 def device():
@@ -220,11 +220,11 @@ def main():
     parser.add_argument("tun_echo", metavar="TUN_ECHO", nargs="?", help="the built tun_echo.c")
     said = parser.parse_args()
     try:
-        with tempfile.TemporaryDirectory() as room:
-            sent = by_pcap(said.pcap, "ethernet", room)
-            by_pcap(said.pcap, "late", room)
-            by_links(said.pcap, room, sent)
-            by_jumps(said.pcap, room)
+        with tempfile.TemporaryDirectory() as scratch:
+            sent = by_pcap(said.pcap, "ethernet", scratch)
+            by_pcap(said.pcap, "late", scratch)
+            by_links(said.pcap, scratch, sent)
+            by_jumps(said.pcap, scratch)
         if not shutil.which("tshark"):
             print("capi: no tshark: what pcap writes isn't read by it")
         if said.tun_echo:

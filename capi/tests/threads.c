@@ -26,7 +26,7 @@ static const char *works(struct bsdudp *stack, const struct place *here)
     const struct bsdudp_addr self = {0x7f000001, 7};
     struct bsdudp_addr from;
     struct bsdudp_mbstat usage;
-    uint8_t bytes[200], room[200];
+    uint8_t bytes[200], buffer[200];
     uint32_t fd = BSDUDP_FIRST_FD;
     memset(bytes, (int)here->mbufs, sizeof bytes);
     if (bsdudp_mbstat(stack, &usage) != 0 || usage.mbufs != here->mbufs || usage.clusters != here->clusters)
@@ -35,7 +35,8 @@ static const char *works(struct bsdudp *stack, const struct place *here)
         return "no socket";
     if (bsdudp_sendto(stack, fd, &self, bytes, sizeof bytes) != (int)sizeof bytes)
         return "nothing is sent";
-    if (bsdudp_recvfrom(stack, fd, room, sizeof room, &from) != (int)sizeof room || memcmp(bytes, room, sizeof room))
+    if (bsdudp_recvfrom(stack, fd, buffer, sizeof buffer, &from) != (int)sizeof buffer ||
+        memcmp(bytes, buffer, sizeof buffer))
         return "other bytes come";
     return NULL;
 }

@@ -85,14 +85,14 @@ static void turn(void)
 static void user_socket(void)
 {
     struct ifreq lo = {.ifr_name = "lo"};
-    int room = 1 << 20;
+    int size = 1 << 20;
     struct sockaddr_in here = {.sin_family = AF_INET, .sin_port = htons(7), .sin_addr = {htonl(INADDR_LOOPBACK)}};
     if (unshare(CLONE_NEWNET)) abort();
     user = socket(AF_INET, SOCK_DGRAM, 0);
     if (ioctl(user, SIOCGIFFLAGS, &lo)) abort();
     lo.ifr_flags |= IFF_UP;
     if (ioctl(user, SIOCSIFFLAGS, &lo)) abort();
-    setsockopt(user, SOL_SOCKET, SO_RCVBUF, &room, sizeof room);
+    setsockopt(user, SOL_SOCKET, SO_RCVBUF, &size, sizeof size);
     if (bind(user, (struct sockaddr *)&here, sizeof here)) abort();
 }
 

@@ -16,7 +16,7 @@ enum { END = 0300, ESC = 0333, ESC_END = 0334, ESC_ESC = 0335, MTU = 1500, END_O
 
 static unsigned char memory[BSDUDP_MEMORY(MBUFS, CLUSTERS)] __attribute__((aligned(BSDUDP_ALIGNMENT)));
 static struct bsdudp stack;
-static uint8_t packet[MTU], room[BSDUDP_TX_ROOM]; /* a datagram of 4,096 bytes fits too */
+static uint8_t packet[MTU], buffer[BSDUDP_TX_ROOM]; /* a datagram of 4,096 bytes fits too */
 static uint32_t length; /* of the part of a packet that arrived; above the MTU if it's too long */
 
 /* A packet in SLIP, with an end before it too, so that noise on the line is a separate packet. */
@@ -59,10 +59,10 @@ static void serve(uint32_t fd)
 {
     struct bsdudp_addr from = {0, 0};
     int len;
-    while ((len = bsdudp_recvfrom(&stack, fd, room, sizeof room, &from)) >= 0)
-        bsdudp_sendto(&stack, fd, &from, room, (size_t)len);
-    while ((len = bsdudp_tx(&stack, room, sizeof room)) > 0)
-        transmit(room, len);
+    while ((len = bsdudp_recvfrom(&stack, fd, buffer, sizeof buffer, &from)) >= 0)
+        bsdudp_sendto(&stack, fd, &from, buffer, (size_t)len);
+    while ((len = bsdudp_tx(&stack, buffer, sizeof buffer)) > 0)
+        transmit(buffer, len);
 }
 
 int main(void)

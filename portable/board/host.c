@@ -19,8 +19,8 @@ static struct bsdudp host;
 static uint8_t bytes[4096];
 
 /* A frame begins 2 bytes after an aligned place, so that the packet in it is aligned: memcpy then copies words. */
-static uint8_t room[2 + BSDUDP_ETHER_ROOM] __attribute__((aligned(4)));
-static uint8_t *const frame = room + 2;
+static uint8_t buffer[2 + BSDUDP_ETHER_ROOM] __attribute__((aligned(4)));
+static uint8_t *const frame = buffer + 2;
 
 /* Echoes the socket's datagrams, and sends the frames for the link. Returns whether to continue. */
 static int serve(uint32_t fd)

@@ -88,7 +88,7 @@ int lan9118_start(const uint8_t mac[6])
     return mac_write(MAC_CR, MAC_RX_ON | MAC_TX_ON);
 }
 
-size_t lan9118_receive(uint8_t *room)
+size_t lan9118_receive(uint8_t *buffer)
 {
     while ((RX_FIFO_INF & 0xff0000) != 0) {
         const uint32_t status = RX_STATUS, came = status >> 16 & 0x3fff, words = (came + 3) / 4;
@@ -102,7 +102,7 @@ size_t lan9118_receive(uint8_t *room)
         for (i = 0; i < words; i++) {
             const uint32_t word = RX_DATA; /* the last one, or a part of it, is the check sequence */
             if (4 * i < len)
-                memcpy(room + 4 * i, &word, len - 4 * i < 4 ? len - 4 * i : 4);
+                memcpy(buffer + 4 * i, &word, len - 4 * i < 4 ? len - 4 * i : 4);
         }
         return len;
     }

@@ -10,9 +10,9 @@ enum { LAN9118_FRAME = 1514 }; /* the longest frame: 14 bytes of header, and 1,5
    its reset doesn't end. */
 int lan9118_start(const uint8_t mac[6]);
 
-/* Takes the oldest frame: its bytes are stored at the front of `room`, which has LAN9118_FRAME bytes. Returns how many
-   they are, or 0 if none waits. A frame that arrived damaged, or is longer, is dropped. */
-size_t lan9118_receive(uint8_t *room);
+/* Takes the oldest frame: its bytes are stored at the front of `buffer`, which has LAN9118_FRAME bytes. Returns their
+   number, or 0 if none waits. A frame that arrived damaged, or is longer, is dropped. */
+size_t lan9118_receive(uint8_t *buffer);
 
 /* Sends a frame of 14 to LAN9118_FRAME bytes. It waits until the card has space for it. Returns 0, or -1 if the card
    has reported since the last call that a frame couldn't be sent: that one is lost. */

@@ -60,9 +60,9 @@ static u32 lend(struct core *it, const u8 *bytes, size_t len)
 }
 
 /* A window on a buffer that is written. */
-static u32 give(struct core *it, u8 *room, size_t len)
+static u32 give(struct core *it, u8 *buffer, size_t len)
 {
-    lend(it, room, len);
+    lend(it, buffer, len);
     it->windows[WINDOW(BYTES)].writable = heard(len);
     return BYTES;
 }
@@ -210,12 +210,12 @@ int bsdudp_ether_receive(struct bsdudp *stack, const void *frame, size_t len)
     return answer_of(core_ether_receive(&it, MEMORY, LINK, lend(&it, frame, len), heard(len)));
 }
 
-int bsdudp_ether_transmit(struct bsdudp *stack, void *room, size_t len)
+int bsdudp_ether_transmit(struct bsdudp *stack, void *buffer, size_t len)
 {
     BEGIN(ether_transmit, stack);
     if (without_link(stack) < 0)
         return without_link(stack);
-    return answer_of(core_ether_transmit(&it, MEMORY, LINK, give(&it, room, len), heard(len)));
+    return answer_of(core_ether_transmit(&it, MEMORY, LINK, give(&it, buffer, len), heard(len)));
 }
 
 int bsdudp_ether_last_error(struct bsdudp *stack, uint32_t fd)
@@ -331,12 +331,12 @@ int bsdudp_rx(struct bsdudp *stack, const void *packet, size_t len)
     return answer_of(core_rx(&it, handle_of(&it), lend(&it, packet, len), heard(len)));
 }
 
-int bsdudp_tx(struct bsdudp *stack, void *room, size_t len)
+int bsdudp_tx(struct bsdudp *stack, void *buffer, size_t len)
 {
     BEGIN(tx, stack);
     if (stack->tick_link != NULL)
         return -BSDUDP_EOPNOTSUPP;
-    return answer_of(core_tx(&it, handle_of(&it), give(&it, room, len), heard(len)));
+    return answer_of(core_tx(&it, handle_of(&it), give(&it, buffer, len), heard(len)));
 }
 
 /* The link's calls go through a pointer that its boot sets, so a program that boots no host is linked without them. */
@@ -381,12 +381,12 @@ int bsdudp_send(struct bsdudp *stack, uint32_t fd, const void *bytes, size_t len
     return answer_of(core_send(&it, handle_of(&it), fd, lend(&it, bytes, len), heard(len)));
 }
 
-int bsdudp_recvfrom(struct bsdudp *stack, uint32_t fd, void *room, size_t len, struct bsdudp_addr *from)
+int bsdudp_recvfrom(struct bsdudp *stack, uint32_t fd, void *buffer, size_t len, struct bsdudp_addr *from)
 {
     int answer;
     BEGIN(recvfrom, stack);
     put_addr(plain, from);
-    answer = answer_of(core_recvfrom(&it, handle_of(&it), fd, give(&it, room, len), heard(len), argument));
+    answer = answer_of(core_recvfrom(&it, handle_of(&it), fd, give(&it, buffer, len), heard(len), argument));
     if (answer >= 0) {
         from->ip = get_u32(plain);
         from->port = get_u16(plain + 4);

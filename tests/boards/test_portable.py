@@ -52,7 +52,7 @@ def builds(portable_c, compiled, once):
         how, _ = BUILDS[of]
         words = [*how.compiler, *C99, f"-I{portable_c.parent}", *how.of_both]
         folder = once(
-            f"portable-{of}", lambda room: made(*words, *how.of_file, "-c", portable_c, "-o", room / "portable.o")
+            f"portable-{of}", lambda scratch: made(*words, *how.of_file, "-c", portable_c, "-o", scratch / "portable.o")
         )
         return [*how.runs_by, compiled(name, *words, *sources, folder / "portable.o")]
 
@@ -77,7 +77,7 @@ def symbols(portable_c, compiled, once):
     """The symbols of the file compiled for a board, as nm prints them: a letter and a name."""
     how = ["-std=c99", "-O2", "-ffreestanding", "-fno-stack-protector", "-DBSDUDP_MALLOC=0"]
     folder = once(
-        "portable-board", lambda room: shutil.copy(compiled("portable.o", CC, *how, "-c", portable_c), room)
+        "portable-board", lambda scratch: shutil.copy(compiled("portable.o", CC, *how, "-c", portable_c), scratch)
     )
     said = subprocess.run(["nm", folder / "portable.o"], capture_output=True, text=True, check=True).stdout
     return [it.split()[-2:] for it in said.splitlines()]

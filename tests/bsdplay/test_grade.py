@@ -125,7 +125,7 @@ def lowered():
 
 
 @pytest.fixture(scope="module")
-def room(bsdplay):
+def folder(bsdplay):
     """A folder with the program, the key and the hand-ins, which the user `nobody` can read. pytest's own can't be
     read."""
     with tempfile.TemporaryDirectory() as name:
@@ -142,24 +142,24 @@ def room(bsdplay):
         yield folder
 
 
-def graded(room, *words):
+def graded(folder, *words):
     """Grades all hand-ins."""
-    return run(room / "bsdplay", "--grade", "--key", "key.txt", *words, *VERDICTS, cwd=room, **lowered())
+    return run(folder / "bsdplay", "--grade", "--key", "key.txt", *words, *VERDICTS, cwd=folder, **lowered())
 
 
 @pytest.fixture(scope="module")
-def table(room):
+def table(folder):
     """The run that prints a table of all hand-ins, and the table's rows, read by Python's csv."""
-    ended = graded(room, "--csv")
+    ended = graded(folder, "--csv")
     rows = list(csv.reader(io.StringIO(ended.stdout.decode("latin-1"), newline="")))
     same(f"{ended.stderr!r}: rows", len(rows), 1 + len(VERDICTS))
     return ended, rows
 
 
 @pytest.fixture(scope="module")
-def lines(room):
+def lines(folder):
     """The plain output for all hand-ins."""
-    return graded(room).stdout.decode("latin-1")
+    return graded(folder).stdout.decode("latin-1")
 
 
 @ONE_PROCESS

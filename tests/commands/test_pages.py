@@ -15,9 +15,9 @@ from tests.docs.pages import TOP, Fault, none_of, read
 SECONDS = 600
 
 
-def played(session, room, programs):
+def played(session, scratch, programs):
     """Runs the commands in an empty folder of a reader's home. Returns their statuses and their output."""
-    home, path = room / "home", room / "path"
+    home, path = scratch / "home", scratch / "path"
     for folder in (home, path):
         folder.mkdir()
     for name, program in programs.items():
@@ -31,14 +31,14 @@ def played(session, room, programs):
             file.symlink_to(TOP / it)
         else:
             shutil.copy(programs.get(it, TOP / it), file)
-    script = "".join(f"{it}\necho $? >> {room}/statuses\n" for it in session.commands)
+    script = "".join(f"{it}\necho $? >> {scratch}/statuses\n" for it in session.commands)
     for text, other in session.instead.items():
         script = script.replace(text, other)
     environment = {"PATH": f"{path}:/usr/bin:/bin", "HOME": str(home), "PYTHONDONTWRITEBYTECODE": "1"}
     words = ["bash", "-c", f"set -o pipefail\n{script}"]
     streams = {"stdin": subprocess.DEVNULL, "stdout": subprocess.PIPE, "stderr": subprocess.STDOUT}
     done = subprocess.run(words, cwd=home, env=environment, text=True, check=False, timeout=SECONDS, **streams)
-    statuses = map(int, (room / "statuses").read_text(encoding="utf-8").split())
+    statuses = map(int, (scratch / "statuses").read_text(encoding="utf-8").split())
     return dict(zip(session.commands, statuses)), done.stdout
 
 

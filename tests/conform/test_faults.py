@@ -214,14 +214,14 @@ def chosen():
     return [it for it in cases.make(1, 0) if it.rule.startswith(RULES)]
 
 
-def broken(edits, room):
+def broken(edits, scratch):
     """Returns the rules that the stack breaks with these edits, and the number of deviations."""
     text = STACK.read_text(encoding="utf-8")
     for old, new in edits:
         assert text.count(old) == 1, f"{old!r} stands in small_stack.py {text.count(old)} times"
         text = text.replace(old, new)
-    (room / "stack.py").write_text(text, encoding="utf-8")
-    judged = judge([sys.executable, str(room / "stack.py")], chosen(), progress=False)
+    (scratch / "stack.py").write_text(text, encoding="utf-8")
+    judged = judge([sys.executable, str(scratch / "stack.py")], chosen(), progress=False)
     rules = [it.breach.rule for it in judged.deviations]
     return {rule: rules.count(rule) for rule in rules}
 

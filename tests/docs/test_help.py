@@ -43,12 +43,13 @@ def masks(once):
     return once("masks", make)
 
 
-def ended(script, word, room, masks):
+def ended(script, word, scratch, masks):
     """Runs a script with an argument. Returns its status, its standard output and its standard error."""
-    environment = {"PATH": "/usr/bin:/bin", "HOME": str(room), "PYTHONPATH": ":".join([str(masks), *PACKAGES])}
+    environment = {"PATH": "/usr/bin:/bin", "HOME": str(scratch), "PYTHONPATH": ":".join([str(masks), *PACKAGES])}
     environment["PYTHONDONTWRITEBYTECODE"] = "1"
     pipes = {"stdin": subprocess.DEVNULL, "stdout": subprocess.PIPE, "stderr": subprocess.PIPE, "text": True}
-    with subprocess.Popen([TOP / script, word], cwd=room, env=environment, start_new_session=True, **pipes) as running:
+    pipes |= {"cwd": scratch, "env": environment, "start_new_session": True}
+    with subprocess.Popen([TOP / script, word], **pipes) as running:
         try:
             said, texts = running.communicate(timeout=SECONDS)
         except subprocess.TimeoutExpired:

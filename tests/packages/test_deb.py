@@ -68,8 +68,8 @@ listed() {
 listed > /tmp/before
 dpkg -i /srv/files/*.deb > /tmp/said 2>&1 || { cat /tmp/said >&2; exit 1; }
 for line in "${lines[@]}"; do
-    status=0 room=$(mktemp -d)
-    (cd "$room" && cp /srv/files/*.c /srv/files/*.py . &&
+    status=0 scratch=$(mktemp -d)
+    (cd "$scratch" && cp /srv/files/*.c /srv/files/*.py . &&
         bash -euo pipefail -c "$line") > /tmp/printed 2> /tmp/said < /dev/null || status=$?
     printf '%%s\\0%%s\\0%%s\\0' "$status" "$(cat /tmp/printed)" "$(cat /tmp/said)"
 done

@@ -72,10 +72,10 @@ static inline void kit_out(const uint8_t *packet, int length)
 /* Reads hexadecimal bytes into a block of exactly their length, so that a tool detects reads beyond it. */
 static uint8_t *kit_bytes(const char *text, int *length)
 {
-    size_t room = strlen(text) / 2;
-    uint8_t *block = (uint8_t *)malloc(room ? room : 1);
+    size_t size = strlen(text) / 2;
+    uint8_t *block = (uint8_t *)malloc(size ? size : 1);
     if (block == NULL) abort();
-    *length = *text == '-' ? 0 : (int)room;
+    *length = *text == '-' ? 0 : (int)size;
     for (int i = 0; i < *length; i++) {
         char pair[3] = {text[2 * i], text[2 * i + 1], 0};
         block[i] = (uint8_t)strtoul(pair, NULL, 16);
@@ -144,9 +144,9 @@ static void kit_case(const struct kit_stack *it, char **lines, int count)
 static int kit_serve(const struct kit_stack *it)
 {
     char *line = NULL, **lines = NULL;
-    size_t room = 0;
+    size_t size = 0;
     int count = 0;
-    while (getline(&line, &room, stdin) > 0) {
+    while (getline(&line, &size, stdin) > 0) {
         line[strcspn(line, "\n")] = 0;
         if (strncmp(line, "hello", 5) == 0) {
             printf("stack %s\nhas %s\nend\n", it->name, it->has);
