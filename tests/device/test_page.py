@@ -18,6 +18,8 @@ def block(first):
 
 
 def shell(commands, folder, *program):
+    # What runs in the background would otherwise keep the pipe open when a command fails.
+    commands = f"trap 'kill $(jobs -p) 2> /dev/null || true' EXIT\n{commands}"
     done = subprocess.run(
         [*program, "bash", "-e"], input=commands, cwd=folder, capture_output=True, text=True, check=False, timeout=120
     )

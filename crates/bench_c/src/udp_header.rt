@@ -24,12 +24,12 @@ const DESTINATION: Addr = Addr {
     port: 7,
 };
 
-/// A packet with this data after space for both headers.
-fn packet_of(pool: &mut Pool, data: &[u8]) -> Result<Chain, NoBufs>
-    requires { length data.now ≤ IP_MAX_PACKET }
+/// A packet with this payload after space for both headers.
+fn packet_of(pool: &mut Pool, payload: &[u8]) -> Result<Chain, NoBufs>
+    requires { length payload.now ≤ IP_MAX_PACKET }
     ensures { IfOk result (λ c. IsLive pool.new c) }
 {
-    let mut chain = from_user(pool, data)?;
+    let mut chain = from_user(pool, payload)?;
     let Ok(()) = m_prepend(pool, &mut chain, &[0; IP_UDP_HEADERS as usize]) else {
         pool.free_chain(chain);
         return Err(NoBufs);
