@@ -62,11 +62,12 @@ def test_readme():
 
 
 def test_readme_as_root():
-    """What differs for root: `rt` lets nobody run what it compiles, and the tests that need root aren't skipped. The
-    programs that `make test` compiles were tried by the new user, so it finds no `rt` here."""
+    """What differs for root: `rt` lets nobody run what it compiles, and the tests that need root aren't skipped. So of
+    `make test` only the tests with the marker `needs` are played. It finds no `rt` here, since the new user tried the
+    programs that it compiles."""
     (commands,) = blocks("commands")
     assert "\nmake test\n" in commands
-    passes(commands.replace("\nmake test\n", "\nrm /usr/local/bin/rt\nmake test\n"), "--root")
+    passes(commands.replace("\nmake test\n", "\nrm /usr/local/bin/rt\nmake test K=needs\n"), "--root")
 
 
 # ---- missing tools -------------------------------------------------------------------------------------------------
