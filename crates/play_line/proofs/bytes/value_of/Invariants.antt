@@ -1,4 +1,4 @@
-use Rattle.std.proofs.Common.{◌≡◌, ◌-◌, ◌≤◌, take}
+use Rattle.std.proofs.Common.{◌≡◌, ◌≤◌, take}
 use Rattle.play_line.specs.Bytes.{digits_value}
 use Rattle.play_line.proofs.bytes.value_of.Given as goal
 
