@@ -23,7 +23,7 @@ from ._sweep import sweep
 from ._unfinished import HeldRange, UnfinishedDatagram
 from ._wire import Carried, Wire
 
-__version__ = "0.3.0"
+__version__ = "0.4.0"
 
 __all__ = [
     "Carried",
