@@ -62,9 +62,9 @@ def test_readme():
 
 
 def test_readme_as_root():
-    """What differs for root: `rt` lets nobody run what it compiles, and the tests that need root aren't skipped. So of
-    `make test` only the tests with the marker `needs` are played. It finds no `rt` here, since the new user tried the
-    programs that it compiles."""
+    """What differs for root: `rt` doesn't let root run what it compiles, and some tools are there only for root (such
+    as network namespaces). So of `make test` only the tests with the marker `needs` are played, without `rt`. Nearly
+    all are skipped, and each must be counted with its reason. The new user plays the others."""
     (commands,) = blocks("commands")
     assert "\nmake test\n" in commands
     passes(commands.replace("\nmake test\n", "\nrm /usr/local/bin/rt\nmake test K=needs\n"), "--root")
