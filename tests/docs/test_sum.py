@@ -25,12 +25,15 @@ class Row(NamedTuple):
 
 SKIPPED = "skipped (1): there is no tshark"
 NONE = "skipped (1): tests/: there is no pytest"
+EMPTY = "failed: 1.xml has no test"
 ROWS = [
     Row("all_pass", "6 passed, 0 failed, 0 skipped", 0, reports=(PASS + PASS, PASS)),
     Row("skips", "4 passed, 0 failed, 1 skipped", 0, reports=(PASS, SKIP), before=(SKIPPED,)),
     Row("a_failed_test", "4 passed, 1 failed, 0 skipped", 1, reports=(PASS, FAIL)),
     Row("an_error", "4 passed, 1 failed, 0 skipped", 1, reports=(PASS, ERROR)),
-    Row("a_report_is_missing", "4 passed, 1 failed, 0 skipped", 1, reports=(PASS, None)),
+    Row("a_report_is_missing", "4 passed, 1 failed, 0 skipped", 1, reports=(PASS, None), before=(EMPTY,)),
+    Row("a_report_is_cut_off", "4 passed, 1 failed, 0 skipped", 1, reports=(PASS, PASS + "<"), before=(EMPTY,)),
+    Row("a_report_is_empty", "4 passed, 1 failed, 0 skipped", 1, reports=(PASS, ""), before=(EMPTY,)),
     Row("a_failed_crate", "3 passed, 1 failed, 0 skipped", 1, line="2 passed, 1 failed\n"),
     Row("mutants_not_refused", "4 passed, 2 failed, 0 skipped", 1, mutants=REFUSED.replace("0 not", "2 not")),
     Row("mutants_by_a_name", "4 passed, 3 failed, 0 skipped", 1, mutants=REFUSED.replace("0 of", "3 of")),
@@ -43,12 +46,11 @@ ROWS = [
 def test_last_line(row, tmp_path):
     (tmp_path / "last").write_text(row.line, encoding="utf-8")
     (tmp_path / "mutants").write_text(row.mutants, encoding="utf-8")
-    paths = [tmp_path / f"{number}.xml" for number in range(len(row.reports))]
-    for path, cases in zip(paths, row.reports):
+    reports = [f"{number}.xml" for number in range(len(row.reports))]
+    for report, cases in zip(reports, row.reports):
         if cases is not None:
-            path.write_text(f"<testsuites><testsuite>{cases}</testsuite></testsuites>", encoding="utf-8")
-    words = [TOP / ".ci/sum", tmp_path / "last", tmp_path / "mutants", *paths]
-    done = subprocess.run(words, capture_output=True, text=True, check=False)
-    missing = [f"failed: there is no {path}" for path, cases in zip(paths, row.reports) if cases is None]
-    assert done.stdout.splitlines() == [*missing, *row.before, row.last]
+            (tmp_path / report).write_text(f"<testsuites>{cases}</testsuites>", encoding="utf-8")
+    words = [TOP / ".ci/sum", "last", "mutants", *reports]
+    done = subprocess.run(words, cwd=tmp_path, capture_output=True, text=True, check=False)
+    assert done.stdout.splitlines() == [*row.before, row.last]
     assert (done.returncode, done.stderr) == (row.status, "")
