@@ -5,6 +5,7 @@ from __future__ import annotations
 
 import contextlib
 import ctypes
+import itertools
 import os
 import pathlib
 import random
@@ -21,6 +22,9 @@ from tests.made import core_for, made, module  # noqa: F401 (fixtures)
 
 DEVICE, LINUX = "10.0.0.1", "10.0.0.2"
 COAP, TFTP = 5683, 69
+# Ports of clients, each used once: below 32,768, so Linux gives none of them to a program. The device knows a client by
+# its port, for 12 seconds after its last message, and ignores the request of a writer that comes again.
+PORTS = itertools.count(20000)
 CLONE_NEWNET = 0x40000000
 MEBIBYTE = 1 << 20
 MACHINE = ["qemu-system-arm", "-M", "mps2-an385", "-display", "none", "-monitor", "none", "-serial", "stdio"]
@@ -141,13 +145,14 @@ def device(running) -> Iterator[Device]:
 
 @pytest.fixture
 def client() -> Callable[..., socket.socket]:
-    """client() returns a UDP socket. If nothing arrives in 5 seconds, the test fails."""
+    """client() returns a UDP socket with a new port. If nothing arrives in 5 seconds, the test fails."""
     opened = []
 
     def opens(port: int | None = None) -> socket.socket:
         it = socket.socket(socket.AF_INET, socket.SOCK_DGRAM)
         opened.append(it)
         it.settimeout(5)
+        it.bind(("", next(PORTS)))
         if port:
             it.connect((DEVICE, port))
         return it
