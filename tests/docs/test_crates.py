@@ -104,15 +104,28 @@ def test_calls_on_the_way_of_a_packet():
 # ---- mutants -------------------------------------------------------------------------------------------------------
 
 
-def test_bodies_that_are_refused():
-    """Each mutant that an entry in docs/security.md names is in must-fail/."""
-    page = "docs/security.md"
-    entries = re.split(r"\n(?=- )", part(page, "## Class by class\n", "\n## "))
-    named = [name for it in entries for name in in_code(it.partition("Refused:")[2])]
-    assert named, f"{page}:1: no entry names a mutant after 'Refused:'"
+def refused_by_security() -> list[str]:
+    """Returns the mutants that an entry in docs/security.md names."""
+    entries = re.split(r"\n(?=- )", part("docs/security.md", "## Class by class\n", "\n## "))
+    return [name for it in entries for name in in_code(it.partition("Refused:")[2])]
+
+
+def always_tried() -> list[str]:
+    """Returns the mutants in the table of mistakes that the gate always tries."""
+    _, rows = table("docs/maintain/testing.md", "Mistakes that the gate always tries", "Mistake", "Mutants")
+    return [name for row in rows for name in in_code(row.cells[1])]
+
+
+@pytest.mark.parametrize(
+    "page, named", [("docs/security.md", refused_by_security), ("docs/maintain/testing.md", always_tried)]
+)
+def test_bodies_that_are_refused(page, named):
+    """Each mutant that this page names as tried by the gate is in must-fail/."""
+    names = named()
+    assert names, f"{page}:1: the page names no mutant"
     none_of(
         Fault(f"{page}:1", f"no must-fail/ has {name}.edit")
-        for name in named
+        for name in names
         if not list(TOP.glob(f"crates/*/must-fail/{name}.edit"))
     )
 
