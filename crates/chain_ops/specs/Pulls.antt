@@ -4,7 +4,7 @@ use Rattle.params.specs.declared.TheConstants.{MSIZE, MHLEN, MAX_PROTOCOL_HEADER
 use Rattle.mbuf_chain.specs.Chain.{Entry, Front, ChainView, PoolView, alone, flat_bytes, string, entry_of}
 use Rattle.mbuf_chain.specs.Steps.{narrowed, with_back, empty_entry}
 use Rattle.chain_ops.specs.declared.pullup.Refusal.{Refusal}
-use Rattle.chain_ops.specs.declared.pullup.Refusal.TheVariants.{TooLong, TooShort, NoBufs}
+use Rattle.chain_ops.specs.declared.pullup.Refusal.TheVariants.{NoBufs, TooLong, TooShort}
 use Rattle.chain_ops.specs.Makes.{LacksMbufs}
 use Rattle.chain_ops.specs.Rooms.{room_low}
 

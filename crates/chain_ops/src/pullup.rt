@@ -17,15 +17,15 @@ use thiserror::Error;
 /// Why `m_pullup` failed.
 #[derive(Clone, Copy, Debug, PartialEq, Eq, Error)]
 pub enum Refusal {
+    /// A new first mbuf is needed, and none is free.
+    #[error("no buffers")]
+    NoBufs,
     /// `n` is above 100.
     #[error("too long")]
     TooLong,
     /// The chain has fewer bytes.
     #[error("too short")]
     TooShort,
-    /// A new first mbuf is needed, and none is free.
-    #[error("no buffers")]
-    NoBufs,
 }
 
 /// Moves the first `n` bytes of a chain to the end of the last mbuf of another, and links the rest. An mbuf that
