@@ -1,10 +1,12 @@
 # What people type first; `make help` lists it. No rule has logic of its own: each calls a script that works by itself.
-.PHONY: help run play why test prove lib install packages page setup clean
+.PHONY: help run play why test prove lib python install packages page setup clean
 .DEFAULT_GOAL := help
 SCRIPT ?= examples/first_datagram.txt
 CAPTURE ?= examples/play/faults.pcap
 PREFIX ?= $(HOME)/.local
 FOLDER ?= out
+# The scripts read it: they then build without a proof.
+export TRIAL := $(TRIAL)
 # $(call need,COMMAND,WHERE IT COMES FROM) ends the rule with one line and status 2 if a command isn't there.
 need = command -v $(1) > /dev/null || { echo "make $@: there is no $(1): $(2)" >&2; exit 2; }
 rt = $(call need,rt,install the Rattle toolchain and put its folder bin on the path (README.md))
@@ -17,10 +19,11 @@ help:
 	@echo "make why [CAPTURE=FILE]      read a capture by bsdplay why, which says why its packets were dropped"
 	@echo "make test [K=WORD]           run the tests that need no proof: 3 minutes; with K those with WORD in their name"
 	@echo "make prove                   run the gate: prove everything and run every test: about an hour on four idle cores"
-	@echo "make lib [FOLDER=out]        prove the C library and build it in FOLDER"
+	@echo "make lib [FOLDER=out]        prove the C library and build it in FOLDER; with TRIAL=1 in a minute without a proof"
+	@echo "make python [FOLDER=out]     the same with the Python package, in FOLDER/python"
 	@echo "make install [PREFIX=..]     prove the C library and install it with its header below PREFIX"
 	@echo "make packages [FOLDER=out]   make the Debian packages of what make prove has built"
-	@echo "make page                    make the web page page/out/bsdudp.html"
+	@echo "make page                    make the web page page/out/bsdudp.html; with TRIAL=1 in two minutes, in .. /unproved"
 	@echo "make setup                   install Debian's packages for the whole gate (or print the command, if not root)"
 	@echo "make clean                   remove all that was built"
 
@@ -50,6 +53,12 @@ lib:
 	@$(rt)
 	@$(cc)
 	@capi/build "$(FOLDER)"
+
+python:
+	@$(python)
+	@$(rt)
+	@$(cc)
+	@python/build "$(FOLDER)/python"
 
 install:
 	@$(python)

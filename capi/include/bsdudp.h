@@ -608,7 +608,8 @@ const char *bsdudp_error_name(int result);
    above, and "unknown" for a number that no call returns. */
 const char *bsdudp_strerror(int result);
 
-/* Returns the version of the library that the program is linked with. BSDUDP_VERSION is the version of this header. */
+/* Returns the version of the library that the program is linked with, for example "0.4.0", or "0.4.0, unproved build"
+   for one that was built without a proof (TRIAL=1). BSDUDP_VERSION is the version of this header. */
 const char *bsdudp_version(void);
 
 #ifdef __cplusplus

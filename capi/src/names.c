@@ -139,5 +139,9 @@ const char *bsdudp_strerror(int result)
 
 const char *bsdudp_version(void)
 {
+#ifdef BSDUDP_UNPROVED
+    return BSDUDP_VERSION ", unproved build";
+#else
     return BSDUDP_VERSION;
+#endif
 }

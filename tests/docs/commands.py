@@ -28,6 +28,8 @@ ROWS = {
     # README's block, on an empty system
     'git clone -q "$REPOSITORY" bsdudp': Row("fresh", 'blocks("commands")'),
     "cd bsdudp": Row("fresh", 'blocks("commands")'),
+    "cc -Icapi/include capi/examples/first.c out/libbsdudp.a && ./a.out": Row("fresh", "test_readme_without_a_proof"),
+    "PYTHONPATH=out/python python3 python/examples/first.py": Row("fresh", "test_readme_without_a_proof"),
     # what is installed
     "dist/deb FOLDER": Row("deb", "dist/deb"),
     "apt install ./bsdudp_*.deb ./libbsdudp*.deb ./python3-bsdudp_*.deb": Row("deb", "dpkg -i"),

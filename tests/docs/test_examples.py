@@ -1,5 +1,7 @@
-"""What pages say about examples/: a row for each script, and the output that docs/tour.md shows."""
+"""What pages say about examples/: a row for each script, and the output that docs/tour.md shows. README's two programs
+are files."""
 import re
+import textwrap
 
 import pytest
 
@@ -14,6 +16,15 @@ def test_each_example_has_a_line():
     scripts = {str(it.relative_to(folder)) for it in folder.rglob("*.txt") if it.parent.name != "exercises"}
     rows = re.findall(r"(?m)^\| `([^`]+\.txt)` \|", read("examples/README.md"))
     assert sorted(scripts) == sorted(rows)
+
+
+@pytest.mark.parametrize(
+    "path, begins", [("capi/examples/first.c", "#include <bsdudp.h>"), ("python/examples/first.py", "import bsdudp")]
+)
+def test_readmes_program_is_a_file(path, begins):
+    """The file has README's program after a comment."""
+    (shown,) = re.findall(rf"(?m)^    {re.escape(begins)}\n(?:    .*\n)+", read("README.md"))
+    assert read(path).partition(f"\n{begins}\n")[2] == textwrap.dedent(shown).removeprefix(f"{begins}\n")
 
 
 def quoted():

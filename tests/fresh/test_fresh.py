@@ -41,6 +41,32 @@ def blocks(kind):
     return [re.sub("(?m)^    ", "", it) for it in re.findall(r"(?m)(?:^    .*\n)+", text)]
 
 
+TRIAL = """
+PYTHONPATH=out/python python3 -c "from bsdudp._library import LIBRARY; print(LIBRARY.version)"
+make page TRIAL=1
+grep -o "An unproved build" page/out/unproved/bsdudp.html
+"""
+
+
+def test_readme_without_a_proof():
+    """The second block, in a clone: the library, the Python package and the page are built without a proof and say
+    so."""
+    readme = README.partition("## Try it\n")[2]
+    # libc6-dev comes with gcc, because gcc recommends it; here nothing recommended is installed
+    installed = ",".join([packages(), *re.findall(r"`apt-get install ([^`]+)`", readme)[1:], "libc6-dev"])
+    first, second = blocks("commands")
+    clone = first.partition("make run\n")[0]
+    status, printed, said = machine("--with", installed, f"set -e\n{clone}{second}{TRIAL}")
+    assert status == 0, f"status {status}:\n{printed[-2000:]}\n{said[-2000:]}"
+    number = re.search(r"version (\d+\.\d+\.\d+)", README)[1]
+    assert [it for it in printed.splitlines() if not it.startswith("made: ")] == [
+        "2 bytes, from port 7",
+        "(b'hi', ('10.0.0.1', 1024)) Counters(ip.total=1)",
+        f"{number}, unproved build",
+        "An unproved build",
+    ], printed
+
+
 def passes(commands, *words):
     """Commands of README's block pass at the first try, and print what README shows."""
     played, summary = blocks("prints")
@@ -56,16 +82,15 @@ def passes(commands, *words):
 
 
 def test_readme():
-    """A new user pastes the block, word for word."""
-    (commands,) = blocks("commands")
-    passes(commands)
+    """A new user pastes the first block, word for word."""
+    passes(blocks("commands")[0])
 
 
 def test_readme_as_root():
     """What differs for root: `rt` doesn't let root run what it compiles, and some tools are there only for root (such
     as network namespaces). So of `make test` only the tests with the marker `needs` are played, without `rt`. Nearly
     all are skipped, and each must be counted with its reason. The new user plays the others."""
-    (commands,) = blocks("commands")
+    commands, _ = blocks("commands")
     assert "\nmake test\n" in commands
     passes(commands.replace("\nmake test\n", "\nrm /usr/local/bin/rt\nmake test K=needs\n"), "--root")
 
