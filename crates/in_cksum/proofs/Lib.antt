@@ -3,3 +3,4 @@ mod Blocks
 mod Wrapped
 mod Ranges
 mod Rests
+mod Numbers

@@ -96,7 +96,7 @@ fn sum_rest(bytes: &[u8]) -> u64
 /// Sums the words in memory order, up to what the fold makes equal.
 fn sum_long(bytes: &[u8]) -> u64
     ensures folded { fold16 result ≡ fold16 (swapped_sum bytes.now) }
-    ensures small { result < 2 ^ 51 }
+    ensures small { result < 2 ^ 52 }
 {
     let mut total = 0u16;
     let mut rest = bytes;
@@ -122,7 +122,7 @@ pub fn sum_head(bytes: &[u8; IP_HEADER as usize]) -> u16
 /// memory order is in the other half of its word, and a shift by 8 bits corrects that.
 #[inline(always)]
 fn turned(sum: u64, is_odd: bool) -> u64
-    requires { sum < 2 ^ 51 }
+    requires { sum < 2 ^ 52 }
     ensures { result ≡ (if is_odd then sum else 256 * sum) }
 {
     if is_odd { sum } else { 256 * sum }
