@@ -1,6 +1,6 @@
 //! The rows of the table, found by a hash of their keys.
 ghost use Rattle.std.specs.Prelude.{◌≡◌, ℕ, ◌+◌, ◌-◌, ◌<◌, ◌≤◌, ◌++◌, ◌∷◌, ◌^◌, [], length, remove, get_or, IfOk};
-ghost use Rattle.ip_reass.specs.Inside.Index.{AreLinked, bucket_of, buckets_in, buckets_of, upto_last};
+ghost use Rattle.ip_reass.specs.Inside.Index.{AreLinked, bucket_of, buckets_in, buckets_of, halves_of, upto_last};
 
 use crate::datagram::Datagram;
 use flat_model::FragmentKey;
@@ -14,6 +14,15 @@ struct Row {
     bucket: u32,
     /// The number of rows up to and including the one before it in its bucket: 0 if it's the first.
     before: u32,
+}
+
+/// Adds both halves of an address.
+// So a key's hash has 32 bits: a board divides numbers of 64 bits by a function of the C library.
+fn halves(address: u32) -> u32
+    ensures is { result ≡ halves_of address }
+    ensures small { result < 2 ^ 17 }
+{
+    address % 65_536 + address / 65_536
 }
 
 /// Puts a row after the others, into a bucket.
@@ -89,7 +98,7 @@ impl Model for Index {
       room = length x.rows.items;
     } };
 
-    ghost invariant = { λ x. AreLinked x.lasts.items x.rows.items x.len × (length x.lasts.items ≤ 2 ^ 32)
+    ghost invariant = { λ x. AreLinked x.lasts.items x.rows.items x.len × (length x.lasts.items < 2 ^ 32)
         × (length x.rows.items < 2 ^ 32) };
 }
 
@@ -120,11 +129,11 @@ impl Index {
         ensures is { result ≡ bucket_of self.now.count key.now }
         ensures low { result < self.now.count }
     {
-        let sum = u64::from(key.id)
-            + 40_503 * u64::from(key.source)
-            + 10_007 * u64::from(key.destination)
-            + 211 * u64::from(key.protocol);
-        (sum % self.lasts.len() as u64) as u32
+        let sum = u32::from(key.id)
+            + 20_011 * halves(key.source)
+            + 10_007 * halves(key.destination)
+            + 211 * u32::from(key.protocol);
+        sum % self.lasts.len() as u32
     }
 
     /// Returns how many rows there are up to and including the last in a bucket: 0 if it's empty.

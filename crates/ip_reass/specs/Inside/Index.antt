@@ -1,12 +1,17 @@
 -- The rows of the table, found by the buckets of their keys (this project's own).
-use Rattle.std.specs.Prelude.{◌≡◌, ℕ, zero, suc, ◌+◌, ◌*◌, ◌%◌, ◌<◌, ◌≤◌, ◌==◌, if◌then◌else◌, List, map, take, length, get_or}
+use Rattle.std.specs.Prelude.{◌≡◌, ℕ, zero, suc, ◌+◌, ◌*◌, ◌/◌, ◌%◌, ◌<◌, ◌≤◌, ◌==◌, if◌then◌else◌, List, map, take, length, get_or}
 use Rattle.flat_model.specs.Machine.State.{Key}
 use Rattle.ip_reass.specs.declared.datagram.Datagram.{Datagram}
 use Rattle.ip_reass.specs.declared.index.Row.{Row}
 
+-- both halves of an address, added
+abbrev pub halves_of : ℕ → ℕ
+halves_of a = a % 65536 + a / 65536
+
 -- the bucket of a key, among n buckets
 abbrev pub bucket_of : ℕ → Key → ℕ
-bucket_of count k = (k.id + 40503 * k.source + 10007 * k.destination + 211 * k.protocol) % count
+bucket_of count k =
+    (k.id + 20011 * halves_of k.source + 10007 * halves_of k.destination + 211 * k.protocol) % count
 
 -- those of all rows
 abbrev pub buckets_of : ℕ → List Datagram → List ℕ
