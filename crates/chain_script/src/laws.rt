@@ -1,5 +1,5 @@
 //! Laws of the script. Each is a function that does nothing; its contract is the law.
-ghost use Rattle.std.specs.Prelude.{◌≡◌, ℕ, List, None, replicate};
+ghost use Rattle.std.specs.Prelude.{◌≡◌, ℕ, List, None, length, replicate};
 ghost use Rattle.script_loop.specs.Printed.{Prints};
 ghost use Rattle.chain_script.specs.declared.caller.TheConstants.{SLOTS};
 ghost use Rattle.chain_script.specs.Lines.{Request};
@@ -11,6 +11,8 @@ ghost use Rattle.chain_script.specs.Strings.{strings_of, StringStep, StringSays}
 /// The same holds for all replies except two: of the reply to `show` only the length is determined, and the reply to
 /// `mbstat` isn't. The replies are those of list operations on strings.
 pub fn strings_law()
+    // There are 64 slots.
+    ensures slots { (mbufs clusters : ℕ) → length (booted mbufs clusters).slots ≡ 64 }
     // At boot there are no strings.
     ensures boot { (mbufs clusters : ℕ) → strings_of (booted mbufs clusters) ≡ replicate SLOTS None }
     // A step of the machine is one of its strings.

@@ -93,6 +93,9 @@ stored_is {p} {q} {r} {d} {d'} bytes hs law s is len m string_is =
         free = s.1;
         made = made.adds;
         headed = ap (λ f. f.header) made.front ∙ headed_front (chain_of q d) (length hs) s.3.front;
+        headers = hs;
+        entries = made.entries
+            ∙ (λ i. prepended (record { front = s.3.front i; entries = s.3.entries i; cells = [] }) hs);
         placed = ap layout_entries made.entries ∙ placed_there bytes hs law s len;
         size = omega (arith, ap (λ (xs : List ℕ). length xs) whole, length-append hs bytes, len);
         held = omega (
@@ -106,6 +109,7 @@ stored_is {p} {q} {r} {d} {d'} bytes hs law s is len m string_is =
     }
 
 -- ---- the UDP header written into it
-pub ready : {p q : PoolView} {cs : List ℕ} {n c : ℕ} → IsSendLaidOut p n cs q c → n ≤ 9216
+pub ready : {p q : PoolView} {bytes cs : List ℕ} {c : ℕ} → IsSendLaidOut p bytes cs q c → length bytes ≤ 9216
     → IsDatagramChain (chain_of q c)
-ready {p} {q} {cs} {n} {c} l most = datagram_sent (chain_of q c) cs n l.headed l.placed (omega (arith, l.size, most))
+ready {p} {q} {bytes} {cs} {c} l most =
+    datagram_sent (chain_of q c) cs (length bytes) l.headed l.placed (omega (arith, l.size, most))

@@ -1,11 +1,11 @@
 -- A send that makes one packet for the link: the buffers that it needs, its bytes in mbufs, and its datagram.
-use Rattle.std.proofs.Common.{◌≡◌, ◌≢◌, ℕ, ◌+◌, ◌<◌, ◌≤◌, Bool, true, false, cond, List, [], ◌∷◌, ◌++◌, length, drop, Option, Some, None, refl, sym, ap, ◌∙◌, subst, arith}
-use Rattle.std.specs.Prelude.{count_by, sum_by, ◌==◌, ◌||◌}
+use Rattle.std.proofs.Common.{◌≡◌, ◌≢◌, ℕ, ◌+◌, ◌<◌, ◌≤◌, Bool, true, false, cond, List, [], ◌∷◌, ◌++◌, length, drop, Option, Some, None, le_refl, take_all, refl, sym, ap, ◌∙◌, subst, arith}
+use Rattle.std.specs.Prelude.{◌-◌, ◌*◌, ◌/◌, nat_le, count_by, sum_by, ◌==◌, ◌||◌}
 use Rattle.std.proofs.lemmas.Bool.{cond-true, cond-false, le-leb, lt-leb, ne_eqb}
 use Rattle.std.proofs.lemmas.List.{append-nil, drop-append-le, length-append, length-map}
 use Rattle.std.proofs.Math.Seq.{drop-append_seam}
 use Rattle.flat_model.specs.Amounts.Layout as flat
-use Rattle.flat_model.specs.Amounts.Layout.{Room, Plain, Cluster, is_cluster, entries_on, need, need_bcast, need_of_part, sent}
+use Rattle.flat_model.specs.Amounts.Layout.{Room, Plain, Cluster, is_cluster, entries_on, need, need_bcast, need_of_part, sent, user}
 use Rattle.flat_model.specs.Machine.Send.{need_to}
 use Rattle.flat_model.specs.Machine.Sending as sending
 use Rattle.flat_model.specs.Machine.Sending.{is_looped, mtu_to}
@@ -16,12 +16,14 @@ use Rattle.mbuf_chain.specs.Steps.{joined, one_mbuf}
 use Rattle.mbuf_chain.proofs.Laws.Accounts.{held-adds}
 use Rattle.mbuf_chain.proofs.Laws.Owners.{live_adds, shown_adds}
 use Rattle.mbuf_chain.proofs.Laws.Steps.{adds_undone, linked_front}
-use Rattle.chain_ops.specs.Stored.{AreFree, Has}
+use Rattle.chain_ops.specs.Prepends.{prepended}
+use Rattle.chain_ops.specs.Rooms.{at_end}
+use Rattle.chain_ops.specs.Stored.{AreFree, Has, stored_first}
 use Rattle.chain_ops.specs.Weights.{layout_entries}
 use Rattle.chain_ops.proofs.Laws.Rooms.{one_cluster}
 use Rattle.ip_out.specs.declared.ways.Way.{Way}
-use Rattle.sock_calls.specs.Inside.Putting.{IsBuilt, IsSendLaidOut, IsStored, way_of}
-use Rattle.sock_calls.proofs.SentRooms.{placed_count}
+use Rattle.sock_calls.specs.Inside.Putting.{IsBuilt, IsSendLaidOut, IsStored, sent_entries, way_of}
+use Rattle.sock_calls.proofs.SentRooms.{placed_count, user_small}
 
 -- ---- the buffers that it needs
 
@@ -86,16 +88,46 @@ by_link c ip (apart, one, outside) =
 abbrev pub entry : List ℕ → ℕ → Option ℕ → Entry
 entry xs start o = record { bytes = xs; start = start; cluster = o }
 
-lies : {p q : PoolView} {c : ℕ} (v : ChainView) (cs : List ℕ) (n : ℕ) → Adds p q c v → v.front.header ≡ true
-    → length cs ≡ count_by is_cluster (sent n) → AreFree p cs
-    → layout_entries v.entries ≡ entries_on cs (sent n) → length (string v) ≡ n + 28 → IsSendLaidOut p n cs q c
-lies {p} {q} {c} v cs n adds headed number free is size =
+-- its mbufs are those of `from_user`, with the headers in front
+small_entries : (hs xs : List ℕ) → length hs ≡ 28 → length xs ≤ 72
+    → sent_entries [] hs xs ≡ entry (hs ++ xs) (100 - (length xs + 3) / 4 * 4) None ∷ []
+small_entries hs xs len few =
+    let n : ℕ = length xs in
+    let v : ChainView = record { front = alone true; entries = entry xs (at_end true n) None ∷ []; cells = [] } in
+    let one : stored_first 56 true [] (user n) xs ≡ v.entries =
+    ap (λ (rooms : List Room). stored_first 56 true [] rooms xs) (user_small n few)
+    ∙ ap (λ (ys : List ℕ). entry ys (at_end true n) None ∷ []) (take_all n xs (le_refl n)) in
+    let fits : nat_le (length hs) (at_end true n - 28) ≡ true = le-leb _ _ (omega (arith, len, few)) in
+    let start : at_end true n - length hs ≡ 100 - (n + 3) / 4 * 4 = omega (arith, len, few) in
+    ap (λ (es : List Entry). prepended (record { front = alone true; entries = es; cells = [] }) hs) one
+    ∙ cond-true {A = List Entry} _ _ _ fits ∙ ap (λ (k : ℕ). entry (hs ++ xs) k None ∷ []) start
+
+large_entries : (hs xs : List ℕ) (k : ℕ) → length hs ≡ 28 → 208 ≤ length xs → length xs ≤ 1992
+    → sent_entries (k ∷ []) hs xs ≡ entry hs 100 None ∷ entry xs 56 (Some k) ∷ []
+large_entries hs xs k len many most =
+    let n : ℕ = length xs in
+    let one : stored_first 56 true (k ∷ []) (user n) xs ≡ entry xs 56 (Some k) ∷ [] =
+    ap (λ (rooms : List Room). stored_first 56 true (k ∷ []) rooms xs) (one_cluster 56 n (omega arith) many most)
+    ∙ ap (λ (ys : List ℕ). entry ys 56 (Some k) ∷ []) (take_all n xs (le_refl n)) in
+    let none : nat_le (length hs) 0 ≡ false = lt-leb _ _ (omega (arith, len)) in
+    let start : at_end true (length hs) ≡ 100 = ap (at_end true) len in
+    ap (λ (es : List Entry). prepended (record { front = alone true; entries = es; cells = [] }) hs) one
+    ∙ cond-false {A = List Entry} _ _ _ none
+    ∙ ap (λ (j : ℕ). entry hs j None ∷ entry xs 56 (Some k) ∷ []) start
+
+lies : {p q : PoolView} {c : ℕ} (v : ChainView) (cs hs xs : List ℕ) → Adds p q c v → v.front.header ≡ true
+    → length cs ≡ count_by is_cluster (sent (length xs)) → AreFree p cs → v.entries ≡ sent_entries cs hs xs
+    → layout_entries v.entries ≡ entries_on cs (sent (length xs)) → length (string v) ≡ length xs + 28
+    → IsSendLaidOut p xs cs q c
+lies {p} {q} {c} v cs hs xs adds headed number free there is size =
     let shown : chain_of q c ≡ v = shown_adds adds in
     record {
       number = number;
       free = free;
       made = subst (λ (w : ChainView). Adds p q c w) (sym shown) adds;
       headed = ap (λ (w : ChainView). w.front.header) shown ∙ headed;
+      headers = hs;
+      entries = ap (λ (w : ChainView). w.entries) shown ∙ there;
       placed = ap (λ (w : ChainView). layout_entries w.entries) shown ∙ is;
       size = ap (λ (w : ChainView). length (string w)) shown ∙ size;
       held = omega (
@@ -104,7 +136,7 @@ lies {p} {q} {c} v cs n adds headed number free is size =
         length-map {B = flat.LayoutEntry} v.entries
             (λ (e : Entry). record { size = length e.bytes; cluster = e.cluster }),
         ap (λ (es : List flat.LayoutEntry). length es) is,
-        placed_count cs (sent n),
+        placed_count cs (sent (length xs)),
       );
     }
 
@@ -123,18 +155,18 @@ one_free p k within none = record {
     most false = omega arith
 
 -- in the mbuf itself
-pub stored_plain : {p q : PoolView} {c : ℕ} (hs xs : List ℕ) (start : ℕ) → length hs ≡ 28 → length xs ≤ 72
-    → Adds p q c (one_mbuf true (entry (hs ++ xs) start None) c) → IsStored p xs q c
+pub stored_plain : {p q : PoolView} {c : ℕ} (hs xs : List ℕ) → length hs ≡ 28 → length xs ≤ 72
+    → Adds p q c (one_mbuf true (entry (hs ++ xs) (100 - (length xs + 3) / 4 * 4) None) c) → IsStored p xs q c
 unfolding entries_on
-stored_plain {p} {q} {c} hs xs start len few adds =
-    let v : ChainView = one_mbuf true (entry (hs ++ xs) start None) c in
+stored_plain {p} {q} {c} hs xs len few adds =
+    let v : ChainView = one_mbuf true (entry (hs ++ xs) (100 - (length xs + 3) / 4 * 4) None) c in
     let rooms = small_rooms (length xs) few in
     let whole : string v ≡ hs ++ xs = append-nil (hs ++ xs) in
     let size : length (hs ++ xs) ≡ 28 + length xs = omega (arith, length-append hs xs, len) in
     record {
       clusters = [];
-      lies = lies v [] (length xs) adds refl (sym (ap (count_by is_cluster) rooms))
-          (record { exist = tt; free = tt; once = λ k. omega arith })
+      lies = lies v [] hs xs adds refl (sym (ap (count_by is_cluster) rooms))
+          (record { exist = tt; free = tt; once = λ k. omega arith }) (sym (small_entries hs xs len few))
           ((λ i. record { size = size i; cluster = None } ∷ []) ∙ sym (ap (entries_on []) rooms))
           (omega (arith, ap (λ (ys : List ℕ). length ys) whole, size));
       holds = data_of hs xs (string (chain_of q c)) len (ap string (shown_adds adds) ∙ whole);
@@ -145,25 +177,26 @@ pub plain_string : {p q : PoolView} {c : ℕ} (hs xs : List ℕ) (start : ℕ)
 plain_string hs xs start adds = ap string (shown_adds adds) ∙ append-nil (hs ++ xs)
 
 -- in a cluster, after an mbuf with the headers
-pub stored_cluster : {p q : PoolView} {c k : ℕ} (hs xs : List ℕ) (start : ℕ) (cells : List ℕ) → length hs ≡ 28
-    → 208 ≤ length xs → length xs ≤ 1992 → k < p.clusters → references p k ≡ 0
+pub stored_cluster : {p q : PoolView} {c k : ℕ} (hs xs cells : List ℕ) → length hs ≡ 28 → 208 ≤ length xs
+    → length xs ≤ 1992 → k < p.clusters → references p k ≡ 0
     → Adds p q c (record {
       front = alone true;
-      entries = entry hs start None ∷ entry xs 56 (Some k) ∷ [];
+      entries = entry hs 100 None ∷ entry xs 56 (Some k) ∷ [];
       cells = cells;
     }) → IsStored p xs q c
 unfolding entries_on
-stored_cluster {p} {q} {c} {k} hs xs start cells len many most within none adds =
+stored_cluster {p} {q} {c} {k} hs xs cells len many most within none adds =
     let v : ChainView = record {
       front = alone true;
-      entries = entry hs start None ∷ entry xs 56 (Some k) ∷ [];
+      entries = entry hs 100 None ∷ entry xs 56 (Some k) ∷ [];
       cells = cells;
     } in
     let rooms = large_rooms (length xs) many most in
     let whole : string v ≡ hs ++ xs = ap (λ (ys : List ℕ). hs ++ ys) (append-nil xs) in
     record {
       clusters = k ∷ [];
-      lies = lies v (k ∷ []) (length xs) adds refl (sym (ap (count_by is_cluster) rooms)) (one_free p k within none)
+      lies = lies v (k ∷ []) hs xs adds refl (sym (ap (count_by is_cluster) rooms)) (one_free p k within none)
+          (sym (large_entries hs xs k len many most))
           ((λ i. record { size = len i; cluster = None } ∷ record { size = length xs; cluster = Some k } ∷ [])
           ∙ sym (ap (entries_on (k ∷ [])) rooms))
           (omega (arith, ap (λ (ys : List ℕ). length ys) whole, length-append hs xs, len));

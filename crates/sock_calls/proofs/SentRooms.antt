@@ -116,7 +116,7 @@ user_none : user 0 ≡ Plain 0 ∷ []
 unfolding filled
 user_none = refl
 
-user_small : (n : ℕ) → n ≤ 72 → user n ≡ Plain n ∷ []
+pub user_small : (n : ℕ) → n ≤ 72 → user n ≡ Plain n ∷ []
 user_small zero h = user_none
 user_small (suc m) h =
     let n : ℕ = suc m in

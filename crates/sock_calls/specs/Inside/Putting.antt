@@ -1,18 +1,19 @@
 -- A send step by step: its packets, and the queues that hold them (this project's own).
-use Rattle.std.specs.Prelude.{◌≡◌, ◌≢◌, ℕ, ◌+◌, ◌≤◌, ◌%◌, ◌==◌, nat_lt, Bool, true, false, if◌then◌else◌, List, ◌++◌, length, take, drop, count_by}
-use Rattle.params.specs.declared.TheConstants.{MIN_MTU, LOOPBACK, IP_HEADER, IP_UDP_HEADERS, OUTPUT_QUEUE_PACKETS, IP_DEFAULT_TTL, PROTOCOL_UDP}
+use Rattle.std.specs.Prelude.{◌≡◌, ◌≢◌, ℕ, ◌+◌, ◌≤◌, ◌%◌, ◌==◌, nat_lt, Bool, true, false, if◌then◌else◌, List, [], ◌++◌, length, take, drop, count_by}
+use Rattle.params.specs.declared.TheConstants.{MIN_MTU, LOOPBACK, CLUSTER_LEADING_SPACE, IP_HEADER, IP_UDP_HEADERS, OUTPUT_QUEUE_PACKETS, IP_DEFAULT_TTL, PROTOCOL_UDP}
 use Rattle.flat_model.specs.Machine.Count.{counts_more}
-use Rattle.flat_model.specs.Amounts.Layout.{sent, entries_on, is_cluster}
+use Rattle.flat_model.specs.Amounts.Layout.{user, sent, entries_on, is_cluster}
 use Rattle.flat_model.specs.Machine.Send.{need_to, to_link, to_self}
 use Rattle.flat_model.specs.Machine.Sending as flat
 use Rattle.flat_model.specs.declared.address.Addr.{Addr}
 use Rattle.flat_model.specs.declared.config.Config.{Config}
 use Rattle.flat_model.specs.declared.counter.Counter.TheVariants.{IpLocalout, IpFragmented, OutDropped}
 use Rattle.flat_model.specs.declared.counters.Counters.{Counters}
-use Rattle.mbuf_chain.specs.Chain.{PoolView, Adds, chain_of, held_mbufs, string}
+use Rattle.mbuf_chain.specs.Chain.{Entry, PoolView, Adds, alone, chain_of, held_mbufs, string}
 use Rattle.mbuf_chain.specs.Owners.{Moves}
 use Rattle.mbuf_chain.specs.Train.{TrainView, IsHeld, numbers}
-use Rattle.chain_ops.specs.Stored.{AreFree}
+use Rattle.chain_ops.specs.Prepends.{prepended}
+use Rattle.chain_ops.specs.Stored.{AreFree, stored_first}
 use Rattle.chain_ops.specs.Weights.{layout_entries}
 use Rattle.ip_out.specs.Packets.{train_packets, BeginPlain}
 use Rattle.ip_out.specs.Queues.{IsOutputQueue}
@@ -63,27 +64,38 @@ head_as h = record {
   dst = h.to.ip;
 }
 
--- From p to q chain c was made, of n bytes after 28 for the headers, in the layout of a send of n bytes, with clusters
--- that were free.
-pub record IsSendLaidOut (p : PoolView) (n : ℕ) (clusters : List ℕ) (q : PoolView) (c : ℕ) : Type 0 where
-  pub number : length clusters ≡ count_by is_cluster (sent n)
+-- the mbufs of a send, and where its bytes begin in each: those of `from_user`, with the headers put in front as by
+-- `m_prepend`
+abbrev pub sent_entries : List ℕ → List ℕ → List ℕ → List Entry
+sent_entries clusters headers bytes = prepended (record {
+  front = alone true;
+  entries = stored_first CLUSTER_LEADING_SPACE true clusters (user (length bytes)) bytes;
+  cells = [];
+}) headers
+
+-- From p to q chain c was made, of bytes after 28 for the headers, in the layout of a send of these bytes, with
+-- clusters that were free.
+pub record IsSendLaidOut (p : PoolView) (bytes clusters : List ℕ) (q : PoolView) (c : ℕ) : Type 0 where
+  pub number : length clusters ≡ count_by is_cluster (sent (length bytes))
   pub free : AreFree p clusters
   pub made : Adds p q c (chain_of q c)
   pub headed : (chain_of q c).front.header ≡ true
-  pub placed : layout_entries (chain_of q c).entries ≡ entries_on clusters (sent n)
-  pub size : length (string (chain_of q c)) ≡ n + IP_UDP_HEADERS
-  pub held : held_mbufs q ≡ held_mbufs p + length (sent n)
+  pub headers : List ℕ
+  pub entries : (chain_of q c).entries ≡ sent_entries clusters headers bytes
+  pub placed : layout_entries (chain_of q c).entries ≡ entries_on clusters (sent (length bytes))
+  pub size : length (string (chain_of q c)) ≡ length bytes + IP_UDP_HEADERS
+  pub held : held_mbufs q ≡ held_mbufs p + length (sent (length bytes))
 
 -- its data are the bytes
 pub record IsStored (p : PoolView) (bytes : List ℕ) (q : PoolView) (c : ℕ) : Type 0 where
   pub clusters : List ℕ
-  pub lies : IsSendLaidOut p (length bytes) clusters q c
+  pub lies : IsSendLaidOut p bytes clusters q c
   pub holds : drop IP_UDP_HEADERS (string (chain_of q c)) ≡ bytes
 
 -- after 20 bytes it is the datagram
 pub record IsBuilt (p : PoolView) (x : flat.Sending) (q : PoolView) (c : ℕ) : Type 0 where
   pub clusters : List ℕ
-  pub lies : IsSendLaidOut p (length x.bytes) clusters q c
+  pub lies : IsSendLaidOut p x.bytes clusters q c
   pub datagram : drop IP_HEADER (string (chain_of q c)) ≡ flat.datagram x
 
 -- From p and o to q and u the packets of a send were made: those in the output queue, and those that come back.

@@ -64,7 +64,7 @@ made c = (
 
 pub returns-clause-stored : goal.returns-clause-stored
 returns-clause-stored c =
-    stored_cluster c.args.headers.now c.args.bytes.now 100 (made c).0 (omega arith) c.requires.many c.requires.most
+    stored_cluster c.args.headers.now c.args.bytes.now (made c).0 (omega arith) c.requires.many c.requires.most
     c.in-Ok.ensures.ok.1 c.in-Ok.ensures.ok.2 (made c).1
 
 pub returns-clause-string : goal.returns-clause-string

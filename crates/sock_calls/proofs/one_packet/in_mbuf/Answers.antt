@@ -1,4 +1,5 @@
-use Rattle.std.proofs.Common.{ℕ, true, ◌++◌, length, None, sym, ap, ◌∙◌, subst, arith}
+use Rattle.std.proofs.Common.{ℕ, ◌+◌, true, ◌++◌, length, None, sym, ap, ◌∙◌, subst, arith}
+use Rattle.std.specs.Prelude.{◌-◌, ◌*◌, ◌/◌}
 use Rattle.mbuf_chain.specs.Chain.{Adds, Entry, HasTrailingSpace, chain_of, entry_of, with_chain}
 use Rattle.mbuf_chain.specs.Steps.{one_mbuf, with_back, with_entry}
 use Rattle.mbuf_chain.proofs.Laws.Owners.{live_adds}
@@ -22,8 +23,9 @@ put_back-requires-clause-fits c =
     (sym (new_entry c.args.pool.now c.new_plain_with.new.self _ _ _ _ c.in-Ok.ensures.ok c.first-at.ensures.index))
     (omega (arith, c.requires.few))
 
-made : (c : goal.After-put_back) → (start : ℕ) × Adds c.args.pool.now c.put_back.new.self c.in-Ok.chain
-    (one_mbuf true (entry (c.args.headers.now ++ c.args.bytes.now) start None) c.in-Ok.chain)
+made : (c : goal.After-put_back) → Adds c.args.pool.now c.put_back.new.self c.in-Ok.chain
+    (one_mbuf true (entry (c.args.headers.now ++ c.args.bytes.now)
+    (100 - (length c.args.bytes.now + 3) / 4 * 4) None) c.in-Ok.chain)
 made c =
     let q = c.new_plain_with.new.self in
     let d : ℕ = c.in-Ok.chain in
@@ -31,10 +33,10 @@ made c =
     let is = new_entry c.args.pool.now q d i _ _ c.in-Ok.ensures.ok c.first-at.ensures.index in
     let put = c.put_back.ensures
     ∙ ap (λ (e : Entry). with_chain q d (with_entry (chain_of q d) i (with_back e c.args.bytes.now))) is in
-    (_, filled _ _ _ _ _ _ _ _ c.in-Ok.ensures.ok c.first-at.ensures.index put)
+    filled _ _ _ _ _ _ _ _ c.in-Ok.ensures.ok c.first-at.ensures.index put
 
 pub returns-clause-stored : goal.returns-clause-stored
-returns-clause-stored c = stored_plain c.args.headers.now c.args.bytes.now _ (omega arith) c.requires.few (made c).1
+returns-clause-stored c = stored_plain c.args.headers.now c.args.bytes.now (omega arith) c.requires.few (made c)
 
 pub returns-clause-string : goal.returns-clause-string
-returns-clause-string c = plain_string c.args.headers.now c.args.bytes.now _ (made c).1
+returns-clause-string c = plain_string c.args.headers.now c.args.bytes.now _ (made c)
