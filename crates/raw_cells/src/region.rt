@@ -1,13 +1,13 @@
 //! The region: mbufs, and clusters after them, in one block.
-ghost use Rattle.std.specs.Prelude.{◌≡◌, ◌+◌, ◌<◌, ◌≤◌, IfOk, length};
+ghost use Rattle.std.specs.Prelude.{◌≡◌, ◌+◌, ◌<◌, ◌≤◌, IfOk, length, take};
 ghost use Rattle.std.specs.Borrow.{sem};
-ghost use Rattle.raw_cells.specs.Cells.{zero_cells, cell_head, changed, IsChange, IsHead, IsCellPart, IsSized, SetsCellHead, read, cells_written, place};
+ghost use Rattle.raw_cells.specs.Cells.{zero_cells, cell_head, changed, IsChange, IsHead, IsCellPart, IsSized, SetsCellHead, head_size, read, cells_written, place};
 
 use crate::block::Block;
 use crate::head::{Change, Head};
 use crate::layout::{clear_packet, encode, head_len, link_number, put_data, put_u32, read_head};
 use crate::part::{Buffer, Part};
-use params::{MAX_CLUSTERS, MAX_MBUFS, MCLBYTES, MSIZE};
+use params::{MAX_CLUSTERS, MAX_MBUFS, MBUF_HEADER, MCLBYTES, MSIZE, PACKET_START};
 use std::alloc::{AllocError, Global};
 use std::marker::Model;
 
@@ -16,6 +16,22 @@ const MBUF_LEN: usize = MSIZE as usize;
 
 /// The size of a cluster in bytes.
 const CLUSTER_LEN: usize = MCLBYTES as usize;
+
+/// Copies the bytes of a head that belong to it.
+// Each length is a constant, so the compiler makes a few stores of each copy instead of a call.
+#[inline(always)]
+fn copy_head(buffer: &mut [u8], bytes: &[u8; 32], head: &Head)
+    requires sized { length buffer.old ≡ head_size head.now }
+    ensures { buffer.new ≡ take (head_size head.now) bytes.now }
+{
+    if head.cluster.is_some() {
+        buffer.copy_from_slice(bytes);
+    } else if head.packet.is_some() {
+        buffer.copy_from_slice(&bytes[..PACKET_START as usize]);
+    } else {
+        buffer.copy_from_slice(&bytes[..MBUF_HEADER as usize]);
+    }
+}
 
 /// One block of memory, cut into mbufs and, after them, clusters. It is freed with its owner.
 ///
@@ -87,9 +103,11 @@ impl Region {
     {
         let bytes = encode(&head);
         let len = head_len(&head);
-        self.block
-            .slice_mut(MBUF_LEN * index as usize, len)
-            .copy_from_slice(&bytes[..len]);
+        copy_head(
+            self.block.slice_mut(MBUF_LEN * index as usize, len),
+            &bytes,
+            &head,
+        );
     }
 
     /// Changes some fields of the head of mbuf `index`, which must be one of the region's. The rest of its head stays

@@ -21,17 +21,18 @@ slice_mut-requires c =
       c.head_len-len.ensures,
     )
 
-pub copy_from_slice-requires : goal.copy_from_slice-requires
-copy_from_slice-requires c =
+pub copy_head-requires : goal.copy_head-requires
+copy_head-requires c =
     let r = c.self.inside in let i = c.args.index in let n = c.head_len-len.result in
     let lt = subst (λ (v : Cells). i < length v.heads) (sym c.self.view_is) c.requires.index in
     let small = head_size_le c.args.head in
     let fits : 128 * i + n ≤ length r.block =
     omega (arith, c.self.invariant.0, lt, length-heads r.mbufs r.block, small, c.head_len-len.ensures) in
-    ap length c.slice_mut.ensures.value
-    ∙ length-take-le n (drop (128 * i) r.block) (omega (arith, length-drop (128 * i) r.block))
-    ∙ sym (length-take-le n c.encode-bytes.result
-    (omega (arith, small, c.head_len-len.ensures, c.encode-bytes.ensures.len)))
+    record {
+      sized = ap length c.slice_mut.ensures.value
+          ∙ length-take-le n (drop (128 * i) r.block) (omega (arith, length-drop (128 * i) r.block))
+          ∙ c.head_len-len.ensures;
+    }
 
 pub returns-clause-change : goal.returns-clause-change
 returns-clause-change c =
@@ -41,8 +42,8 @@ returns-clause-change c =
     let here : i < r.mbufs = omega (arith, lt, length-heads r.mbufs r.block) in
     let long : length enc ≡ 32 = c.encode-bytes.ensures.len in
     let b = take (head_size h) enc in
-    let is : take n c.copy_from_slice.new.self ≡ b =
-    ap (take n) c.copy_from_slice.ensures.after ∙ take-take n n enc (omega arith)
+    let is : take n c.copy_head.new.buffer ≡ b =
+    ap (take n) c.copy_head.ensures ∙ take-take n (head_size h) enc (omega (arith, c.head_len-len.ensures))
     ∙ ap (λ k. take k enc) c.head_len-len.ensures in (
       b,
       length-take-le (head_size h) enc (omega (arith, head_size_le h)),
