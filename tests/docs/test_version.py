@@ -15,7 +15,6 @@ PLACES = {
     "crates/bsdplay/src/main.rt": rf'\.version\("{NUMBER}"\)',
     "dist/tag.txt": rf"^bsdudp {NUMBER}$",
     "docs/c.md": r"find_package\(bsdudp (\d+\.\d+) ",
-    "docs/python.md": rf"bsdudp-{NUMBER}-py3",
     "python/bsdudp/__init__.py": rf'^__version__ = "{NUMBER}"$',
     "python/pyproject.toml": rf'^version = "{NUMBER}"$',
     "tools/editors/vscode/package.json": rf'^  "version": "{NUMBER}",$',

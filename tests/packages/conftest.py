@@ -9,6 +9,17 @@ from tests.made import core_for, module, page, portable_c  # noqa: F401 (fixture
 PARTS = {"page": ["rt", "wasm-opt"], "core_for": ["rt", "wasm-opt", "cc"], "portable_c": ["rt", "wasm-opt", "wasm2c"]}
 
 
+# The names by which dist/build and dist/deb leave them out.
+NAMES = {"page": "page", "core_for": "boards", "portable_c": "portable"}
+
+
+def left_out(*names):
+    """Returns the options that leave out those of these parts that can't be made here."""
+    lacking = [NAMES[it] for it, tools in PARTS.items() if any(map(needed.lacks, tools))]
+    lacking += ["ns3"] * bool(needed.lacks("ns-3 3.37") or needed.lacks("cmake"))
+    return [it for name in names if name in lacking for it in ("--without", name)]
+
+
 @pytest.fixture(scope="session")
 def all_made(bsdudp, bsdplay, core, request):
     """Makes all contents that can be made here."""

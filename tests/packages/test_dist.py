@@ -8,6 +8,8 @@ import subprocess
 import pytest
 
 from tests.cases import TOP
+from tests.packages.conftest import left_out
+from tools import built, crates
 
 pytestmark = [pytest.mark.slow, pytest.mark.xdist_group("dist")]
 BARE = {"PATH": "/usr/bin:/bin"}
@@ -26,7 +28,7 @@ def passed(*words, **how):
 @pytest.fixture(scope="session")
 def archive(all_made, once):
     def make(folder):
-        subprocess.run([TOP / "dist/build", folder], check=True)
+        subprocess.run([TOP / "dist/build", *left_out("page", "boards", "portable"), folder], check=True)
 
     (made,) = once("archive", make).glob("bsdudp-*.tar.gz")
     return made
@@ -52,8 +54,25 @@ def prefix(unpacked, once):
 
 
 def test_two_are_the_same(archive, tmp_path):
-    subprocess.run([TOP / "dist/build", tmp_path], check=True)
+    subprocess.run([TOP / "dist/build", *left_out("page", "boards", "portable"), tmp_path], check=True)
     assert (tmp_path / archive.name).read_bytes() == archive.read_bytes()
+
+
+def test_versions_agree(archive, unpacked):
+    """The archive and the wheel have the mark of an unreleased version, each in its form (PEP 440)."""
+    (wheel,) = (unpacked / "share/bsdudp").glob("*.whl")
+    version = built.package_version()
+    assert archive.name == f"bsdudp-{version}-linux-x86_64.tar.gz"
+    assert wheel.name.split("-")[1] == version.replace("~dev", ".dev0")
+
+
+def test_licences(unpacked):
+    """Each library of the toolchain in crates.txt is named with its licence, or that it has none."""
+    text = (unpacked / "share/doc/bsdudp/LICENSES-LINKED").read_text(encoding="utf-8")
+    named = {it for line in re.findall(r"(?m)^---- (.*)$", text) for it in line.split(", ")}
+    uses = crates.uses()
+    assert {it for used in uses.values() for it in used if it not in uses} <= named
+    assert "Permission is hereby granted" in text
 
 
 def test_sums(unpacked):
@@ -105,6 +124,17 @@ def test_c_library(prefix, tmp_path):
     flags = passed("pkg-config", "--cflags", "--libs", "bsdudp", env=environment).split()
     passed("cc", "-std=c99", "capi/examples/wire.c", *flags, "-o", tmp_path / "wire", env=environment)
     passed(tmp_path / "wire")
+
+
+def test_remove(unpacked, tmp_path):
+    """The command of the archive's README removes what `install` copied, and nothing else."""
+    (tmp_path / "share").mkdir()
+    (tmp_path / "share/mine").write_text("mine")
+    passed(unpacked / "install", tmp_path, env={**BARE, "HOME": str(tmp_path)})
+    readme = (unpacked / "README.md").read_text(encoding="utf-8")
+    command = re.search(r"(?m)^    (.*xargs.*)$", readme)[1].replace("~/.local", str(tmp_path))
+    passed("bash", "-euc", command)
+    assert [it for it in tmp_path.rglob("*") if not it.is_dir()] == [tmp_path / "share/mine"]
 
 
 @pytest.mark.needs("scapy")
