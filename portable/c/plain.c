@@ -1,4 +1,4 @@
-/* Replacements for three functions of the core, and for memmove, on a processor without vectors and with registers of
+/* Replacements for four functions of the core, and for memmove, on a processor without vectors and with registers of
    32 bits: they return the same by plain loops, in fewer instructions. Lengths are below 2 ^ 32 there. */
 #include <stddef.h>
 #include <stdint.h>

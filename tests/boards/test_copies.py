@@ -1,0 +1,47 @@
+"""portable/core replaces memmove by memcpy only where no copy can overlap: it refuses a core with a copy that it doesn't
+know."""
+import importlib.machinery
+import importlib.util
+
+import pytest
+
+from tests.cases import TOP
+from tools.llvm import Stop
+
+BITS = "core::ptr::copy_drop::copy_bits::<i8>"
+MOVE = "call void @llvm.memmove.p0.p0.i64(ptr %a1, ptr %a0, i64 {}, i1 false)"
+
+
+@pytest.fixture(scope="module")
+def core():
+    loader = importlib.machinery.SourceFileLoader("core", str(TOP / "portable/core"))
+    module = importlib.util.module_from_spec(importlib.util.spec_from_loader("core", loader))
+    loader.exec_module(module)
+    return module
+
+
+def function(name, *lines):
+    return f'define internal void @"{name}"(ptr noundef %a0, ptr noundef %a1) #0 {{\n' + "\n".join(lines) + "\n}\n"
+
+
+COPIES = function(BITS, MOVE.format("%r7"))
+VALUE = function("udp::header::read_header", MOVE.format("24"))
+SLICES = function("core::slots::Slots::copy_in::<i8>", f'call void @"{BITS}"(ptr %a0, ptr %a1)')
+
+
+def test_copies_of_values_and_between_borrows_are_memcpy(core):
+    text = core.copied(COPIES + VALUE + SLICES)
+    assert "memmove" not in text and text.count("call void @llvm.memcpy.") == 2
+
+
+@pytest.mark.parametrize(
+    "added",
+    [
+        function("std::slices::slice+T::copy_within::<i8>", MOVE.format("%r3")),
+        function("std::slices::slice+T::copy_within::<i8>", f'call void @"{BITS}"(ptr %a0, ptr %a1)'),
+    ],
+    ids=["a length that isn't known", "another caller"],
+)
+def test_a_copy_that_may_overlap_is_refused(core, added):
+    with pytest.raises(Stop, match="copy_within"):
+        core.copied(COPIES + VALUE + SLICES + added)
