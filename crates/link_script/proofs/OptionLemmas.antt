@@ -1,9 +1,9 @@
 -- From what crate clap found to what the words name.
-use Rattle.std.proofs.Common.{◌≡◌, ℕ, suc, ◌-◌, List, [], ◌∷◌, length, slice_get, map, Option, Some, None, option_map, refl, sym, subst, ap, ◌∙◌, arith}
+use Rattle.std.proofs.Common.{◌≡◌, ℕ, List, [], Option, Some, None, option_map, sym, subst, ap, ◌∙◌}
 use Rattle.std.specs.Prelude.{MatchOption}
 use Rattle.clap.specs.Words.{Row, first_of, subcommand_of, fault_of}
 use Rattle.flat_model.specs.declared.config.Config.{Config}
-use Rattle.link_script.specs.Options.{whole_app, Names, NamesSizes, NamesTask, AsksForTask}
+use Rattle.link_script.specs.Options.{whole_app, Names, NamesSizes, NamesTask, IsCommand}
 use Rattle.mbuf_pool.specs.declared.sizes.Sizes.{Sizes}
 use Rattle.link_script.specs.declared.options.Task.{Task}
 use Rattle.link_script.specs.declared.options.Task.TheVariants.{Run, Chain}
@@ -46,7 +46,7 @@ pub Gives-names : (d : Config) (words : List (List ℕ)) (name : List ℕ) (f : 
     → fault_of whole_app words ≡ [] → subcommand_of whole_app words ≡ Some (name, rows)
     → ((id : List ℕ) → f id ≡ first_of id rows)
     → MatchOption r ((t : Task) → NamesTask d name f t → ⊥) (NamesTask d name f)
-    → MatchOption r ((t : Task) → AsksForTask d words t → ⊥) (AsksForTask d words)
+    → MatchOption r ((t : Task) → IsCommand d words t → ⊥) (IsCommand d words)
 Gives-names d words name f rows (Some t) taken found same names = record {
   taken = taken;
   name = name;
@@ -61,18 +61,3 @@ Gives-names d words name f rows None taken found same names = λ t h.
     let called : h.name ≡ name = cc some_name in
     names t (subst (λ (n : List ℕ). NamesTask d n f t) called
     (NamesTask-same d h.name (λ id. first_of id h.rows) f t (λ id. rw one (sym (same id))) h.names))
-
--- ---- the last word
-
-last-more : {A : Type 0} (x y : A) (xs : List A)
-    → slice_get (x ∷ y ∷ xs) (length (x ∷ y ∷ xs) - 1) ≡ slice_get (y ∷ xs) (length (y ∷ xs) - 1)
-last-more x y xs =
-    let place : length (x ∷ y ∷ xs) - 1 ≡ suc (length (y ∷ xs) - 1) = omega arith in
-    rw place refl
-
-pub last-map : {A B : Type 0} (f : A → B) (xs : List A)
-    → slice_get (map f xs) (length (map f xs) - 1) ≡ option_map f (slice_get xs (length xs - 1))
-last-map f [] = refl
-last-map f (x ∷ []) = refl
-last-map f (x ∷ y ∷ xs) =
-    last-more (f x) (f y) (map f xs) ∙ last-map f (y ∷ xs) ∙ ap (option_map f) (sym (last-more x y xs))

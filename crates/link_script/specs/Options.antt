@@ -1,7 +1,7 @@
 -- The words of the command line (this project's own). The crate clap defines how they are divided into options and
 -- values: `fault_of` returns the faults that it finds in words, and `subcommand_of` the results for the words after a
 -- subcommand.
-use Rattle.std.specs.Prelude.{◌≡◌, ◌≢◌, ◌⊎◌, ℕ, ◌-◌, true, List, [], length, slice_get, codes, Option, Some, None, Result, Ok, Err}
+use Rattle.std.specs.Prelude.{◌≡◌, ◌⊎◌, ℕ, true, List, [], codes, Option, Some, None, Result, Ok, Err}
 use Rattle.clap.specs.Words.{App, Rule, Row, new_app, new_rule, with_rule, with_subcommand, first_of, subcommand_of, fault_of}
 use Rattle.flat_model.specs.Scripts.Grammar.{IsNumber, IsAddress}
 use Rattle.flat_model.specs.declared.config.Config.{Config}
@@ -78,17 +78,12 @@ NamesTask defaults name text (Run c) = (name ≡ codes "run") × Names defaults 
 NamesTask defaults name text (Chain z) = (name ≡ codes "chain") × NamesSizes defaults text z
 
 -- The words, the program's name first, are a subcommand with options that requests this task.
-pub record AsksForTask (defaults : Config) (words : List (List ℕ)) (task : Task) : Type 0 where
+pub record IsCommand (defaults : Config) (words : List (List ℕ)) (task : Task) : Type 0 where
   pub taken : fault_of whole_app words ≡ []
   pub name : List ℕ
   pub rows : List Row
   pub found : subcommand_of whole_app words ≡ Some (name, rows)
   pub names : NamesTask defaults name (λ id. first_of id rows) task
-
--- The same for the words of a command line, which may not end with `--`.
-pub record IsCommand (defaults : Config) (words : List (List ℕ)) (task : Task) : Type 0 where
-  pub gives : AsksForTask defaults words task
-  pub ended : slice_get words (length words - 1) ≢ Some (codes "--")
 
 -- The words, if they could be read, request this task. `texts` are their bytes.
 abbrev pub IsAskedBy : {W E : Type 0} → (W → List (List ℕ)) → Config → Result W E → Task → Type 0

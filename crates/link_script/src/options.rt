@@ -1,12 +1,12 @@
 //! Parsing the words of the command line.
-ghost use Rattle.std.specs.Prelude.{◌≡◌, ◌≢◌, ◌⊎◌, ◌↔◌, ◌-◌, ℕ, [], length, slice_get, Some, codes, false, map, option_map, IsTrue, MatchOption, MatchResult, IfOk};
+ghost use Rattle.std.specs.Prelude.{◌≡◌, ◌≢◌, ◌⊎◌, ℕ, [], codes, false, map, option_map, MatchOption, MatchResult, IfOk};
 ghost use Rattle.std.specs.String.{string_bytes};
 ghost use Rattle.clap.specs.Words.{app_of, rule_of, found_of, first_value, fault_of, kind_of};
 ghost use Rattle.clap.specs.declared.error.kind.ErrorKind.TheVariants.{OutOfMemory};
 ghost use Rattle.flat_model.specs.declared.config.Config.{Config};
 ghost use Rattle.mbuf_pool.specs.declared.sizes.Sizes.{Sizes};
 ghost use Rattle.link_script.specs.declared.options.Task.{Task};
-ghost use Rattle.link_script.specs.Options.{option_rule, whole_app, HasNumber, HasAddress, Names, NamesSizes, NamesTask, AsksForTask, IsCommand};
+ghost use Rattle.link_script.specs.Options.{option_rule, whole_app, HasNumber, HasAddress, Names, NamesSizes, NamesTask, IsCommand};
 ghost use Rattle.link_script.specs.Program.{defaults, IsWordsFault};
 
 use crate::command_line::{DEFAULTS, Failure};
@@ -130,8 +130,8 @@ fn command<'a>(alloc: Global) -> Result<Command<'a>, AllocError>
 /// Returns the task of the words, if they are a command, as parsed by the crate clap.
 fn named(alloc: Global, words: &[String]) -> Result<Option<Task>, ClapError>
     ensures { MatchResult result
-        (λ r. MatchOption r ((t : Task) → AsksForTask defaults (map string_bytes words.now) t → ⊥)
-        (AsksForTask defaults (map string_bytes words.now)))
+        (λ r. MatchOption r ((t : Task) → IsCommand defaults (map string_bytes words.now) t → ⊥)
+        (IsCommand defaults (map string_bytes words.now)))
         (λ e. (kind_of e ≡ OutOfMemory) ⊎ (fault_of whole_app (map string_bytes words.now) ≢ [])) }
 {
     let matches = command(alloc)?.try_get_matches_from(words)?;
@@ -141,30 +141,16 @@ fn named(alloc: Global, words: &[String]) -> Result<Option<Task>, ClapError>
     }
 }
 
-/// Returns whether the last word is `--`.
-fn ends_in_dashes(words: &[String]) -> bool
-    ensures { IsTrue result ↔ (slice_get (map string_bytes words.now)
-        (length (map string_bytes words.now) - 1) ≡ Some (codes "--")) }
-{
-    match words.last() {
-        Some(last) => last.as_str() == "--",
-        None => false,
-    }
-}
-
 /// Parses the words, the first of which is the program's name.
 ///
 /// # Errors
 ///
 /// `Usage` if the words aren't a subcommand with its options, each given at most once, or if a number is malformed or
-/// out of range; no command may end with `--`. `Memory` if the host refuses memory.
+/// out of range. `Memory` if the host refuses memory.
 pub(crate) fn read_words(alloc: Global, words: &[String]) -> Result<Task, Failure>
     ensures { MatchResult result (IsCommand defaults (map string_bytes words.now))
         (IsWordsFault (IsCommand defaults (map string_bytes words.now))) }
 {
-    if ends_in_dashes(words) {
-        return Err(Failure::Usage);
-    }
     match named(alloc, words) {
         Ok(Some(task)) => Ok(task),
         Ok(None) => Err(Failure::Usage),

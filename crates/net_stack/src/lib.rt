@@ -12,6 +12,7 @@ mod stack;
 mod traffic;
 mod transmit;
 
+pub use flat_model::{Config, Counters, Mbstat};
 pub use ip_reass::{HeldRange, UnfinishedDatagram};
 pub use laws::{calls_are_run, stacks_on_a_wire};
 pub use questions::Holder;

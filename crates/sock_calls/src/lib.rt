@@ -19,6 +19,7 @@ mod send;
 mod sockets;
 mod taking;
 
+pub use flat_model::Errno;
 pub use net::Net;
 pub use questions::{NextDatagram, SocketName};
 pub use sockets::Socks;
