@@ -32,20 +32,21 @@ function cellOf(field) {
     h("span", { class: "cell-name" }, field.name), h("span", { class: "cell-value" }, field.value, marks));
 }
 
-// The bytes, 16 in a row, each with its field.
-function dumpOf(packet) {
-  const most = packet.length <= 128 ? 128 : 96, cells = [];
-  packet.bytes.subarray(0, most).forEach((byte, at) => {
-    if (at % 16 === 0) cells.push(h("span", { class: "at" }, String(at)));
-    const field = packet.fields.find(it => at >= it.at && at < it.at + it.size);
-    const title = `${field.name}${field.value && `: ${field.value}`}`;
-    cells.push(h("span", { class: `byte kind-${field.kind}`, title, "data-of": field.at }, hexOf([byte])));
+// The bytes, 16 in a row or 8 on a phone, each with its field if the fields are given.
+function dumpOf(bytes, fields) {
+  const most = bytes.length <= 128 ? 128 : 96, cells = [];
+  bytes.subarray(0, most).forEach((byte, at) => {
+    if (at % 8 === 0) cells.push(h("span", { class: at % 16 ? "at half" : "at" }, String(at)));
+    cells.push(fields ? byteOf(byte, fields.find(it => at >= it.at && at < it.at + it.size))
+      : h("span", { class: "byte kind-other" }, hexOf([byte])));
   });
-  const rest = packet.length > most && h("span", { class: "rest" }, `and ${plural(packet.length - most, "more byte")}`);
+  const rest = bytes.length > most && h("span", { class: "rest" }, `and ${plural(bytes.length - most, "more byte")}`);
   return h("div",
-    { class: "dump", role: "img", "aria-label": `its first bytes: ${hexOf(packet.bytes.subarray(0, 64))}` }, cells,
-    rest);
+    { class: "dump", role: "img", "aria-label": `its first bytes: ${hexOf(bytes.subarray(0, 64))}` }, cells, rest);
 }
+
+const byteOf = (byte, { name, value, kind, at }) =>
+  h("span", { class: `byte kind-${kind}`, title: `${name}${value && `: ${value}`}`, "data-of": at }, hexOf([byte]));
 
 // The header as RFC 791 draws it, 32 bits in a row, and the bytes below it. The field under the pointer is highlighted
 // in both.
@@ -54,7 +55,7 @@ function packetView(packet, title) {
     || scroller("the header, 32 bits in a row", h("ul", { class: "rfc" }, packet.fields.map(cellOf)));
   const it = h("div", { class: "packet" },
     h("h3", {}, title, " ", h("span", { class: "faint" }, plural(packet.length, "byte"))),
-    header === true ? null : header, scroller("the bytes of the packet", dumpOf(packet)));
+    header === true ? null : header, scroller("the bytes of the packet", dumpOf(packet.bytes, packet.fields)));
   it.addEventListener("mouseover", event => {
     const found = event.target.closest("[data-at], [data-of]");
     it.querySelectorAll(".lit").forEach(lit => lit.classList.remove("lit"));

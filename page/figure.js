@@ -3,9 +3,9 @@
 // chains of a script of chains. `MbufFigure.mount(host, { after, before, caption, all })` draws the state after a line,
 // with what the line changed marked and the state before it at the side, and draws again if the space changes.
 //
-// A state has `mbufs`, each with its number, its fields and its first bytes; `clusters`, with the reference count of
-// each; and their holders: `sockets`, `output` and `unfinished`, or `chains`. Links are numbers of mbufs, and null is
-// no link (`state` of engine.js, `chainState` of chains.js).
+// A state has `mbufs`, each with its number, its fields and its first bytes, or with all that are `known`; `clusters`,
+// with the reference count of each; and their holders: `sockets`, `output` and `unfinished`, or `chains`. Links are
+// numbers of mbufs, and null is no link (`state` of engine.js, `chainState` of chains.js).
 const MbufFigure = (() => {
   const MSIZE = 128, HEADER = 20, PKTHDR = 28, EXT = 32, MCLBYTES = 2048;
   const TYPES = { 1: "MT_DATA" };
@@ -54,8 +54,11 @@ const MbufFigure = (() => {
       ...(it.cluster === null ? [] : [[28, "m_ext.ext_buf", `cluster ${it.cluster}`]])];
   }
 
-  // Some bytes as a text, or the first ones as digits.
+  // Some bytes as runs or as a text, or the first ones as digits.
+  const WIDEST = 22;
   function readable(bytes, all) {
+    const runs = runsOf(bytes, WIDEST, all > bytes.length);
+    if (runs) return runs;
     const some = bytes.slice(0, 7), more = all > some.length ? " …" : "";
     if (some.every(byte => byte >= 32 && byte < 127)) return `“${String.fromCharCode(...some)}”${more}`;
     return some.map(byte => byte.toString(16).padStart(2, "0")).join(" ") + more;
@@ -63,7 +66,8 @@ const MbufFigure = (() => {
 
   // The parts of an mbuf's bytes in this kind of train: bytes of the stack ("mine"), and data.
   function partsOf(it, kind, isFirst) {
-    const b = bytesIn(it.bytes), parts = [], offset = kind === "if_snd" ? 8 * (u16(b, 6) & 8191) : it.rcvif >> 1;
+    const b = bytesIn(it.known || it.bytes), parts = [];
+    const offset = kind === "if_snd" ? 8 * (u16(b, 6) & 8191) : it.rcvif >> 1;
     let used = 0;
     const put = (len, what, says) => {
       const said = plural(len, "byte") + (what && `: ${what}`), short = says.replace(/, /g, ",");

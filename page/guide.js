@@ -1,25 +1,5 @@
 "use strict";
-// The guide through the page: the lessons in order, the questions before a reply, the exercises, and the data that is
-// kept in the browser.
-
-// ---- data kept in this browser
-
-const KEPT = "bsdudp.";
-const keep = (name, value) => {
-  try {
-    if (value === null) localStorage.removeItem(KEPT + name);
-    else localStorage.setItem(KEPT + name, JSON.stringify(value));
-  } catch (fault) {
-    // this browser stores nothing
-  }
-};
-const kept = name => {
-  try {
-    return JSON.parse(localStorage.getItem(KEPT + name));
-  } catch (fault) {
-    return null;
-  }
-};
+// The guide through the page: the lessons in order, the questions before a reply, and the exercises.
 
 // ---- one list of all scripts
 
@@ -31,14 +11,18 @@ const LISTS = { lessons: allOf("lessons").sort((a, b) => (a.name < b.name ? -1 :
 const scriptNamed = (mode, name) =>
   Object.values(LISTS).flat().find(it => it.mode === mode && it.name === name);
 
+// Your scripts are first in the list. The one that is open is in it even before it's kept.
 function showScripts() {
   const option = ({ mode, name, title }) => h("option", { value: `${mode}/${name}` }, title);
+  const mine = [...new Set([...ownNames(), ...(page.mine ? [page.mine] : [])])];
+  const yours = [...mine.map(name => [name, name]), ["", "a new script"]]
+    .map(([name, title]) => ({ mode: "own", name, title }));
   const group = ([label, all]) => h("optgroup", { label }, all.map(option));
-  const groups = [["Lessons", LISTS.lessons], ["Exercises", LISTS.exercises],
+  const groups = [["Yours", yours], ["Lessons", LISTS.lessons], ["Exercises", LISTS.exercises],
     ["Examples: the stack", LISTS.examples.filter(it => it.mode === "run")],
     ["Examples: mbuf chains", LISTS.examples.filter(it => it.mode === "chain")],
     ["Examples: on a wire", LISTS.examples.filter(it => it.mode === "wire")]];
-  byId("choice").replaceChildren(h("option", { value: "" }, "your own script"), ...groups.map(group));
+  byId("choice").replaceChildren(...groups.map(group));
   byId("how-many").textContent = String(LISTS.lessons.length);
 }
 
@@ -51,11 +35,13 @@ function following() {
 function showTitle() {
   const { known } = page, next = following();
   const kind = { lessons: "Lesson", exercises: "Exercise", examples: "Example:" };
-  byId("head-script").textContent = known ? `${kind[known.kind]} ${known.title}` : "Your own script";
+  byId("head-script").textContent = known ? `${kind[known.kind]} ${known.title}` : page.mine;
+  byId("forget").hidden = Boolean(known);
   byId("next-lesson").hidden = !next;
   byId("next-lesson").textContent = !known || known.kind === "examples" ? "First lesson"
     : known.kind === "lessons" ? "Next lesson" : "Next exercise";
-  byId("choice").value = known ? `${known.mode}/${known.name}` : "";
+  showScripts();
+  byId("choice").value = known ? `${known.mode}/${known.name}` : `own/${page.mine}`;
 }
 
 function openNext() {
@@ -94,27 +80,38 @@ function answered(i, guess) {
   byId("forth").focus();
 }
 
+// The line that a question is about. In an exercise the bytes of its packet are below it.
+function askedHead(step) {
+  const [, front, digits] = /^(.*\b(?:rx|frame)) ([0-9a-f]{16,})$/.exec(step.line) || [];
+  if (!digits || !isExercise()) return h("h3", {}, h("span", {}, askedLine(step, 2000)));
+  const bytes = bytesOf(digits);
+  return [h("h3", {}, h("span", {}, h("code", {}, front), " ", plural(bytes.length, "byte"))),
+    scroller("the bytes of the packet", dumpOf(bytes))];
+}
+
 // A question with its answers, or with a field.
 function questionView(step, i, question) {
   const form = h("form", { class: "predict" });
   const choices = question.answers && question.answers.map((answer, k) =>
     h("label", { class: "option" }, h("input", { type: "radio", name: "guess", value: String(k) }),
-      h("span", {}, answer.text)));
+      h("kbd", { class: "by-key", "aria-hidden": "true" }, String(k + 1)), h("span", {}, answer.text)));
+  const hint = h("p", { class: "verdict wait", role: "alert", hidden: true },
+    choices ? "Choose an answer first." : "First write the reply that you expect.");
   const input = h("input", { name: "guess", autocomplete: "off", spellcheck: "false" });
   const field = !choices && h("label", {}, "the reply, for example ", h("code", {}, "ok"), " or ",
     h("code", {}, "dropped wrong header checksum"), input);
   form.append(h("fieldset", {}, h("legend", {}, question.text), choices || field,
     h("p", { class: "answers" }, h("button", { type: "submit", class: "main" }, "Check"),
-      h("button", { type: "button", onclick: () => answered(i, null) }, "Show me"))));
+      h("button", { type: "button", onclick: () => answered(i, null) }, "Show me")), hint));
   form.addEventListener("submit", event => {
     event.preventDefault();
-    const guess = new FormData(form).get("guess");
-    if (guess === null || guess === "") return;
-    if (choices) answered(i, question.answers[+guess]);
+    const guess = new FormData(form).get("guess") || "";
+    hint.hidden = Boolean(guess.trim());
+    if (!hint.hidden) form.querySelector("input").focus();
+    else if (choices) answered(i, question.answers[+guess]);
     else expectHere(i, guess);
   });
-  return h("section", { class: "panel lead" },
-    h("h3", {}, h("span", {}, askedLine(step))),
+  return h("section", { class: "panel lead" }, askedHead(step),
     isExercise() && page.noteOf(step) && h("p", { class: "note" }, page.noteOf(step)), form);
 }
 
@@ -125,7 +122,7 @@ function hiddenView(step) {
     select(asking);
     byId("look").querySelector(".predict input").focus();
   };
-  return h("section", { class: "panel lead" }, h("h3", {}, h("span", {}, askedLine(step))),
+  return h("section", { class: "panel lead" }, askedHead(step),
     h("p", { class: "note" }, `Line ${place} asks a question. What this line did is shown after you answer it.`),
     h("p", { class: "answers" },
       h("button", { type: "button", class: "main", onclick: answer }, "Go to the question"),
@@ -165,9 +162,7 @@ function withoutReply(text) {
 function expectHere(i, guess) {
   const all = page.notes.all, place = page.notes.places[i];
   const lines = all.map((line, k) => (k === place ? `${partsOf(line).asked} => ${guess.trim()}` : line));
-  byId("script").value = lines.join("\n") + "\n";
-  replay(i);
-  keepText();
+  rewrite(lines, i);
   byId("forth").focus();
 }
 
@@ -200,9 +195,7 @@ function askView({ place, line, key, text, answer }, k) {
 // question.
 function answerAsk(place, text, answer, k) {
   const line = `#? ${text} => ${answer.trim() || "?"}`;
-  byId("script").value = page.notes.all.map((it, i) => (i === place ? line : it)).join("\n") + "\n";
-  replay(page.at);
-  keepText();
+  rewrite(page.notes.all.map((it, i) => (i === place ? line : it)), page.at);
   const mark = byId(`ask-${k}`).closest(".ask").querySelector(".verdict"), next = byId(`ask-${k + 1}`);
   byId("said").textContent = mark ? mark.textContent : "No answer.";
   (mark && mark.matches(".yes") && next ? next : byId(`ask-${k}`)).focus();
@@ -241,11 +234,7 @@ function mendView({ number, why }) {
   const mend = () => {
     const place = page.notes.places[number - 1];
     const lines = page.notes.all.map((it, i) => (i === place ? it.replace(word, () => meant) : it));
-    byId("script").value = lines.join("\n") + "\n";
-    page.known = isExercise() ? page.known : null;
-    showTitle();
-    replay(page.at);
-    keepText();
+    rewrite(lines, page.at);
     byId("forth").focus();
   };
   return h("p", { class: "answers mend" },
@@ -264,7 +253,7 @@ function showScore() {
     + `${page.steps.filter(isUnsolved).length} lines have no prediction.`;
   const graded = isExercise() ? `${gradeOf()} ` : "";
   byId("score").replaceChildren(said, " ", graded, isExercise() && page.text !== unsolved(page.known.text)
-    ? h("button", { type: "button", onclick: anew }, "Begin again") : "");
+    ? h("button", { type: "button", onclick: askAnew }, "Begin again") : "");
 }
 
 function anew() {
@@ -278,7 +267,7 @@ async function openFile(file) {
   const bytes = await unpacked(file);
   const isText = /\.txt$/i.test(file.name) || (file.type === "text/plain" && !/cap/i.test(file.name));
   if (isText) {
-    openText(file.name.replace(/\.txt$/i, ""), new TextDecoder().decode(bytes).replace(/^\ufeff/, ""));
+    await openText(file.name.replace(/\.txt$/i, ""), new TextDecoder().decode(bytes).replace(/^\ufeff/, ""));
     return;
   }
   const { fault, records } = page.engine.records(bytes), script = captureScript(page.engine, records);
@@ -292,14 +281,18 @@ async function openFile(file) {
   const first = taken < ours ? ` The script has the first ${taken} of these; bsdplay why reads all.` : "";
   const read = `${plural(all, "record")}, ${plural(ip, "IPv4 packet")}, ${ours} for ${script.address}`;
   const head = `# ${name}: ${read}.${first}${ended}\n`;
-  open("run", { text: head + script.text, place: script.place });
+  openBeside("run", { text: head + script.text, mine: name, place: script.place });
   if (fault) byId("trouble").textContent = `${told}. The records before it are shown.`;
 }
 
-// Opens a script. A saved exercise is opened as that exercise.
-function openText(name, text) {
-  const exercise = LISTS.exercises.find(it => it.name === name);
-  if (!exercise) return open(page.mode, { text, options: page.options });
+// Opens a script. A saved exercise is opened as that exercise; if it was begun here too, the page asks.
+async function openText(name, text) {
+  const exercise = LISTS.exercises.find(it => it.name === name), begun = exercise && kept(`text.${name}`);
+  if (!exercise) return openBeside(page.mode, { text, mine: name, options: page.options });
+  const isOther = begun && begun !== text;
+  if (isOther && !await ask("Replace the replies that you wrote here with those of the file?", "Replace")) {
+    return openNamed(exercise);
+  }
   keep(`text.${name}`, text);
   return openNamed(exercise);
 }

@@ -1,11 +1,11 @@
 "use strict";
 // The right column: the selected line, and the machine after it.
 
-const SIGNS = { in: "⇢", out: "⇠", send: "↗", read: "↙", call: "•", tick: "◔", ask: "?", wire: "⇄", bad: "✗" };
+const SIGNS = { in: "⇢", out: "⇠", send: "↗", read: "↙", call: "•", tick: "◔", ask: "?", wire: "⇄", bad: "✗",
+  card: "!" };
 const signOf = step => {
-  const isBad = !step.isOk || step.drops.length > 0;
-  return h("span", { class: `sign sign-${isBad ? "bad" : step.kind}`, "aria-hidden": "true" },
-    SIGNS[isBad ? "bad" : step.kind]);
+  const kind = isLeftToCard(step) ? "card" : !step.isOk || step.drops.length > 0 ? "bad" : step.kind;
+  return h("span", { class: `sign sign-${kind}`, "aria-hidden": "true" }, SIGNS[kind]);
 };
 const cut = (text, most) => (text.length > most ? text.slice(0, most) + "…" : text);
 const verdict = (kind, ...children) => h("p", { class: `verdict ${kind}` }, children);
@@ -86,16 +86,21 @@ function verdictsOf(step, before, now) {
   if (step.packet && step.kind === "in" && !grown.length && !step.drops.some(it => ENDS.has(it.name))) {
     all.push(verdict("wait", step.packet.isFragment ? "Kept: the datagram isn't whole yet." : "Accepted."));
   }
-  for (const it of step.drops) {
+  if (isLeftToCard(step)) all.push(cardVerdict(step));
+  else for (const it of step.drops) {
     const cause = causeIn(step, it.name), { rule } = CAUSES.find(known => known.text === cause) || {};
     const many = it.by > 1 ? `${it.by} dropped` : "Dropped";
     all.push(verdict("no", h("b", {}, many), `: ${cause} (`, h("code", {}, it.name), `)${bothSums(step, it.name)}.`,
       rule && h("span", { class: "rule" }, `The rule: ${rule}.`), GIVES_UP.has(it.name) && givenUp(step, before, now)));
   }
   if (step.data) all.push(verdict("yes", "Read: ",
-    h("code", {}, step.data.length ? readable(step.data, 60) : "no bytes")));
+    h("code", {}, step.data.length ? runsOf(step.data, 60) || readable(step.data, 60) : "no bytes")));
   return all;
 }
+
+const cardVerdict = step => verdict("wait", h("b", {}, "Left to the card"),
+  ": the UDP checksum has only the sum of the pseudo header, so the stack drops the datagram (",
+  h("code", {}, "udp.badsum"), `)${bothSums(step, "udp.badsum")}.`, h("span", { class: "rule" }, CARD_RULE));
 
 // Counters of unfinished datagrams that were dropped.
 const GIVES_UP = new Set(["ip.fragtimeout", "ip.reclaimed"]);
@@ -157,10 +162,12 @@ function checksOf(step) {
   const all = CHECKS.filter(([name]) => isShown(name)),
     last = failed ? all.findIndex(([name]) => name === failed) : all.length;
   return h("ol", { class: "checks" }, all.map(([name, what], i) => {
-    const [kind, mark, told] = i < last ? ["pass", "✓", "passed: "] : i === last ? ["fail", "✗", "failed: "]
+    const isCard = i === last && isLeftToCard(step);
+    const [kind, mark, told] = i < last ? ["pass", "✓", "passed: "] : isCard ? ["card", "!", "left to the card: "]
+      : i === last ? ["fail", "✗", "failed: "]
       : ["not", "·", "not reached: "];
     return h("li", { class: kind }, h("span", { "aria-hidden": "true" }, mark), h("span", { class: "unseen" }, told),
-      what, kind === "fail" && [h("code", {}, name.split(" ")[0]), bothSums(step, name).slice(1)]);
+      what, i === last && [h("code", {}, name.split(" ")[0]), bothSums(step, name).slice(1)]);
   }));
 }
 
@@ -178,7 +185,8 @@ function socketView(socket, before) {
     fresh = socket.queue.length - (old ? old.queue.length : 0);
   const about = [socket.local ? `bound to ${socket.local}` : "has no port", socket.peer && `peer ${socket.peer}`,
     ...socket.options];
-  const tell = it => [h("small", {}, it.from), h("code", {}, it.data.length ? readable(it.data, 10) : "no bytes"),
+  const tell = it => [h("small", {}, it.from),
+    h("code", {}, it.data.length ? runsOf(it.data, 24) || readable(it.data, 10) : "no bytes"),
     h("small", {}, `${plural(it.data.length, "byte")}, ${buffersOf(it)}`)];
   return h("div", { class: "holder" }, h("b", {}, `socket ${socket.fd}`), " ",
     h("span", { class: "faint" }, about.filter(Boolean).join(", ")),

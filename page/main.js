@@ -5,11 +5,13 @@ const byId = id => document.getElementById(id);
 
 const page = {
   mode: "run",
+  // the lesson, exercise or example that is open, or the name of a script of yours
+  known: null,
+  mine: null,
   // the sizes of a pool of chains, or the settings of a machine
   options: { ...DEFAULTS },
   steps: [],
   at: 0,
-  known: null,
   guesses: new Map(),
   firstQuestion: null,
   drawsAll: false,
@@ -65,7 +67,8 @@ const PLAYS = {
 // ---- display
 
 const badgesOf = step => step.changed.map(({ host, name, by, isLost }) =>
-  h("span", { class: DROPS.has(name) || isLost ? "badge drop" : "badge" }, `${host ? `${host} ` : ""}+${by} ${name}`));
+  h("span", { class: !DROPS.has(name) && !isLost ? "badge" : isLeftToCard(step) ? "badge card" : "badge drop" },
+    `${host ? `${host} ` : ""}+${by} ${name}`));
 
 // Whether the expected reply of a line was met.
 const markOf = step => isMetShown(step) && (step.isMet
@@ -79,22 +82,38 @@ function rowOf(step, i) {
   const change = step.pool.used - step.before.used;
   const delta = change ? `${change > 0 ? "+" : "−"}${plural(Math.abs(change), "mbuf")}` : "";
   const told = [note && h("span", { class: "row-note" }, note),
-    h("code", {}, step.kind === "bad" ? cut(step.line, 24) || "an empty line" : step.verb), " ", step.tells,
+    h("span", { class: "of-screen" }, h("code", {}, step.kind === "bad" ? cut(step.line, 24) || "an empty line"
+      : step.verb), " ", step.tells), h("code", { class: "of-print" }, groupedDigits(cut(step.line, 400))),
     h("span", { class: "after" },
       h("code", { class: step.isOk ? "answer" : "answer no" }, step.kind === "bad" ? step.says || step.reply
-        : cut(step.says || step.reply, step.kind === "ask" ? 60 : 44)),
+        : briefReply(step, step.kind === "ask" ? 60 : 44)),
       badgesOf(step), markOf(step), h("span", { class: "delta" }, delta))];
   const alone = [isExercise() && note && h("span", { class: "row-note" }, note), askedLine(step),
     h("span", { class: "after" }, h("span", { class: "answer" }, isAsked ? "a question" : "hidden"))];
-  return h("li", {}, h("button", { class: "row", type: "button", onclick: () => select(i) },
+  return h("li", {}, h("button", { class: "row", type: "button", onclick: () => chooseRow(i) },
     h("span", { class: "number" }, String(page.notes.places[i] + 1)),
     isHidden ? h("span", { class: "sign", "aria-hidden": "true" }, "?") : signOf(step),
     h("span", { class: "what" }, isHidden ? alone : told)));
 }
 
-// A line in a question: a packet of many digits is shown in words.
-const askedLine = step => (step.kind === "in" && step.packet && step.line.length > 60
-  ? [h("code", {}, step.verb), " ", step.packet.tells] : h("code", {}, cut(step.line, 160)));
+// A reply in a row. A datagram whose bytes repeat is written as runs.
+function briefReply(step, most) {
+  const said = step.says || step.reply, runs = step.data && runsOf(step.data, 32);
+  return runs ? `${said.split(" ").slice(0, 3).join(" ")} ${runs}` : cut(said, most);
+}
+
+// A line in a question. In an exercise the student works with its bytes, so they are all there; in a lesson a packet of
+// many digits is shown in words.
+function askedLine(step, most = 200) {
+  if (!isExercise() && step.kind === "in" && step.packet && step.line.length > 60) {
+    return [h("code", {}, step.verb), " ", step.packet.tells];
+  }
+  return h("code", { class: "asked" }, groupedDigits(cut(step.line, most)));
+}
+
+// A text in which digits of bytes are in groups of four, so that they can be wrapped and counted.
+const groupedDigits = text => text.split(/\b([0-9a-f]{16,})/).flatMap((part, i) =>
+  (i % 2 ? part.match(/.{1,4}/g).flatMap(four => [h("span", { class: "four" }, four), h("wbr")]) : [part]));
 
 function refreshRows() {
   findQuestion();
@@ -104,7 +123,8 @@ function refreshRows() {
 // The text of a line for screen readers: its place in the script, what happened, and its note.
 function spoken(step) {
   const refusal = step.isOk ? "" : ` Refused: ${step.error || step.why || step.reply}.`;
-  const drops = step.drops.map(it => ` Dropped: ${causeIn(step, it.name)}${bothSums(step, it.name)}.`).join("");
+  const how = isLeftToCard(step) ? "Left to the card" : "Dropped";
+  const drops = step.drops.map(it => ` ${how}: ${causeIn(step, it.name)}${bothSums(step, it.name)}.`).join("");
   return `line ${page.notes.places[step.number - 1] + 1}: ${step.verb} ${step.tells}.${refusal}${drops} `
     + `${page.noteOf(step) || ""}`;
 }
@@ -131,7 +151,7 @@ function select(i) {
   page.at = Math.max(0, Math.min(page.steps.length - 1, i));
   const step = page.steps[page.at], question = questionOf(page.at);
   showRow();
-  byId("curve").replaceChildren(...curve(page.steps, page.at, select, page.firstQuestion ?? page.steps.length));
+  byId("curve").replaceChildren(...curve(page.steps, page.at, stepTo, page.firstQuestion ?? page.steps.length));
   const views = viewsOf(step, question), guess = !question && guessView(page.at);
   if (guess) views[0].append(guess);
   for (const stop of stopFigures) stop();
@@ -143,10 +163,24 @@ function select(i) {
   byId("gutter").children[page.notes.places[page.at]].classList.add("here");
 }
 
-// Selects the next line. After the last line of an exercise are its questions: returns whether the focus moved there.
+// Steps to a line. The card at the beginning has been read by then.
+function stepTo(i) {
+  showStart(false);
+  select(i);
+}
+
+// Chooses a row. If it's chosen already and asks a question, the focus moves there.
+function chooseRow(i) {
+  const isAgain = i === page.at && questionOf(i);
+  stepTo(i);
+  if (isAgain) byId("look").querySelector(".predict input").focus();
+}
+
+// Steps to the next line. After the last line of an exercise are its questions: returns whether the focus moved there.
 function goOn() {
   const fields = page.at === page.steps.length - 1 ? [...byId("rows").querySelectorAll(".ask input")] : [];
-  if (!fields.length) return select(page.at + 1);
+  if (!fields.length) return stepTo(page.at + 1);
+  showStart(false);
   (fields.find(it => !it.value) || fields[0]).focus();
   return true;
 }
@@ -181,15 +215,27 @@ function replay(place) {
   const { code, ...traced } = page.config.wrong ? { code: 0, steps: [] } : PLAYS[page.mode].trace(page);
   Object.assign(page, { hosts: null, own: null, ends: null }, traced);
   byId("trouble").textContent = page.config.wrong ? `--${page.config.wrong}: no number in its range` : FAULTS[code];
-  byId("gutter").replaceChildren(...page.notes.all.map((line, i) =>
-    h("span", { class: line.trim().startsWith("#") ? "note-line" : null }, String(i + 1))));
+  showGutter();
   byId("command").textContent = page.mode === "chain" ? `bsdudp chain${optionWords(page.options)}`
     : "bsdplay script.txt";
   for (const part of ["look", "curve"]) byId(part).replaceChildren();
   refreshRows();
+  showDrops();
   showScore();
   showMachine();
   select(place);
+}
+
+// The numbers of the lines in the editor. Those of lines that can't be played are red, and the first of these is named
+// below.
+function showGutter() {
+  const faults = new Map(page.steps.filter(it => it.kind === "bad").map(it => [page.notes.places[it.number - 1], it]));
+  byId("gutter").replaceChildren(...page.notes.all.map((line, i) =>
+    h("span", { class: faults.has(i) ? "bad-line" : null }, String(i + 1))));
+  const [[place, step] = []] = faults;
+  const more = faults.size > 1 ? ` ${plural(faults.size - 1, "more line")} can't be played.` : "";
+  byId("faulty").replaceChildren(...(step ? [`Line ${place + 1}: `, ...worded(step.says || step.reply), `.${more}`]
+    : []));
 }
 
 // The options next to the script. Those of hosts are in the script.
@@ -215,19 +261,29 @@ function showMachine() {
 
 // ---- selection
 
-// Opens a script: one of the page's scripts by its name, or a text.
-function open(mode, { name = "", text = "", options = DEFAULTS, place = 0 }) {
+// Opens a script: one of the page's scripts by its name, or a text, which becomes the script of yours with the name
+// `mine`, or a number after it if another has that.
+function open(mode, { name = "", text = "", mine = FIRST_NAME, options = DEFAULTS, place = 0 }) {
   const known = scriptNamed(mode, name) || null;
-  Object.assign(page, { mode, known, guesses: new Map(), drawsAll: false,
+  showStart(false);
+  Object.assign(page, { mode, known, mine: known ? null : freeName(mine, text), guesses: new Map(), drawsAll: false,
     options: known ? optionsOf(known.words) : { ...DEFAULTS, ...options } });
+  byId("left-there").textContent = "";
   const own = known && (known.kind === "exercises" ? kept(`text.${known.name}`) || unsolved(known.text) : known.text);
   byId("script").value = known ? own : text;
   byId("script").scrollTop = 0;
   showLeft(known || text ? "read" : "edit");
-  showTitle();
   replay(place);
   showOptions();
   keepText();
+  showTitle();
+}
+
+// Opens a text of a file or a link, and says where the script of yours is that was open.
+function openBeside(mode, script) {
+  const left = page.mine && page.text.trim() && page.mine;
+  open(mode, script);
+  if (left && left !== page.mine) byId("left-there").textContent = `“${left}” is in the list, under “Yours”.`;
 }
 
 const openFirst = mode => open(mode, { name: LISTS.lessons.find(it => it.mode === mode).name });
@@ -238,41 +294,60 @@ function showLeft(how) {
   for (const name of ["read", "edit"]) byId(name).setAttribute("aria-pressed", String(name === how));
 }
 
-// This browser keeps your own text, an exercise that was begun, and the name of the last open script.
+// This browser keeps your scripts, the exercises that were begun, and the name of the script that was open last.
 function keepText() {
-  const { mode, known, options } = page, text = byId("script").value;
-  keep("last", { mode, name: known ? known.name : "" });
-  if (!known) keep("own", { mode, text, options });
+  const { mode, known, mine, options } = page, text = byId("script").value;
+  keep("last", { mode, name: known ? known.name : "", mine });
+  if (mine) keepOwn(mine, { mode, text, options });
   else if (isExercise() && text !== unsolved(known.text)) keep(`text.${known.name}`, text);
+  showUnstored();
 }
 
-function openOwn() {
-  const own = kept("own");
-  if (own && own.text && Object.hasOwn(PLAYS, own.mode)) open(own.mode, own);
+// Opens a script of yours by its name, or an empty one to write in.
+function openOwn(name = lastOwn()) {
+  const own = name && ownScript(name);
+  if (own && Object.hasOwn(PLAYS, own.mode)) open(own.mode, { ...own, mine: name });
   else open("run", { text: "" });
-  showLeft("edit");
-  byId("script").focus();
+  if (!own) {
+    showLeft("edit");
+    byId("script").focus();
+  }
 }
 
-// After a key in the script or in an option, when no other follows at once. A lesson that is changed is your own text.
+// A lesson or an example that is changed becomes a script of yours, and stays in the list as it was. An exercise isn't
+// copied: its text is what the student hands in. A link has the text as it was.
+function becomeOwn() {
+  const { known } = page;
+  if (location.hash) history.replaceState(null, "", location.href.split("#")[0]);
+  if (!known || isExercise()) return;
+  const title = known.kind === "lessons" ? `Lesson ${parseInt(known.title, 10)}` : known.title;
+  Object.assign(page, { known: null, mine: freeName(`${title}, changed`, byId("script").value) });
+  showTitle();
+}
+
+// After a key in the script or in an option, when no other follows at once. Until then the text is kept.
 let timer = 0;
 function later() {
-  if (!isExercise()) {
-    page.known = null;
-    showTitle();
-  }
+  becomeOwn();
+  showStart(false);
+  keepText();
   clearTimeout(timer);
-  timer = setTimeout(() => {
-    replay(page.at);
-    keepText();
-  }, 150);
+  timer = setTimeout(() => replay(page.at), 150);
+}
+
+// Replaces the text of the script, and plays it.
+function rewrite(lines, place) {
+  byId("script").value = lines.join("\n") + "\n";
+  becomeOwn();
+  replay(place);
+  keepText();
 }
 
 // The line of the script with the cursor is selected.
 function follow() {
   const script = byId("script"), line = script.value.slice(0, script.selectionStart).split("\n").length - 1;
   const i = page.notes.places.findIndex(place => place >= line);
-  if (i >= 0 && i < page.steps.length && i !== page.at) select(i);
+  if (i >= 0 && i < page.steps.length && i !== page.at) stepTo(i);
 }
 
 // ---- a packet made by hand
@@ -312,11 +387,7 @@ function putPacket() {
 function putLine(line, focus) {
   const all = page.notes.all, isEmpty = !page.steps.length;
   const place = isEmpty ? all.length : page.notes.places[page.at] + 1;
-  byId("script").value = [...all.slice(0, place), line, ...all.slice(place), ""].join("\n");
-  page.known = null;
-  showTitle();
-  replay(isEmpty ? 0 : page.at + 1);
-  keepText();
+  rewrite([...all.slice(0, place), line, ...all.slice(place)], isEmpty ? 0 : page.at + 1);
   const there = focus && (byId(focus) || document.querySelector(".puts button"));
   if (there) there.focus();
 }
@@ -342,18 +413,18 @@ function openLink() {
   const place = Math.max(0, (+asked.get("line") || 1) - 1);
   if (asked.has("script")) {
     const options = Object.fromEntries([...asked].filter(([name]) => name in DEFAULTS));
-    open(mode, { text: asked.get("script"), options, place });
+    openBeside(mode, { text: asked.get("script"), mine: "Script of a link", options, place });
   } else if (asked.has("name")) open(mode, { name: asked.get("name"), place });
   else openLast();
 }
 
 // Without a link: the script that was open last, or the first lesson with a card that introduces the page.
 function openLast() {
-  const last = kept("last") || {}, own = kept("own");
-  showStart(!kept("last"));
-  if (scriptNamed(last.mode, last.name)) open(last.mode, { name: last.name });
-  else if (last.name === "" && own && own.text && Object.hasOwn(PLAYS, own.mode)) open(own.mode, own);
+  const last = kept("last"), { mode, name, mine } = last || {};
+  if (scriptNamed(mode, name)) open(mode, { name });
+  else if (last && lastOwn()) openOwn(ownScript(mine) ? mine : lastOwn());
   else openNamed(LISTS.lessons[0]);
+  showStart(!last);
 }
 
 const openNamed = ({ mode, name }) => open(mode, { name });
@@ -365,7 +436,8 @@ function showStart(isShown) {
 
 function save() {
   const url = URL.createObjectURL(new Blob([byId("script").value], { type: "text/plain" }));
-  h("a", { href: url, download: `${page.known ? page.known.name : "script"}.txt` }).click();
+  const name = page.known ? page.known.name : page.mine.replace(/\.\w+$/, "").replace(/[^\w-]+/g, "_");
+  h("a", { href: url, download: `${name}.txt` }).click();
   setTimeout(() => URL.revokeObjectURL(url), 1000);
 }
 
@@ -391,9 +463,9 @@ function listen() {
   on("script", "keyup", event => event.key.startsWith("Arrow") && follow());
   on("script", "scroll", () => (byId("gutter").style.transform = `translateY(${-byId("script").scrollTop}px)`));
   on("choice", "change", event => {
-    const [mode, name] = event.target.value.split("/");
-    if (name) open(mode, { name });
-    else openOwn();
+    const [, mode, name] = /^(\w+)\/(.*)$/s.exec(event.target.value);
+    if (mode === "own") openOwn(name);
+    else open(mode, { name });
   });
   on("next-lesson", "click", openNext);
   on("read", "click", () => showLeft("read"));
@@ -404,25 +476,24 @@ function listen() {
     byId("help").focus();
   });
   on("begin", "click", () => {
-    showStart(false);
     openNamed(LISTS.lessons[0]);
     byId("forth").focus();
   });
-  on("own", "click", () => {
-    showStart(false);
-    openOwn();
-  });
+  on("own", "click", () => openOwn());
+  on("forget", "click", askForget);
   on("see-forms", "click", seeForms);
   on("capture", "click", () => byId("load").click());
-  on("first", "click", () => select(0));
-  on("back", "click", () => select(page.at - 1));
+  on("first", "click", () => stepTo(0));
+  on("back", "click", () => stepTo(page.at - 1));
   on("forth", "click", goOn);
-  on("last", "click", () => select(page.steps.length - 1));
+  on("last", "click", () => stepTo(page.steps.length - 1));
   on("make", "click", () => byId("maker").showModal());
   on("packet", "submit", event => { event.preventDefault(); putPacket(); });
   on("cancel", "click", () => byId("maker").close());
   on("about", "click", () => byId("proved").showModal());
   on("enough", "click", () => byId("proved").close());
+  on("asks-yes", "click", () => byId("asks").close("yes"));
+  on("asks-no", "click", () => byId("asks").close("no"));
   on("link", "click", link);
   on("save", "click", save);
   on("load", "change", load);
@@ -434,15 +505,23 @@ function listen() {
   addEventListener("keydown", stepByKey);
 }
 
-// Arrow keys step, except in fields, in elements that they scroll, and in dialogs.
+// Arrow keys step, except in fields, in elements that they scroll, and in dialogs. Digits choose an answer.
 function stepByKey(event) {
   if (event.altKey || event.ctrlKey || event.metaKey) return;
+  if (/^[1-9]$/.test(event.key)) return chooseOption(event);
   if (event.target.closest("textarea, input, select, .scroller, dialog")) return;
   const by = { ArrowDown: 1, ArrowRight: 1, ArrowUp: -1, ArrowLeft: -1 }[event.key];
   if (!by) return;
   event.preventDefault();
-  if (by > 0 ? goOn() : select(page.at - 1)) return;
+  if (by > 0 ? goOn() : stepTo(page.at - 1)) return;
   if (event.target.closest("#rows")) byId("rows").children[page.at].firstChild.focus();
+}
+
+function chooseOption({ key, target }) {
+  const option = byId("look").querySelectorAll(".predict input[type=radio]")[key - 1];
+  if (!option || target.closest("textarea, select, dialog, input:not([type=radio])")) return;
+  option.checked = true;
+  option.focus();
 }
 
 async function begin() {

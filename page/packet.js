@@ -33,6 +33,27 @@ function readable(bytes, most = 24) {
   return text.join("") + (bytes.length > most ? "…" : "");
 }
 
+// Bytes with each run written once, with its length: "a×16 b×16 c×8". Other bytes are ASCII. Null if none of them
+// repeats. `isCut`: more bytes follow, so the length of the last run isn't known.
+const LEAST_RUN = 4;
+function runsOf(bytes, most, isCut = false) {
+  const runs = [];
+  for (const byte of bytes) {
+    const last = runs[runs.length - 1];
+    if (last && last.byte === byte) last.count += 1;
+    else runs.push({ byte, count: 1 });
+  }
+  if (isCut && runs.length < 2 || !runs.some(it => it.count >= LEAST_RUN)) return null;
+  const texts = runs.map(({ byte, count }, i) => {
+    const isLong = count >= LEAST_RUN, isPrinted = byte > 32 && byte < 127;
+    const one = isPrinted ? String.fromCharCode(byte) : isLong ? `0x${hexOf([byte])}` : byte === 32 ? " " : "·";
+    if (isCut && i === runs.length - 1) return ` ${one}…`;
+    return isLong ? ` ${one}×${count.toLocaleString("en")} ` : one.repeat(count);
+  });
+  const text = texts.join("").replace(/ {2,}/g, " ").trim();
+  return text.length > most ? text.slice(0, most - 1) + "…" : text;
+}
+
 // The fields of a packet in order. `kind` sets the colour, `bits` the width in the drawing.
 class Packet {
   constructor(bytes) {
@@ -131,7 +152,8 @@ class Packet {
     if (!this.isFragment) {
       return `${who}, ${this.protocol === 17 ? plural(this.data.length, "byte") : `protocol ${this.protocol}`}`;
     }
-    const bytes = `bytes ${this.offset} to ${this.offset + this.carried.length - 1}`;
+    const runs = runsOf(this.data, 40), head = this.data.length < this.carried.length ? "UDP header, " : "";
+    const bytes = `bytes ${this.offset} to ${this.offset + this.carried.length - 1}${runs ? ` (${head}${runs})` : ""}`;
     return `${who}, fragment of datagram ${this.id}: ${bytes}, ${this.hasMore ? "more follow" : "the last"}`;
   }
 }

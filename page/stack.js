@@ -126,6 +126,9 @@ class Held {
     const replies = engine.run(config, [...lines, ...asked, ""].join("\n")).replies.slice(lines.length);
     const queues = new Map(state.sockets.map(({ fd }, i) =>
       [fd, trains[i].map(chain => ({ ...datagramIn(replies.shift()), ...buffersIn(chain) }))]));
+    for (const [i, { fd }] of state.sockets.entries()) {
+      trains[i].forEach((chain, k) => showBytes(chain, queues.get(fd)[k].data));
+    }
     this.sockets = sockets.map(socketIn).map(socket => ({ ...socket, queue: queues.get(socket.fd) }));
     this.output = output.map(chain => ({ ...packetIn(replies.shift()), ...buffersIn(chain) }));
     this.pieces = unfinished.map(piecesIn).filter(Boolean);
@@ -133,6 +136,17 @@ class Held {
     this.owned = ownedBy({ queue: trains.flat(2), output: output.flat(), unfinished: late.flat() });
   }
 }
+
+// The program's state has the first 32 bytes of an mbuf. Those of a datagram in a receive queue are all known: they
+// follow the mbuf of its sender's address, and the figure shows them.
+function showBytes([, ...mbufs], data) {
+  let at = 0;
+  for (const it of mbufs) {
+    it.known = hexOf(data.subarray(at, at + Math.min(it.len, MOST_OF_MBUF)));
+    at += it.len;
+  }
+}
+const MOST_OF_MBUF = 128;
 
 // The mbufs from a first one on, following their links, chain by chain.
 function chainsIn({ mbufs }) {

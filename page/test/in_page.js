@@ -218,7 +218,7 @@ function faultsOfBorders() {
 // In print only the selected line is shown, with the colours of its legends.
 function faultsOfPrint() {
   const isShown = it => it !== null && getComputedStyle(it).display !== "none";
-  const left = ["header", "#left", ".bar-of", "button.all"].filter(name => isShown(document.querySelector(name)));
+  const left = ["header", ".ways-of", ".bar-of", "button.all"].filter(name => isShown(document.querySelector(name)));
   const marks = [...document.querySelectorAll("#look .legend span")].map(it => getComputedStyle(it, "::before"));
   const isClear = it => channels(it.backgroundColor)[3] === 0 && it.backgroundImage === "none";
   const isLost = it => it.printColorAdjust !== "exact" || isClear(it);

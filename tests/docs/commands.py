@@ -128,11 +128,16 @@ SESSIONS = {
     "tour of chains": Session(
         "docs/tour.md",
         [
-            f"bsdudp chain < examples/chain/{it}.txt | paste examples/chain/{it}.txt -"
+            f"bsdudp chain < examples/chain/{it}.txt | paste examples/chain/{it}.txt - | "
+            r"sed 's/\(..\)\1\{9,\}/\1../' | expand -t 27"
             for it in ("shared_cluster", "pull_up_and_trim")
         ],
         EXAMPLES,
-        prints=["len 328 P28 C300x2", "len 40 P40 C0x1"],
+        prints=[
+            line[4:]
+            for line in read("docs/tour.md").partition("## 14.")[2].splitlines()
+            if re.match(r"    (?!bsdudp |    sed )", line)
+        ],
     ),
     "replies": Session(
         "docs/scripts.md",

@@ -36,7 +36,7 @@ def quoted():
             if rows:
                 yield script, rows
             script, rows = command[1] if command else "", []
-        elif script and line.startswith("    "):
+        elif script and line.startswith("    ") and not line.startswith("        sed "):
             rows.append((place, line[4:]))
     if rows:
         yield script, rows
@@ -50,7 +50,7 @@ def printed(script):
 
 def pattern(text):
     """Returns a pattern for a line in the tour. In a chain script, `..` matches any text. After two spaces comes the
-    reply, and then a remark."""
+    reply."""
     asked, reply, *_ = [*re.split(r"\s{2,}", text), ""]
     return re.compile(".*".join(re.escape(it) for it in f"{asked} => {reply}".split("..")))
 

@@ -13,6 +13,10 @@ from tests.cases import TOP
 from tests.made import module, page  # noqa: F401 (fixtures)
 
 
+# The widths of a phone, a tablet and a small laptop, and the heights of their windows.
+HEIGHTS = {360: 740, 390: 844, 768: 1024, 1280: 800}
+
+
 @pytest.fixture(scope="session")
 def plays_captures(page: pathlib.Path) -> Callable[..., list[dict[str, Any]]]:  # noqa: F811
     """plays_captures(FILE ..) returns the page's scripts for capture files, as page/test/captured.js prints them."""
@@ -36,3 +40,16 @@ def chromium(page: pathlib.Path, tmp_path_factory: pytest.TempPathFactory) -> It
     browser.run((TOP / "page/test/in_page.js").read_text(encoding="utf-8"))
     yield browser
     browser.end()
+
+
+@pytest.fixture(name="at_width")
+def page_at_width(chromium: Browser) -> Callable[[int], Browser]:
+    """at_width(WIDTH) opens the page at a width, without anything of yours."""
+
+    def resize(width: int) -> Browser:
+        size = {"width": width, "height": HEIGHTS[width], "deviceScaleFactor": 1, "mobile": False}
+        chromium.ask("Emulation.setDeviceMetricsOverride", **size)
+        return chromium
+
+    chromium.run("localStorage.clear(); setTheme('light'); showStart(false)")
+    return resize

@@ -1,29 +1,19 @@
 """The page in Chromium, at the width of a phone, a tablet and a small laptop: what is hidden until a question is
 answered, and the positions of options and buttons."""
+import base64
 import json
 import re
 
 import pytest
 
 from tests.cases import TOP
+from tests.packets import datagram, left_to_card
+from tests.page.conftest import HEIGHTS
+from tests.pcaps import header, record
 
 pytestmark = [pytest.mark.needs("rt", "wasm-opt", "chromium"), pytest.mark.slow]
 
-HEIGHTS = {360: 740, 390: 844, 768: 1024, 1280: 800}
 LESSONS = sorted((it.parent.name, it.stem) for it in (TOP / "page/lessons").glob("*/*.txt"))
-
-
-@pytest.fixture(name="at_width")
-def page_at_width(chromium):
-    """at_width(WIDTH) opens the page at a width."""
-
-    def resize(width):
-        size = {"width": width, "height": HEIGHTS[width], "deviceScaleFactor": 1, "mobile": False}
-        chromium.ask("Emulation.setDeviceMetricsOverride", **size)
-        return chromium
-
-    chromium.run("localStorage.clear(); setTheme('light'); showStart(false)")
-    return resize
 
 
 def opened(browser, mode, name):
@@ -149,6 +139,119 @@ def test_nothing_overlaps_or_is_cut_off(view, width, theme, at_width):
 def test_scroll_bars_have_a_colour_of_their_own(at_width):
     """By default Firefox draws them white, also in the dark."""
     assert at_width(1280).run("getComputedStyle(byId('rows')).scrollbarColor") != "auto"
+
+
+# ---- the card at the beginning
+
+FIRST_STEPS = {
+    "a choice": "byId('choice').value = 'run/exercise_04_fragments_out';"
+    "byId('choice').dispatchEvent(new Event('change'))",
+    "a tab": "document.querySelector('[data-tab=chain]').click()",
+    "the next lesson": "byId('next-lesson').click()",
+    "a step": "byId('forth').click()",
+    "a row": "byId('rows').children[1].firstChild.click()",
+    "a key": "document.body.dispatchEvent(new KeyboardEvent('keydown', { key: 'ArrowRight', bubbles: true }))",
+    "a change": "byId('script').value += 'tick'; byId('script').dispatchEvent(new Event('input'))",
+}
+
+
+@pytest.mark.parametrize("first", FIRST_STEPS)
+def test_the_opening_text_closes_at_the_first_choice_or_step(first, at_width):
+    browser = at_width(1280)
+    browser.run("open('run', { name: '01_a_datagram' }); showStart(true)")
+    browser.run(FIRST_STEPS[first])
+    assert browser.run("byId('start').hidden")
+
+
+def test_on_a_phone_nothing_speaks_of_keys(at_width):
+    browser = at_width(390)
+    browser.run("open('run', { name: '01_a_datagram' }); select(page.firstQuestion); showStart(true)")
+    seen = "[...document.querySelectorAll('kbd')].filter(it => it.getClientRects().length).length"
+    assert browser.run(seen) > 2
+    browser.ask("Emulation.setTouchEmulationEnabled", enabled=True)
+    browser.ask("Emulation.setDeviceMetricsOverride", width=390, height=844, deviceScaleFactor=2, mobile=True)
+    try:
+        assert browser.run(seen) == 0
+        assert "Tap › and ‹ to step" in browser.run("byId('start').innerText")
+        assert browser.run("faultsOfLayout()") == []
+    finally:
+        browser.ask("Emulation.setTouchEmulationEnabled", enabled=False)
+        at_width(390)
+
+
+# ---- the editor
+
+
+def test_lines_that_cannot_be_played_are_marked_while_they_are_written(at_width):
+    browser = at_width(1280)
+    browser.run("openOwn('')")
+    lines = ["socket", "bnd 3 0.0.0.0 7", "rx udp 10.0.0.2:5000 > 10.0.0.1:7 hi", "recvfrom 3 100", ""]
+    browser.ask("Input.insertText", text="\n".join(lines))
+    browser.run("new Promise(done => setTimeout(done, 400))")
+    marked = "[...byId('gutter').children].map(it => it.matches('.bad-line'))"
+    assert browser.run(marked) == [False, True, True, False]
+    colour, other = (
+        browser.run(f"getComputedStyle(byId('gutter').children[{n}]).backgroundColor") for n in (1, 3)
+    )
+    assert colour != other
+    assert browser.run("byId('faulty').textContent").startswith("Line 2: bnd is no command (bind?). 1 more line")
+    assert browser.run("faultsOfLayout()") == []
+    browser.run("byId('script').value = 'socket\\nbind 3 0.0.0.0 7\\n'; later(); clearTimeout(timer); replay(0)")
+    assert browser.run(marked) == [False, False] and not browser.run("byId('faulty').textContent")
+
+
+# ---- print
+
+LIGHT = "[...getComputedStyle(document.querySelector('{}')).{}.matchAll(/[0-9.]+/g)].map(Number)"
+
+
+def test_print_is_light_and_has_the_script_with_its_replies(at_width):
+    browser = at_width(1280)
+    browser.run("open('run', { name: '01_a_datagram', place: 2 }); revealAll(); showLeft('edit'); setTheme('dark')")
+    browser.ask("Emulation.setEmulatedMedia", media="print")
+    try:
+        for what in ("body", ".panel", "#left"):
+            back, ink = (browser.run(LIGHT.format(what, of))[:3] for of in ("backgroundColor", "color"))
+            assert min(back) > 230 or back == [0, 0, 0], f"{what} is printed on {back}"
+            assert max(ink) < 100, f"{what} is printed in {ink}"
+        printed = browser.run("byId('rows').innerText")
+        for step in browser.run("page.steps.map(it => [it.line, it.says])"):
+            assert all(it[:40] in printed for it in step)
+        assert browser.run("byId('rows').scrollHeight === byId('rows').clientHeight")
+        buttons = "[...document.querySelectorAll('button:not(.row)')].filter(it => it.getClientRects().length).length"
+        assert browser.run(buttons) == 0
+    finally:
+        browser.ask("Emulation.setEmulatedMedia", media="")
+        browser.run("showLeft('read')")
+
+
+# ---- packets that a capture's host dropped
+
+
+def test_a_capture_has_counts_per_cause_and_a_way_to_the_next_drop(at_width):
+    """A wrong UDP checksum is a drop. One that has only the sum of the pseudo header is left to the sender's card."""
+    wrong, closed = datagram(b"question", (53, 53)), datagram(b"x", (1, 9))
+    wrong = wrong[:30] + b"?" + wrong[31:]
+    left, other = left_to_card(datagram(b"b")), left_to_card(datagram(b"c"))
+    packets = [datagram(b"a"), left, wrong, other, b"\x65" + closed[1:], wrong]
+    data = header() + b"".join(record("<", 100 + n, 0, it) for n, it in enumerate(packets))
+    browser = at_width(1280)
+    letters = f"Uint8Array.from(atob('{base64.b64encode(data).decode()}'), letter => letter.charCodeAt(0))"
+    browser.run(f"openFile(new File([{letters}], 'a.pcap'))")
+    counts = browser.run("[...byId('drops').querySelectorAll('.cause')].map(it => it.textContent)")
+    assert counts == ["2 wrong datagram checksum", "1 wrong version", "2 checksum left to the card"]
+    numbers = "Number(/^Record (\\d+)/.exec(page.noteOf(page.steps[page.at]))[1])"
+    browser.run("select(0)")
+    assert [browser.run(f"byId('next-drop').click(); {numbers}") for _ in range(4)] == [3, 5, 6, 3]
+    card = "byId('drops').querySelector('.card').click(); "
+    assert [browser.run(card + numbers) for _ in range(3)] == [4, 2, 4]
+    assert "Left to the card" in browser.run("document.querySelector('#look .verdict.wait').textContent")
+    assert not browser.run("document.querySelector('#look .verdict.no, #look .checks .fail, [aria-current] .sign-bad')")
+    assert browser.run("byId('said').textContent").count("Left to the card") == 1
+    for width in HEIGHTS:
+        assert at_width(width).run("faultsOfLayout()") == []
+    browser.run("open('run', { name: 'exercise_02_why_dropped' })")
+    assert browser.run("byId('drops').hidden")
 
 
 # ---- statements in docs/page.md
