@@ -13,19 +13,22 @@
 can lose packets; `sweep` runs a scenario for many seeds. The behaviour of the stack is proved. This package passes
 bytes to it and back, and is tested."""
 from ._counters import Counters, MbStat
+from ._errors import NoBuffersError
 from ._frame import Frame
 from ._host import Host, Neighbour, Tallies
-from ._library import NoBuffersError
+from ._losses import Bursts, Nth, Sent
 from ._packet import Packet
+from ._sender import Sender
 from ._socket import CutDatagramWarning, Socket, Waiting
 from ._stack import Stack
 from ._sweep import sweep
 from ._unfinished import HeldRange, UnfinishedDatagram
-from ._wire import Carried, Wire
+from ._wire import Carried, UnderWay, Wire
 
 __version__ = "0.4.0"
 
 __all__ = [
+    "Bursts",
     "Carried",
     "Counters",
     "CutDatagramWarning",
@@ -35,10 +38,14 @@ __all__ = [
     "MbStat",
     "Neighbour",
     "NoBuffersError",
+    "Nth",
     "Packet",
+    "Sender",
+    "Sent",
     "Socket",
     "Stack",
     "Tallies",
+    "UnderWay",
     "UnfinishedDatagram",
     "Waiting",
     "Wire",

@@ -1,6 +1,7 @@
 """Addresses in the form of Python's own `socket`: a pair of a host and a port."""
 from __future__ import annotations
 
+import functools
 import ipaddress
 import operator
 from typing import SupportsIndex, Tuple, Union
@@ -23,6 +24,12 @@ def number_of(host: Host) -> int:
         return int(host)
     if not isinstance(host, str):
         raise TypeError(f"an address is a str as '10.0.0.1', and not {type(host).__name__}")
+    return _parsed(host)
+
+
+@functools.lru_cache(maxsize=4096)
+def _parsed(host: str) -> int:
+    """Does the same for a str, and keeps the last results: a simulation names the same hosts again and again."""
     if host == ANY:
         return 0
     if host == BROADCAST:
@@ -33,6 +40,7 @@ def number_of(host: Host) -> int:
         raise ValueError(f"{host!r} is no IPv4 address: {fault}") from None
 
 
+@functools.lru_cache(maxsize=4096)
 def text_of(number: int) -> str:
     """Returns an address in dotted decimal form."""
     return str(ipaddress.IPv4Address(number))

@@ -38,6 +38,8 @@ class Counters(Mapping[str, int]):
     >>> stack.counters.since(before).causes()
     ['packet shorter than a header']"""
 
+    __slots__ = ("_values",)
+
     def __init__(self, values: Dict[str, int]) -> None:
         self._values = values
 

@@ -44,6 +44,8 @@ class Frame(bytes):
     >>> hex(frame.type)
     '0x806'"""
 
+    __slots__ = ()
+
     @property
     def destination(self) -> str:
         """The destination hardware address."""
@@ -75,7 +77,9 @@ class Frame(bytes):
 
 def frame_bytes(frame: AnyFrame) -> bytes:
     """Returns the bytes of a frame: a bytes-like object, or a scapy packet from its Ethernet layer on."""
-    if isinstance(frame, LayeredPacket):
+    if isinstance(frame, bytes):  # first, because the test for a scapy packet is slow
+        found = frame
+    elif isinstance(frame, LayeredPacket):
         if not frame.haslayer("Ethernet"):
             raise ValueError("the scapy packet has no Ethernet layer: put Ether() / in front")
         found = bytes(frame["Ethernet"])

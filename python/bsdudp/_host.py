@@ -7,7 +7,8 @@ from typing import Iterator, List, NamedTuple, NoReturn, Optional, SupportsIndex
 from . import _addresses
 from ._addresses import in_range, number_of, text_of
 from ._frame import AnyFrame, Frame, frame_bytes, mac_bytes, mac_text
-from ._library import ETHER_ROOM, LIBRARY, NEIGHBOURS, Link, NeighbourOfC, TalliesOfC, refused
+from ._errors import refused
+from ._library import ETHER_ROOM, LIBRARY, NEIGHBOURS, Link, NeighbourOfC, TalliesOfC
 from ._packet import AnyPacket
 from ._socket import Socket
 from ._stack import Stack
@@ -87,6 +88,8 @@ class Host(Stack):
     ...     print(frame)
     <Frame 02:00:00:00:00:01 > ff:ff:ff:ff:ff:ff, ARP, 42 bytes>"""
 
+    __slots__ = ("_mask", "_link", "_has_gateway", "_frame_room")
+
     def __init__(
         self,
         addr: _addresses.Host = "10.0.0.1",
@@ -119,6 +122,12 @@ class Host(Stack):
         config, link = ctypes.byref(self._config), ctypes.byref(self._link)
         self._frame_room = ctypes.create_string_buffer(ETHER_ROOM)
         return LIBRARY.call("ether_boot_in", self._handle, config, link, at, size)
+
+    def _copy_to(self, twin: Stack) -> None:
+        assert isinstance(twin, Host)
+        super()._copy_to(twin)
+        twin._link, twin._mask, twin._has_gateway = self._link, self._mask, self._has_gateway
+        twin._frame_room = ctypes.create_string_buffer(ETHER_ROOM)
 
     @property
     def mac(self) -> str:
@@ -173,7 +182,7 @@ class Host(Stack):
         if socket._stack is not self:
             raise ValueError("the socket is one of another stack")
         answer = socket._ask("ether_last_error")
-        return refused(-answer) if answer else None
+        return refused(-answer, "ether_last_error") if answer else None
 
     @property
     def tallies(self) -> Tallies:

@@ -3,11 +3,10 @@ from __future__ import annotations
 
 import ctypes
 import ctypes.util
-import errno
 import itertools
 import os
 import pathlib
-from typing import Any, Callable, Dict, Iterator, List, Optional, Tuple, Type
+from typing import Any, Callable, Dict, Iterator, List, Optional
 
 NAME = "libbsdudp.so.0"
 ENVIRONMENT = "BSDUDP_LIBRARY"
@@ -145,42 +144,6 @@ class NeighbourOfC(ctypes.Structure):
         ("tries", ctypes.c_uint8),
         ("ticks", ctypes.c_uint16),
     ]
-
-
-# The two results that are ENOBUFS.
-POOL_LACKS = -55
-QUEUE_IS_FULL = -155
-
-
-class NoBuffersError(OSError):
-    """A send failed because buffers or space were lacking; `errno` is ENOBUFS.
-
-    lack  "pool" if the pool has too few free buffers: nothing was sent. "queue" if the output queue is full: the
-          packets that fit are queued.
-
-    >>> socket = bsdudp.Stack(mbufs=1, clusters=0).socket()
-    >>> try:
-    ...     socket.sendto(bytes(500), ("10.0.0.2", 7))
-    ... except bsdudp.NoBuffersError as error:
-    ...     print(error.lack)
-    pool"""
-
-    def __init__(self, number: int, text: str, lack: str) -> None:
-        super().__init__(number, text)
-        self.lack = lack
-
-    def __reduce__(self) -> Tuple[Type["NoBuffersError"], Tuple[int, str, str]]:
-        """Allows pickling with all three arguments: OSError keeps only two of them."""
-        return type(self), (self.errno, self.strerror, self.lack)
-
-
-def refused(answer: int) -> OSError:
-    """Returns the exception for a negative result. OSError chooses its subclass by the number: EWOULDBLOCK is a
-    BlockingIOError."""
-    number, text = getattr(errno, LIBRARY.error_name(answer)), LIBRARY.error_text(answer)
-    if answer in (POOL_LACKS, QUEUE_IS_FULL):
-        return NoBuffersError(number, text, "pool" if answer == POOL_LACKS else "queue")
-    return OSError(number, text)
 
 
 _handle = ctypes.POINTER(Handle)

@@ -41,6 +41,8 @@ class Packet(bytes):
     >>> packet.destination, packet.data[8:]
     ('10.0.0.2', b'hi')"""
 
+    __slots__ = ()
+
     def _word(self, at: int, size: int = 2) -> int:
         return int.from_bytes(self[at : at + size], "big")
 
@@ -114,7 +116,9 @@ class Packet(bytes):
 
 def bytes_of(packet: AnyPacket) -> bytes:
     """Returns the bytes of an IPv4 packet: a bytes-like object, or a scapy packet from its IP layer on."""
-    if isinstance(packet, LayeredPacket):
+    if isinstance(packet, bytes):  # first, because the test for a scapy packet is slow
+        found = packet
+    elif isinstance(packet, LayeredPacket):
         if not packet.haslayer("IP"):
             raise ValueError("the scapy packet has no IP layer; if its bytes are meant as they are, give bytes(packet)")
         found = bytes(packet["IP"])

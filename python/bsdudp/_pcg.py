@@ -16,6 +16,8 @@ Chance = Union[float, str, Decimal, Fraction, SupportsIndex]
 class Pcg32:
     """A generator that returns the same numbers for the same seed on every computer."""
 
+    __slots__ = ("_increment", "_state")
+
     def __init__(self, seed: int, stream: int = STREAM) -> None:
         self._increment = (stream << 1 | 1) & MASK
         self._state = (seed + self._increment) & MASK
@@ -24,10 +26,16 @@ class Pcg32:
     def _step(self) -> None:
         self._state = (self._state * MULTIPLIER + self._increment) & MASK
 
+    def copy(self) -> "Pcg32":
+        """Returns a generator that returns the same numbers from here on."""
+        twin = Pcg32.__new__(Pcg32)
+        twin._increment, twin._state = self._increment, self._state
+        return twin
+
     def next_u32(self) -> int:
         """Returns the next 32-bit number."""
         state = self._state
-        self._step()
+        self._state = (state * MULTIPLIER + self._increment) & MASK
         turn = state >> 59
         word = ((state >> 18) ^ state) >> 27 & 0xFFFF_FFFF
         return (word >> turn | word << (32 - turn)) & 0xFFFF_FFFF

@@ -8,10 +8,11 @@ import os
 import socket as host
 import warnings
 from types import TracebackType
-from typing import TYPE_CHECKING, List, NamedTuple, Optional, SupportsIndex, Tuple, Type, Union, overload
+from typing import TYPE_CHECKING, List, NamedTuple, NoReturn, Optional, SupportsIndex, Tuple, Type, Union, overload
 
 from ._addresses import Address, Endpoint, in_range, raw, text_of
 from ._buffers import octets, room
+from ._errors import TOO_LONG, refused, too_long
 from ._library import SO_BROADCAST, SO_REUSEPORT, Name, Next
 from ._library import Address as Raw
 from ._uncopied import Uncopied
@@ -75,6 +76,13 @@ class _Taken(NamedTuple):
     is_cut: bool
 
 
+NO_DESCRIPTOR = (
+    "a socket of a simulated stack has no descriptor of the operating system, so select, selectors and asyncio can't"
+    " wait for it: ask Socket.waiting or Stack.readable() after packets arrived. Its number in the stack is"
+    " Socket.descriptor"
+)
+
+
 def _no_flags(name: str, flags: object) -> None:
     if flags != 0:
         raise ValueError(f"{name} has no flags here")
@@ -101,6 +109,7 @@ class Socket(Uncopied):
     type = host.SOCK_DGRAM
     proto = 0
     timeout = 0.0
+    __slots__ = ("_stack", "_descriptor")
 
     def __init__(self, stack: "Stack", descriptor: int) -> None:
         self._stack = stack
@@ -113,14 +122,25 @@ class Socket(Uncopied):
 
     def _call(self, name: str, *arguments: object) -> int:
         """Calls the library, if the socket is open. The caller holds the lock."""
+        answer = self._answer(name, *arguments)
+        if answer < 0:
+            raise refused(answer, name)
+        return answer
+
+    def _answer(self, name: str, *arguments: object) -> int:
+        """Does the same, and returns the result also if the call failed."""
         if self._descriptor is None or not self._stack._live:
             raise OSError(errno.EBADF, "the socket is closed")
-        return self._stack._call(name, self._descriptor, *arguments)
+        return self._stack._answer(name, self._descriptor, *arguments)
 
-    def fileno(self) -> int:
-        """Returns its descriptor in its stack, 3 to 66; -1 if it is closed. It is not a descriptor of the operating
-        system."""
+    @property
+    def descriptor(self) -> int:
+        """Its number in its stack, 3 to 66; -1 if it is closed."""
         return -1 if self._descriptor is None or not self._stack._live else self._descriptor
+
+    def fileno(self) -> NoReturn:
+        """Raises an OSError with `errno` EOPNOTSUPP: the operating system has no descriptor for the socket."""
+        raise OSError(errno.EOPNOTSUPP, NO_DESCRIPTOR)
 
     def bind(self, address: Endpoint) -> None:
         """Binds the socket to a local address and port. Address "" means all addresses of the host. Port 0 means the
@@ -165,14 +185,23 @@ class Socket(Uncopied):
             _no_flags("sendto", first)
         to = raw(first if second is None else second)
         sent = octets(data)
-        return self._ask("sendto", ctypes.byref(to), sent, len(sent))
+        return self._sent("sendto", len(sent), ctypes.byref(to), sent, len(sent))
 
     def send(self, data: "ReadableBuffer", flags: int = 0) -> int:
         """Sends one datagram to the peer of a connected socket, as `sendto` does. OSError with `errno` EDESTADDRREQ if
         the socket is not connected."""
         _no_flags("send", flags)
         sent = octets(data)
-        return self._ask("send", sent, len(sent))
+        return self._sent("send", len(sent), sent, len(sent))
+
+    def _sent(self, name: str, length: int, *arguments: object) -> int:
+        """Makes a call that sends. A wire is told also if it fails: a full queue has taken the packets that fit."""
+        with self._stack._turn:
+            answer = self._answer(name, *arguments)
+            self._stack._sends()
+        if answer < 0:
+            raise refused(answer, name, too_long(length, self._stack.mtu) if answer == TOO_LONG else None)
+        return answer
 
     def _take(self, most: int) -> _Taken:
         """Removes the oldest datagram. Two calls of the library read its length and its bytes, while the lock is
@@ -325,7 +354,7 @@ class Socket(Uncopied):
         self.close()
 
     def __repr__(self) -> str:
-        if self.fileno() < 0:
+        if self.descriptor < 0:
             return "<Socket, closed>"
         try:
             return f"<Socket {self._descriptor} of {self._stack.addr}, local {self.getsockname()}>"

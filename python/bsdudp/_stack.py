@@ -2,20 +2,28 @@
 from __future__ import annotations
 
 import ctypes
-import threading
+import weakref
 from types import TracebackType
-from typing import Dict, Iterator, List, Mapping, Optional, SupportsIndex, Type
+from typing import TYPE_CHECKING, Dict, Iterator, List, Mapping, Optional, SupportsIndex, Tuple, Type, TypeVar
 
 from ._addresses import Host, in_range, number_of, text_of
 from ._counters import Counters, MbStat
-from ._library import ALIGNMENT, FIRST_DESCRIPTOR, LIBRARY, Config, Handle, Range, Unfinished, Usage, refused
+from ._errors import refused
+from ._library import FIRST_DESCRIPTOR, LIBRARY, Config, Handle, Range, Unfinished, Usage
 from ._packet import AnyPacket, Packet, bytes_of
+from ._place import Place
 from ._socket import Socket
 from ._uncopied import Uncopied
 from ._unfinished import UnfinishedDatagram, told
 
+if TYPE_CHECKING:
+    from ._wire import Wire
+
+Kind = TypeVar("Kind", bound="Stack")
+
 FIRST_ADDRESS, LAST_ADDRESS = 0x0100_0000, 0xDFFF_FFFF
 LOOPBACK_NET = 127
+WHOLE = (b"\0\0", b"\x40\0")  # flags and offset of a packet that isn't a fragment: none, or "don't fragment"
 
 
 def _interface(what: str, host: Host) -> int:
@@ -25,28 +33,6 @@ def _interface(what: str, host: Host) -> int:
     if not FIRST_ADDRESS <= number <= LAST_ADDRESS or number >> 24 == LOOPBACK_NET:
         raise ValueError(f"{what} is 1.0.0.0 to 223.255.255.255 and not in 127.0.0.0/8: {text_of(number)} isn't")
     return number
-
-
-class Turn:
-    """The lock of a stack, which a method holds while it runs. It never blocks: a second thread gets a RuntimeError."""
-
-    def __init__(self) -> None:
-        self._lock = threading.Lock()
-
-    def __enter__(self) -> None:
-        if not self._lock.acquire(blocking=False):
-            raise RuntimeError(
-                "another thread, or what a signal handler stopped, is in this stack: put a lock round the calls, or give"
-                " each thread a stack of its own"
-            )
-
-    def __exit__(
-        self,
-        kind: Optional[Type[BaseException]],
-        fault: Optional[BaseException],
-        trace: Optional[TracebackType],
-    ) -> None:
-        self._lock.release()
 
 
 class Stack(Uncopied):
@@ -62,8 +48,8 @@ class Stack(Uncopied):
     A wrong argument raises a TypeError or a ValueError before the library is called. A call on a stack that has ended
     raises a ValueError. A stack is a context manager, which ends the stack. No method blocks, and nothing runs in the
     background: `rx` passes packets in, `tx` takes packets out, and `tick` advances the clock. Only one thread at a time
-    may be in a method of a stack or of its sockets: a second one gets a RuntimeError, and nothing happens. A stack
-    cannot be copied or pickled.
+    may be in a method of a stack, of its copies or of their sockets: a second one gets a RuntimeError, and nothing
+    happens. `copy` branches a stack; it cannot be pickled.
 
     >>> with bsdudp.Stack("10.0.0.1", mtu=1500, mbufs=64, clusters=16) as stack:
     ...     socket = stack.socket()
@@ -73,6 +59,8 @@ class Stack(Uncopied):
     ...     stack.tx()
     2
     <Packet 10.0.0.1 > 10.0.0.2 udp 7 > 7, id 1, 30 bytes>"""
+
+    __slots__ = ("_live", "_sockets", "_config", "_place", "_turn", "_state", "_handle", "_room", "_wires")
 
     def __init__(
         self,
@@ -84,8 +72,8 @@ class Stack(Uncopied):
         first_id: SupportsIndex = 1,
     ) -> None:
         self._live = False
-        self._turn = Turn()
         self._sockets: Dict[int, Socket] = {}
+        self._wires: List[Tuple["weakref.ref[Wire]", int]] = []  # each with its place there
         address = _interface("addr", addr)
         broadcast = address | 0xFF if bcast is None else _interface("bcast", bcast)
         if broadcast == address:
@@ -101,16 +89,40 @@ class Stack(Uncopied):
         self._boot()
 
     def _boot(self) -> None:
-        size = self._memory_size()
-        self._memory = ctypes.create_string_buffer(size + ALIGNMENT)
-        at = ctypes.addressof(self._memory)
-        at += -at % ALIGNMENT
+        self._place = Place(self._memory_size())
+        self._turn, self._state = self._place.turn, self._place.here
         self._handle = Handle()
         self._room = ctypes.create_string_buffer(self.mtu)
-        answer = self._boot_in(at, size)
+        answer = self._boot_in(self._place.at, self._place.size)
         if answer < 0:
             raise refused(answer)
         self._live = True
+
+    def copy(self: Kind) -> Kind:
+        """Returns a second stack in the same state, with copies of the open sockets (see `sockets`). What happens to
+        one of the two changes nothing in the other, so a simulation can try two futures.
+
+        Both use the same memory in turn: the first call on a stack after one on its copy moves the bytes of both, about
+        12 microseconds for a default stack. A wire does not carry what the copy sends: make another one, or use
+        `Wire.copy`."""
+        with self._turn:
+            if not self._live:
+                raise ValueError("the stack has ended")
+            twin = type(self).__new__(type(self))
+            if hasattr(self, "__dict__"):  # of a program's subclass
+                twin.__dict__.update(self.__dict__)
+            self._copy_to(twin)
+            return twin
+
+    def _copy_to(self, twin: "Stack") -> None:
+        """Gives the copy all that a stack has. The caller holds the lock."""
+        twin._config, twin._place, twin._turn = self._config, self._place, self._turn
+        twin._state = self._place.copied(self._state)
+        twin._handle = Handle.from_buffer_copy(self._handle)
+        twin._room = ctypes.create_string_buffer(self.mtu)
+        twin._wires = []
+        twin._sockets = {descriptor: Socket(twin, descriptor) for descriptor in self._sockets}
+        twin._live = True
 
     def _memory_size(self) -> int:
         """Returns the size of the memory that boot needs, in bytes."""
@@ -127,12 +139,32 @@ class Stack(Uncopied):
 
     def _call(self, name: str, *arguments: object) -> int:
         """Calls the library, if the stack has not ended. The caller holds the lock."""
+        answer = self._answer(name, *arguments)
+        if answer < 0:
+            raise refused(answer, name)
+        return answer
+
+    def _answer(self, name: str, *arguments: object) -> int:
+        """Does the same, and returns the result also if the call failed."""
         if not self._live:
             raise ValueError("the stack has ended")
-        answer = LIBRARY.call(name, self._handle, *arguments)
-        if answer < 0:
-            raise refused(answer)
-        return answer
+        if self._place.here is not self._state:
+            self._place.bring(self._state)
+        return LIBRARY.call(name, self._handle, *arguments)
+
+    def _holds(self) -> None:
+        """Notes for the wires that a datagram may be unfinished, so that it takes part in their ticks."""
+        for of, at in self._wires:
+            wire = of()
+            if wire is not None:
+                wire._may_hold.add(at)
+
+    def _sends(self) -> None:
+        """Notes for the wires that packets may be in the output queue."""
+        for of, at in self._wires:
+            wire = of()
+            if wire is not None:
+                wire._may_send.add(at)
 
     def end(self) -> None:
         """Ends the stack and closes its sockets. A second call does nothing."""
@@ -178,12 +210,14 @@ class Stack(Uncopied):
         ValueError if it has more than 65,535 bytes or no IP layer. TypeError if it is not a packet."""
         data = bytes_of(packet)
         self._ask("rx", data, len(data))
+        if data[6:8] not in WHOLE:
+            self._holds()
 
     def tx(self) -> Optional[Packet]:
         """Removes the oldest packet from the output queue and returns it; None if the queue is empty."""
         with self._turn:
             length = self._call("tx", self._room, self.mtu)
-            return Packet(self._room.raw[:length]) if length else None
+            return Packet(ctypes.string_at(self._room, length)) if length else None
 
     def packets(self) -> Iterator[Packet]:
         """Yields the packets of the output queue, oldest first, and removes them."""
@@ -204,6 +238,11 @@ class Stack(Uncopied):
             descriptor = self._call("socket")
             opened = self._sockets[descriptor] = Socket(self, descriptor)
             return opened
+
+    @property
+    def sockets(self) -> Dict[int, Socket]:
+        """The open sockets by their descriptors: `twin.sockets[it.descriptor]` is the copy of `it`."""
+        return dict(self._sockets)
 
     def readable(self) -> List[Socket]:
         """Returns the sockets that have a datagram in their receive queue, in the order of their descriptors."""

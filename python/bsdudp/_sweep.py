@@ -5,15 +5,38 @@ import concurrent.futures
 import concurrent.futures.process
 import importlib
 import sys
-from typing import Any, Callable, Dict, Iterable, List, Optional, Protocol, TypeVar, Union
+import time
+from typing import (
+    Any,
+    Callable,
+    Dict,
+    Iterable,
+    List,
+    Optional,
+    Protocol,
+    SupportsIndex,
+    TypeVar,
+    Union,
+    runtime_checkable,
+)
+
+from ._addresses import in_range
 
 Result = TypeVar("Result")
 
 CORES = "cores"
 # How often a seed is tried before lost workers are reported as an error.
 TRIES = 5
+MOST_PROCESSES = 1024
+BAR = 30  # the width of the bar, in characters
+PAUSE = 0.1  # between two pictures of the bar, in seconds
+WHERE = (
+    'client is None (this process), "cores", a number of processes, a distributed.Client or the address of a Dask'
+    ' scheduler, as "tcp://10.0.0.9:8786"'
+)
 
 
+@runtime_checkable
 class ClusterClient(Protocol):
     """The methods of a `distributed.Client` that this package uses."""
 
@@ -31,14 +54,25 @@ class _Progress:
 
     def __init__(self, total: int, shown: bool) -> None:
         self._total, self._shown, self._done = total, shown, 0
+        self._begun = self._drawn = time.monotonic()
 
     def one(self) -> None:
         self._done += 1
-        if self._shown:
-            print(f"\r{self._done} of {self._total} seeds", end="", file=sys.stderr, flush=True)
+        now = time.monotonic()
+        if self._shown and now - self._drawn >= PAUSE:
+            self._drawn = now
+            self._draw(now)
+
+    def _draw(self, now: float) -> None:
+        bar = "#" * (BAR * self._done // self._total)
+        passed = now - self._begun
+        left = passed / self._done * (self._total - self._done)
+        line = f"[{bar:.<{BAR}}] {self._done} of {self._total} seeds, {passed:.0f} s, {left:.0f} s left "
+        print(f"\r{line}", end="", file=sys.stderr, flush=True)
 
     def end(self) -> None:
         if self._shown and self._done:
+            self._draw(time.monotonic())
             print(file=sys.stderr)
 
 
@@ -50,14 +84,17 @@ def _here(scenario: Callable[[int], Result], seeds: List[int], progress: _Progre
     return results
 
 
-def _on_cores(scenario: Callable[[int], Result], seeds: List[int], progress: _Progress) -> List[Result]:
-    """Runs the seeds on all cores. Seeds of a worker that was lost are run again by new workers."""
+def _on_cores(
+    scenario: Callable[[int], Result], seeds: List[int], processes: Optional[int], progress: _Progress
+) -> List[Result]:
+    """Runs the seeds in this number of processes, or in one for each core. Seeds of a worker that was lost are run
+    again by new workers."""
     results: Dict[int, Result] = {}
     for _ in range(TRIES):
         left = [at for at in range(len(seeds)) if at not in results]
         if not left:
             break
-        with concurrent.futures.ProcessPoolExecutor() as pool:
+        with concurrent.futures.ProcessPoolExecutor(processes) as pool:
             futures = {pool.submit(scenario, seeds[at]): at for at in left}
             for future in concurrent.futures.as_completed(futures):
                 try:
@@ -89,15 +126,16 @@ def _on_dask(
 def sweep(
     scenario: Callable[[int], Result],
     seeds: Iterable[int] = range(1000),
-    client: Union[None, str, ClusterClient] = None,
+    client: Union[None, str, SupportsIndex, ClusterClient] = None,
     progress: Optional[bool] = None,
 ) -> List[Result]:
     """Calls `scenario(seed)` for each seed. Returns a list of the results, in the order of the seeds.
 
-    client    None: in this process. "cores": on all cores of this computer. A `distributed.Client`, or the address of a
-              scheduler such as "tcp://10.0.0.9:8786": on a Dask cluster whose workers have this package.
-    progress  whether a line on standard error shows how many seeds are done. The default is True if standard error is a
-              terminal, otherwise False.
+    client    None: in this process. "cores": on all cores of this computer; a number: in so many processes. A
+              `distributed.Client`, or the address of a scheduler such as "tcp://10.0.0.9:8786": on a Dask cluster whose
+              workers have this package.
+    progress  whether a bar on standard error shows how many seeds are done, and the time left. The default is True if
+              standard error is a terminal, otherwise False.
 
     If a worker ends unexpectedly, its seeds are run again, so no result is lost. An exception of the scenario is raised
     here. A scenario for other processes must be a function of a module, and its result must be picklable.
@@ -117,7 +155,15 @@ def sweep(
         if client is None:
             return _here(scenario, wanted, shown)
         if client == CORES:
-            return _on_cores(scenario, wanted, shown)
-        return _on_dask(scenario, wanted, client, shown)
+            return _on_cores(scenario, wanted, None, shown)
+        if isinstance(client, str):
+            if ":" not in client:
+                raise ValueError(f"{WHERE}, and not {client!r}")
+            return _on_dask(scenario, wanted, client, shown)
+        if isinstance(client, ClusterClient):
+            return _on_dask(scenario, wanted, client, shown)
+        if isinstance(client, bool) or not hasattr(client, "__index__"):
+            raise TypeError(f"{WHERE}, and not {type(client).__name__}")
+        return _on_cores(scenario, wanted, in_range("a number of processes", client, 1, MOST_PROCESSES), shown)
     finally:
         shown.end()

@@ -1,24 +1,23 @@
-"""Objects that cannot be copied."""
+"""Objects that the module `copy` and pickle can't copy."""
 from __future__ import annotations
 
 from typing import NoReturn, SupportsIndex
 
 
 class Uncopied:
-    """The base of classes whose objects cannot be copied or pickled. Trying it raises a TypeError that says why."""
+    """The base of classes whose objects the module `copy` and pickle cannot copy: trying it raises a TypeError that
+    says what to do. An attribute that such a class doesn't have cannot be set either."""
 
-    def _uncopied(self, how: str) -> NoReturn:
-        name = type(self).__name__
-        raise TypeError(
-            f"a {name} can't be {how}: the library works on the memory of a Stack where it lies. Make another one by"
-            " Stack(..), in the process that uses it"
-        )
+    __slots__ = ("__weakref__",)
+
+    def _uncopied(self, how: str, instead: str) -> NoReturn:
+        raise TypeError(f"a {type(self).__name__} can't be {how}: {instead}")
 
     def __copy__(self) -> NoReturn:
-        self._uncopied("copied")
+        self._uncopied("copied by the module copy", "a Stack and a Wire have a method copy() of their own")
 
     def __deepcopy__(self, memo: object) -> NoReturn:
-        self._uncopied("copied")
+        self.__copy__()
 
     def __reduce_ex__(self, protocol: SupportsIndex) -> NoReturn:
-        self._uncopied("pickled")
+        self._uncopied("pickled", "make another one by Stack(..), in the process that uses it")

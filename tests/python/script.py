@@ -41,8 +41,8 @@ class Scripted:
     def socket(self):
         def call():
             opened = self.stack.socket()
-            self.sockets[opened.fileno()] = opened
-            return f"ok {opened.fileno()}"
+            self.sockets[opened.descriptor] = opened
+            return f"ok {opened.descriptor}"
 
         self._say("socket", call)
 

@@ -21,7 +21,7 @@ def sends():
 
 def script():
     lines = [f"host {name} --addr {addr} --mtu {mtu}" for name, addr, mtu in HOSTS]
-    lines += ["wire a b c", "loss 20%", "repeat 0.1", "reorder 1/5", "delay 0-3", "seed 7"]
+    lines += ["wire a b c", "loss 20%", "loss 1/2 from b", "repeat 0.1", "reorder 1/5", "delay 0-3", "seed 7"]
     for name, _, _ in HOSTS:
         lines += [f"{name}: socket", f"{name}: bind 3 0.0.0.0 7"]
     for source, to, length in sends():
@@ -68,15 +68,15 @@ def test_the_same_choices(tmp_path, bsdplay):
     for stack in stacks:
         sockets.append(stack.socket())
         sockets[-1].bind(("", 7))
-    wire = bsdudp.Wire(stacks, "0.2", "0.1", "0.2", (0, 3), 7)
-    wire.record()
+    wire = bsdudp.Wire(stacks, "0.2", "0.1", "0.2", (0, 3), 7, str(tmp_path / "mine.pcap"))
+    wire.sender(stacks[1]).loss = "0.5"
     assert len(flights) == ROUNDS
     for (source, to, length), seen in zip(sends(), flights):
         sockets[source].sendto(bytes(at % 256 for at in range(length)), (HOSTS[to][1], 7))
         wire.carry()
         mine = [
-            (HOSTS[it.sender][0], len(it.packet), it.packet.identification, it.due - wire._now)
-            for it in wire._flight
+            (HOSTS[stacks.index(it.sender)][0], len(it.packet), it.packet.identification, it.wait)
+            for it in wire.under_way
         ]
         assert seen == mine
     assert wire.run()
@@ -84,5 +84,4 @@ def test_the_same_choices(tmp_path, bsdplay):
     carried = wire.carried
     assert totals == [carried.sent, carried.lost, carried.repeated, carried.delivered]
     # Each delivered packet arrived once, because no packet was for all hosts.
-    came = [bytes(packet) for _, packet in wire._record]
-    assert sorted(packets_of(tmp_path / "wire.pcap")) == sorted(came)
+    assert sorted(packets_of(tmp_path / "wire.pcap")) == sorted(packets_of(tmp_path / "mine.pcap"))

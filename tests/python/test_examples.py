@@ -45,7 +45,7 @@ def test_example(name):
 @pytest.mark.slow
 @pytest.mark.parametrize("plots", [False, pytest.param(True, marks=pytest.mark.needs("matplotlib"))])
 def test_delivery(plots, tmp_path, monkeypatch):
-    monkeypatch.setenv("SEEDS", "100")
+    monkeypatch.setenv("SEEDS", "15")
     monkeypatch.setenv("MPLCONFIGDIR", str(tmp_path))
     demand(sys.executable, "python/examples/delivery.py", *[tmp_path / "plot.png"] * plots)
     assert (tmp_path / "plot.png").exists() == plots

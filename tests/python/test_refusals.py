@@ -14,10 +14,11 @@ import pytest
 from tests.python.package import bsdudp
 
 
-def refused(number, call, *arguments):
+def refused(number, call, *arguments, text=""):
     with pytest.raises(OSError) as fault:
         call(*arguments)
     assert fault.value.errno == number
+    assert text in fault.value.strerror
     return fault.value
 
 
@@ -55,16 +56,16 @@ def test_nothing_waits(stack):
 
 
 def test_sockets_run_out(stack):
-    assert [stack.socket().fileno() for _ in range(64)] == list(range(3, 67))
+    assert [stack.socket().descriptor for _ in range(64)] == list(range(3, 67))
     refused(errno.EMFILE, stack.socket)
 
 
 def test_bind(stack):
     first, second = stack.socket(), stack.socket()
     first.bind(("", 7))
-    refused(errno.EINVAL, first.bind, ("", 8))
-    refused(errno.EADDRINUSE, second.bind, ("", 7))
-    refused(errno.EADDRNOTAVAIL, second.bind, ("10.0.0.9", 7))
+    refused(errno.EINVAL, first.bind, ("", 8), text="has a local address or port already")
+    refused(errno.EADDRINUSE, second.bind, ("", 7), text="another socket has this address and port")
+    refused(errno.EADDRNOTAVAIL, second.bind, ("10.0.0.9", 7), text="the address is not one of this host")
     second.bind(("", 0))
     assert second.getsockname() == ("0.0.0.0", 1024)
 
@@ -72,7 +73,7 @@ def test_bind(stack):
 def test_connect(stack):
     it = stack.socket()
     refused(errno.ENOTCONN, it.getpeername)
-    refused(errno.EADDRNOTAVAIL, it.connect, ("10.0.0.2", 0))
+    refused(errno.EADDRNOTAVAIL, it.connect, ("10.0.0.2", 0), text="the port to connect to is 0")
     refused(errno.EHOSTUNREACH, it.connect, ("224.0.0.1", 7))
     it.connect(("10.0.0.2", 7))
     assert it.getpeername() == ("10.0.0.2", 7)
@@ -82,13 +83,15 @@ def test_connect(stack):
 def test_send(stack):
     it = stack.socket()
     refused(errno.EDESTADDRREQ, it.send, b"hi")
-    refused(errno.EMSGSIZE, it.sendto, bytes(9217), ("10.0.0.2", 7))
-    refused(errno.EADDRNOTAVAIL, it.sendto, b"hi", ("10.0.0.2", 0))
+    refused(errno.EMSGSIZE, it.sendto, bytes(9217), ("10.0.0.2", 7), text="at most 9,216 bytes, and not 9,217")
+    refused(errno.EADDRNOTAVAIL, it.sendto, b"hi", ("10.0.0.2", 0), text="the port to send to is 0")
     refused(errno.EHOSTUNREACH, it.sendto, b"hi", ("224.0.0.1", 7))
     refused(errno.EACCES, it.sendto, b"hi", ("10.0.0.255", 7))
     it.setsockopt(host.SOL_SOCKET, host.SO_BROADCAST, 1)
     assert it.getsockopt(host.SOL_SOCKET, host.SO_BROADCAST) == 1
     assert it.sendto(b"hi", ("10.0.0.255", 7)) == 2
+    text = "at most 1,472 bytes at an MTU of 1,500, and not 1,473"
+    refused(errno.EMSGSIZE, it.sendto, bytes(1473), ("10.0.0.255", 7), text=text)
     it.connect(("10.0.0.2", 7))
     refused(errno.EISCONN, it.sendto, b"hi", ("10.0.0.2", 7))
     assert it.send(b"hi") == 2
@@ -182,7 +185,7 @@ def test_after_close_and_end(stack):
     it, other = stack.socket(), stack.socket()
     it.close()
     it.close()
-    assert it.fileno() == -1
+    assert it.descriptor == -1
     buffer = bytearray(8)
     calls = [
         lambda who: who.send(b"hi"),
@@ -202,7 +205,7 @@ def test_after_close_and_end(stack):
         refused(errno.EBADF, call, it)
     stack.end()
     stack.end()
-    assert other.fileno() == -1 and repr(other) == "<Socket, closed>"
+    assert other.descriptor == -1 and repr(other) == "<Socket, closed>"
     for call in calls:
         refused(errno.EBADF, call, other)
     assert it.connect_ex(("10.0.0.2", 7)) == errno.EBADF
@@ -217,7 +220,7 @@ def test_closed_descriptor_is_reused(stack):
     first = stack.socket()
     first.close()
     second = stack.socket()
-    assert second.fileno() == 3
+    assert second.descriptor == 3
     refused(errno.EBADF, first.bind, ("", 7))
     first.close()
     second.bind(("", 7))
@@ -225,13 +228,14 @@ def test_closed_descriptor_is_reused(stack):
 
 @pytest.mark.parametrize("make", [copy.copy, copy.deepcopy, pickle.dumps], ids=["copy", "deepcopy", "pickle"])
 def test_no_copies(stack, make):
-    """An object with memory of the library can't be copied: the error names the Stack."""
-    for it in (stack, stack.socket(), bsdudp.Wire([stack])):
-        with pytest.raises(TypeError, match=f"a {type(it).__name__} can't be (copied|pickled): .* Stack"):
+    """The module copy and pickle can't copy an object with memory of the library: the error names the Stack."""
+    wire = bsdudp.Wire([stack])
+    for it in (stack, stack.socket(), wire, wire.sender(stack)):
+        with pytest.raises(TypeError, match=f"a {type(it).__name__} can't be (copied|pickled).*: .* Stack"):
             make(it)
         with pytest.raises(TypeError, match="can't be"):
             make(it if make is copy.copy else [it])
-    assert stack.socket().fileno() == 4
+    assert stack.socket().descriptor == 4
 
 
 def test_what_is_told_can_be_pickled(stack):

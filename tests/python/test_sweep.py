@@ -2,6 +2,7 @@
 import importlib
 import os
 import pathlib
+import re
 import threading
 import time
 
@@ -41,8 +42,32 @@ def test_here():
 
 
 def test_progress(capsys):
-    bsdudp.sweep(squared, range(3), progress=True)
-    assert capsys.readouterr().err.endswith("3 of 3 seeds\n")
+    """A bar that grows, on one line, and is full at the end."""
+    bsdudp.sweep(slow, range(6), progress=True)
+    *before, last = capsys.readouterr().err.split("\r")
+    counts = [line.count("#") for line in before if line]
+    assert counts and counts == sorted(counts) and 0 < counts[0] < 30
+    assert re.fullmatch(r"\[#{30}\] 6 of 6 seeds, 0 s, 0 s left \n", last)
+    bsdudp.sweep(slow, range(2), progress=False)
+    assert capsys.readouterr().err == ""
+
+
+def process(seed):
+    time.sleep(0.02)
+    return os.getpid()
+
+
+def test_processes():
+    assert bsdudp.sweep(lossy_run, range(6), 2) == [lossy_run(seed) for seed in range(6)]
+    assert len(set(bsdudp.sweep(process, range(20), 2))) == 2
+    assert set(bsdudp.sweep(process, range(4), 1)) != {os.getpid()}
+
+
+@pytest.mark.parametrize("client, fault", [("all", ValueError), (0, ValueError), (True, TypeError), (1.5, TypeError)])
+def test_where_it_runs(client, fault):
+    """The error says what `client` may be."""
+    with pytest.raises(fault, match='"cores", a number of processes|a number of processes is 1 to'):
+        bsdudp.sweep(squared, range(3), client)
 
 
 def test_cores(tmp_path, monkeypatch):

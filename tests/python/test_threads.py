@@ -187,7 +187,7 @@ def test_descriptors():
             assert sorted([*ready, *opening], key=id) == sorted(stack._sockets.values(), key=id)
             for one in [*new, *opening]:
                 one.close()
-            assert stack._sockets == ({} if it.fileno() < 0 else {3: it})
+            assert stack._sockets == ({} if it.descriptor < 0 else {3: it})
 
 
 def test_closed_while_it_is_used():
@@ -203,7 +203,7 @@ def test_closed_while_it_is_used():
 
         with contextlib.suppress(OSError):
             at_each_line(lambda: it.bind(("", 7)), close)
-        assert it.fileno() == -1 and new[0].fileno() == 3
+        assert it.descriptor == -1 and new[0].descriptor == 3
         assert new[0].getsockname() == ("0.0.0.0", 0)
 
 
@@ -260,5 +260,5 @@ def test_second_thread():
                 with pytest.raises(RuntimeError, match="another thread"):
                     call()
             assert "another thread" in repr(stack) and "another thread" in repr(it)
-        assert it.fileno() == 3
+        assert it.descriptor == 3
         stack.tick()

@@ -27,6 +27,32 @@ def right(stack: bsdudp.Stack, it: bsdudp.Socket, buffer: bytearray) -> None:
     held: List[bsdudp.UnfinishedDatagram] = stack.unfinished
     total: int = stack.counters["ip.total"]
     results: List[int] = bsdudp.sweep(lambda seed: seed * 2, range(3))
+    results = bsdudp.sweep(lambda seed: seed * 2, range(3), 4)
+    number: int = it.descriptor
+    twin: bsdudp.Stack = stack.copy()
+    copied: bsdudp.Socket = twin.sockets[it.descriptor]
+
+
+def right_of_a_wire(stack: bsdudp.Stack) -> None:
+    wire = bsdudp.Wire([stack], loss=lambda sent: sent.number == 3, pcap="wire.pcap")
+    wire.loss = 0.5
+    wire.loss = bsdudp.Bursts("0.01", 5)
+    wire.sender(stack).delay = (1, 2)
+    wire.on_loss = lambda sent: print(sent.packet)
+    wire.pcap = None
+    wire.advance(500, lambda: None)
+    waits: List[int] = [way.wait for way in wire.under_way]
+    other: bsdudp.Wire = wire.copy()
+    host: bsdudp.Host = bsdudp.Host().copy()
+
+
+def wrong_of_a_wire(stack: bsdudp.Stack, wire: bsdudp.Wire) -> None:
+    wire.losss = 0.5  # type: ignore[attr-defined]
+    wire.stacks = (stack,)  # type: ignore[misc]
+    wire.loss = None  # type: ignore[assignment]
+    wire.on_loss = 3  # type: ignore[assignment]
+    wire.advance(0.5)  # type: ignore[arg-type]
+    stack.socket().descriptor = 3  # type: ignore[misc]
 
 
 def right_of_a_host(host: bsdudp.Host) -> None:
@@ -59,5 +85,5 @@ def wrong(stack: bsdudp.Stack, it: bsdudp.Socket) -> None:
     bsdudp.Stack(mtu="1500")  # type: ignore[arg-type]
     bsdudp.Wire([stack], delay=3)  # type: ignore[arg-type]
     bsdudp.Wire([stack], loss=None)  # type: ignore[arg-type]
-    bsdudp.sweep(lambda seed: seed, range(3), client=7)  # type: ignore[arg-type]
+    bsdudp.sweep(lambda seed: seed, range(3), client=0.7)  # type: ignore[arg-type]
     text: str = it.recv()  # type: ignore[assignment]
