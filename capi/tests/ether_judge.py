@@ -15,7 +15,9 @@ import bsdudp
 
 OWN_IP, OWN_MAC, ALL, NOBODY = "10.0.0.1", "02:00:00:00:00:01", "ff:ff:ff:ff:ff:ff", "00:00:00:00:00:00"
 TABLE, HELD, TRIES, TICKS_APART, KEPT = 32, 8, 5, 3, 2400
+POLLS = 2  # RFC 1122, section 2.3.2.1
 PROBES, PROBES_APART, ANNOUNCEMENTS_APART, UNREACHABLE_A_TICK = 3, 3, 5, 10  # RFC 5227, in ticks; RFC 1812
+DEFENCES_APART = 2 * 10 + 1  # RFC 5227: ten seconds or more, so 21 ticks, because the first one may follow at once
 ECHO, CLOSED = 7, 9
 captured = []
 
@@ -70,8 +72,8 @@ def own_reply(n):
     return bytes(Ether(dst=mac_of(n), src=OWN_MAC) / reply)
 
 
-def own_request(n):
-    return bytes(Ether(dst=ALL, src=OWN_MAC) / ARP(op=1, hwsrc=OWN_MAC, psrc=OWN_IP, hwdst=NOBODY, pdst=ip_of(n)))
+def own_request(n, to=ALL):
+    return bytes(Ether(dst=to, src=OWN_MAC) / ARP(op=1, hwsrc=OWN_MAC, psrc=OWN_IP, hwdst=NOBODY, pdst=ip_of(n)))
 
 
 def knows(it, *who):
@@ -149,6 +151,42 @@ def claims():
     it.tick(100)
     it.receive(asks(2))
     check(given(it) == [], "a host without an address sends")
+
+
+def defends():
+    """A host defends its address at most once in ten seconds, and then again (RFC 5227, section 2.4 (c))."""
+    it, _ = host()
+    rival = Ether(dst=ALL, src=mac_of(6)) / ARP(op=2, hwsrc=mac_of(6), psrc=OWN_IP, hwdst=NOBODY, pdst=OWN_IP)
+    at = []
+    for tick in range(3 * DEFENCES_APART):
+        it.receive(rival)
+        at += [tick for frame in given(it) if frame == own_claim(OWN_IP)]
+        it.tick()
+    check(at == [0, DEFENCES_APART, 2 * DEFENCES_APART], f"the address is defended at the ticks {at}")
+    check(it.uses_address and it.tallies.conflicts == 3 * DEFENCES_APART, "a conflict isn't counted")
+
+
+def polls():
+    """Before the entry of a neighbour expires the host sends it two requests, to its hardware address (RFC 1122,
+    section 2.3.2.1). A reply renews the entry."""
+    it, _ = host()
+    knows(it, 2)
+    last = KEPT - POLLS * TICKS_APART
+    for is_answered in (True, False):
+        at = []
+        for tick in range(KEPT + 1):
+            frames = given(it)
+            check(set(frames) <= {own_request(2, mac_of(2))}, "a request for a known neighbour isn't sent to it")
+            at += [tick] * len(frames)
+            if is_answered and frames:
+                break
+            it.tick()
+        wanted = [last] if is_answered else [last, last + TICKS_APART]
+        check(at == wanted, f"requests for a known neighbour at the ticks {at}")
+        if is_answered:
+            it.receive(replies(2))
+            check(it.neighbours == [bsdudp.Neighbour(ip_of(2), mac_of(2), KEPT, 0)], "a reply doesn't renew the entry")
+    check(it.neighbours == [], f"a neighbour that didn't reply is kept: {it.neighbours}")
 
 
 def martians():
@@ -403,7 +441,8 @@ def lossy():
 
 
 def main(capture):
-    for tried in (arp, claims, martians, held, ways, ping, unreachable, reported, truncations, hundred, flood, lossy):
+    arps = (arp, claims, defends, polls, martians, held, ways)
+    for tried in (*arps, ping, unreachable, reported, truncations, hundred, flood, lossy):
         try:
             tried()
         except AssertionError as fault:

@@ -20,7 +20,7 @@ pub use chances::{Chances, Fate, NO_CHANCES};
 pub use ether_host::{AddressState, Link, Mac, Neighbour, NetFault, Tallies};
 pub use hand::UnderWay;
 pub use laws::{hosts_on_a_segment, hosts_on_an_ether_segment};
-pub use links::FRAMES;
+pub use links::{FRAMES, numbers};
 pub use segment::{JoinFault, MAX_HOSTS, Segment};
 pub use tally::Tally;
 pub use watch::Watch;

@@ -6,6 +6,7 @@ ghost use Rattle.ether_host.specs.View.{halves};
 ghost use Rattle.segment.specs.Flying.{sent_by};
 ghost use Rattle.segment.specs.Frames.{AreFramesCollected, AreFramesDelivered, ReceiveEach, frames_below, frames_given, frames_received, frames_to, gives_short, hosts_of};
 ghost use Rattle.segment.specs.Segment.{AtEach};
+ghost use Rattle.segment.specs.declared.segment.TheConstants.{MAX_HOSTS};
 ghost use Rattle.segment.specs.Tallies.{with_received};
 ghost use Rattle.segment.specs.Inside.{sent_after, flying, random_after, tallies_after, under_way, view};
 
@@ -22,6 +23,12 @@ use net_stack::Stack;
 
 /// The most frames that a host gives in a carry. If it has more, they wait for the next one.
 pub const FRAMES: u32 = 256;
+
+/// Lists the limits of a segment next to their values, which are this project's own. The function does nothing; its
+/// contract is the list.
+pub const fn numbers()
+    ensures { (FRAMES ≡ 256) × (MAX_HOSTS ≡ 64) }
+{}
 
 impl Frame {
     /// Takes the next frame of this host. Returns whether it has one.
