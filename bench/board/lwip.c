@@ -1,10 +1,15 @@
 /* lwIP's echo by its raw interface: a callback sends what arrived, as lwIP's own echo does. With COPIES the bytes are
    copied out of the packet and into another, as sockets copy them. A packet from the link is copied in, and one for it
-   is copied out, as in ours. With ETHER packets are in frames, with lwIP's etharp. */
+   is copied out, as in ours. With ETHER packets are in frames, with lwIP's etharp. With SOCKETS it's an echo by lwIP's
+   sockets, which need an operating system: it's linked without one to see its size, and can't run. */
 #include "lwip/etharp.h"
 #include "lwip/init.h"
 #include "lwip/netif.h"
 #include "lwip/udp.h"
+#ifdef SOCKETS
+#include "lwip/sockets.h"
+#include "lwip/tcpip.h"
+#endif
 
 #include "echo.h"
 
@@ -54,6 +59,31 @@ static err_t link_of(struct netif *netif)
 #define input_of_link ip_input
 #endif
 
+#ifdef SOCKETS
+static int fd;
+
+static void turn(void)
+{
+    static uint8_t buffer[LONGEST];
+    struct sockaddr_in from;
+    socklen_t size = sizeof from;
+    struct pbuf *bytes = pbuf_alloc(PBUF_RAW, (u16_t)lengths[0], PBUF_POOL);
+    ssize_t len;
+    pbuf_take(bytes, packets[0], (u16_t)lengths[0]);
+    interface.input(bytes, &interface);
+    while ((len = lwip_recvfrom(fd, buffer, sizeof buffer, 0, (struct sockaddr *)&from, &size)) >= 0)
+        lwip_sendto(fd, buffer, (size_t)len, 0, (struct sockaddr *)&from, size);
+}
+
+static void begin(void)
+{
+    struct sockaddr_in port = {sizeof port, AF_INET, PP_HTONS(7), {0}, {0}};
+    fd = lwip_socket(AF_INET, SOCK_DGRAM, 0);
+    lwip_bind(fd, (struct sockaddr *)&port, sizeof port);
+}
+#undef input_of_link
+#define input_of_link tcpip_input
+#else
 static void echo(void *of, struct udp_pcb *pcb, struct pbuf *bytes, const ip_addr_t *from, u16_t port)
 {
 #ifdef COPIES
@@ -86,20 +116,29 @@ static void turn(void)
     netif_poll(&interface);
 }
 
+static void begin(void)
+{
+    struct udp_pcb *pcb = udp_new();
+    udp_bind(pcb, IP_ADDR_ANY, 7);
+    udp_recv(pcb, echo, NULL);
+}
+#endif
+
 int main(void)
 {
     ip4_addr_t addr, mask, gateway;
-    struct udp_pcb *pcb;
     IP4_ADDR(&addr, 10, 0, 0, 1);
     IP4_ADDR(&mask, 255, 255, 255, 0);
     IP4_ADDR(&gateway, 10, 0, 0, 2);
+#ifdef SOCKETS
+    tcpip_init(NULL, NULL);
+#else
     lwip_init();
+#endif
     netif_add(&interface, &addr, &mask, &gateway, NULL, link_of, input_of_link);
     netif_set_default(&interface);
     netif_set_up(&interface);
-    pcb = udp_new();
-    udp_bind(pcb, IP_ADDR_ANY, 7);
-    udp_recv(pcb, echo, NULL);
+    begin();
     measure_all();
     return 0;
 }

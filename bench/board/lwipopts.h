@@ -3,9 +3,27 @@
 #ifndef BSDUDP_BOARD_LWIPOPTS_H
 #define BSDUDP_BOARD_LWIPOPTS_H
 
+#define LWIP_NOASSERT 1
+
+/* Its own sockets, for the row that isn't run, need a thread for the stack. */
+#ifdef SOCKETS
+#define NO_SYS 0
+#define SYS_LIGHTWEIGHT_PROT 1
+#define LWIP_TCPIP_CORE_LOCKING 1
+#define LWIP_SOCKET 1
+#define LWIP_NETCONN 1
+#define LWIP_SOCKET_SELECT 0
+#define LWIP_SOCKET_POLL 0
+#define LWIP_COMPAT_SOCKETS 0
+#define LWIP_TIMEVAL_PRIVATE 0
+#define LWIP_ERRNO_STDINCLUDE 1
+#include <sys/time.h>
+#else
 #define NO_SYS 1
 #define SYS_LIGHTWEIGHT_PROT 0
-#define LWIP_NOASSERT 1
+#define LWIP_NETCONN 0
+#define LWIP_SOCKET 0
+#endif
 
 /* Options that our bare stack lacks and our host on an Ethernet has: the same numbers of neighbours and of waiting
    packets. */
@@ -27,8 +45,6 @@
 #define LWIP_IPV6 0
 #define LWIP_TCP 0
 #define LWIP_RAW 0
-#define LWIP_NETCONN 0
-#define LWIP_SOCKET 0
 #define LWIP_NETIF_API 0
 #define IP_FORWARD 0
 

@@ -63,19 +63,40 @@ board_ours() { # WORK NAME HEADERS LIBRARY FLAG..
     board_row "$work" "$name" "$(bytes_of "$4" | cut -d' ' -f1)" "$work/bench.elf"
 }
 
+# Compiles files of lwIP. The objects' names are in `objects`.
+lwip_objects() { # WORK FLAGS FILE..
+    local work=$1 flags=($2) file
+    objects=()
+    for file in "${@:3}"; do
+        objects+=("$work/lwip_$(basename "$file").o")
+        board_object "$LWIP/src/core/$file.c" "${objects[-1]}" "${flags[@]}"
+    done
+}
+
+lwip_core=(def inet_chksum init ip mem memp netif pbuf stats timeouts udp
+    ipv4/{ip4,ip4_addr,ip4_frag,icmp,etharp} ../netif/ethernet)
+
 # lwIP's two echoes.
 board_lwip() { # WORK FLAG..
-    local work=$1 core=$LWIP/src/core file objects=() how=("-I$LWIP/src/include" "${@:2}") name
-    for file in def inet_chksum init ip mem memp netif pbuf stats timeouts udp \
-        ipv4/{ip4,ip4_addr,ip4_frag,icmp,etharp} ../netif/ethernet; do
-        objects+=("$work/lwip_$(basename "$file").o")
-        board_object "$core/$file.c" "${objects[-1]}" "${how[@]}"
-    done
+    local work=$1 objects how=("-I$LWIP/src/include" "${@:2}") name
+    lwip_objects "$work" "${how[*]}" "${lwip_core[@]}"
     for name in "" COPIES; do
         board_object "$bench/board/lwip.c" "$work/lwip.o" "${how[@]}" ${name:+-D$name}
         board_program "$work" "$work/lwip.elf" "$work/lwip.o" "${objects[@]}"
         board_row "$work" "lwIP 2.1.3, \`-Os\`${name:+, with two copies more}" - "$work/lwip.elf"
     done
+}
+
+# The size of lwIP's echo by its own sockets. They need an operating system, whose functions are missing, so it's only
+# linked.
+board_lwip_sockets() { # WORK
+    local work=$1 objects how=("-I$LWIP/src/include" -DSOCKETS) text data bss text0 data0 bss0
+    lwip_objects "$work" "${how[*]}" "${lwip_core[@]}" sys ../api/{api_lib,api_msg,err,netbuf,sockets,tcpip}
+    board_object "$bench/board/lwip.c" "$work/lwip.o" "${how[@]}"
+    board_program "$work" "$work/lwip.elf" "$work/lwip.o" "${objects[@]}" -Wl,--unresolved-symbols=ignore-all
+    read -r text data bss < <(bytes_of "$work/lwip.elf")
+    read -r text0 data0 bss0 < <(bytes_of "$work/nothing.elf")
+    table_row "lwIP 2.1.3, \`-Os\`, by its sockets" - $((text - text0)) $((data - data0)) $((bss - bss0)) - - - -
 }
 
 # The library of portable/core for a processor, which is made if it isn't there.
@@ -103,6 +124,7 @@ board_echoes() { # WORK
     fi
     if lwip_sources "$work"; then
         board_lwip "$work"
+        board_lwip_sockets "$work"
     else
         echo "lwIP's sources aren't available by apt-get: its rows are skipped"
     fi
