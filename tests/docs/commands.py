@@ -70,9 +70,11 @@ ROWS = {
     "cc -std=gnu99 device_tap.c *": Row("device", 'block("cd capi/examples")'),
     "./device tap0 ../../LICENSE &": Row("device", 'block("cd capi/examples")'),
     # the programs
-    "tools/sendto *": Row("made_pages", '"tools/sendto", page'),
+    "cd crates/net_stack": Row("definitions", "crates/net_stack"),
+    "cd crates/ip_out": Row("definitions", "crates/ip_out"),
+    "rt lemma StepBy": Row("definitions", "StepBy"),
+    "rt lemma head_fault": Row("definitions", "head_fault"),
     "tools/callers write": Row("crates", "tools/callers"),
-    "tools/walk --list": Row("numbers", "tools/walk"),
     "tools/lists write": Row("lists", "tools/lists"),
     ".ci/wrong-bodies --gate *": Row("run", ".ci/wrong-bodies --gate"),
 }

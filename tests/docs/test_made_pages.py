@@ -1,5 +1,4 @@
-"""The pages that programs write: manual pages, which groff formats without a warning, and the contract of `sendto` with
-all its definitions."""
+"""The manual pages, which scripts write: groff formats them without a warning."""
 import re
 import subprocess
 import sys
@@ -46,12 +45,3 @@ def test_groff(page, manual):
     done = subprocess.run(words, capture_output=True, text=True, check=False)
     said = (done.stdout + done.stderr).replace(f"{manual}/", "")
     assert done.returncode == 0 and not said, f"status {done.returncode}: {said}"
-
-
-def test_contract_of_sendto(tmp_path):
-    """`tools/sendto FILE` can write its page: each word of the contract links to a definition."""
-    page = tmp_path / "sendto.md"
-    words = [sys.executable, TOP / "tools/sendto", page]
-    done = subprocess.run(words, capture_output=True, text=True, check=False)
-    assert done.returncode == 0 and not done.stdout + done.stderr, done.stdout + done.stderr
-    assert "## Index" in page.read_text(encoding="utf-8")

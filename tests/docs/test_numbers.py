@@ -1,5 +1,4 @@
 """The numbers on pages that a program can count or that two tables share, and the chart that is drawn from one."""
-import functools
 import re
 import subprocess
 import sys
@@ -59,13 +58,6 @@ def lines_of_definitions() -> int:
     return sum(len(path.read_text(encoding="utf-8").splitlines()) for path in SPECS.rglob("*.antt"))
 
 
-@functools.lru_cache(maxsize=None)
-def walk() -> list[int]:
-    """Returns the numbers of functions, files and crates on a packet's path from `rx` to the queue of a socket."""
-    said = subprocess.run([TOP / "tools/walk"], check=True, capture_output=True, text=True).stdout
-    return [number(it) for it in re.findall(r"\d+", said)]
-
-
 # The text of a page, and the right number. After `about` it may be rounded to a hundredth.
 COUNTED = [
     ("README.md", "functions in N crates are proved", lambda: len(crates.uses())),
@@ -80,9 +72,6 @@ COUNTED = [
     ),
     ("README.md", "lwIP takes N as Debian", lambda: cell_of(PERFORMANCE, *BESIDE, "lwIP `-O2`", 1)),
     ("README.md", "and N at its best", lambda: cell_of(PERFORMANCE, *BESIDE, "the same, pools for its heap", 1)),
-    ("docs/maintain/architecture.md", "passes through N functions in", lambda: walk()[0]),
-    ("docs/maintain/architecture.md", "functions in N files of", lambda: walk()[1]),
-    ("docs/maintain/architecture.md", "files of N crates", lambda: walk()[2]),
     ("docs/proved.md", "`bsdudp_core_sendto` and N more", exports),
     ("docs/security.md", "take at most N bytes each", deepest),
 ]
@@ -111,13 +100,6 @@ def test_lengths_of_files():
                 if int(told) != length:
                     faults.append(Fault(place, f"the lines of {name}", str(length), told))
     none_of(faults)
-
-
-def test_walk_is_listed():
-    """`tools/walk --list` prints the functions that it counts, from `rx` on."""
-    said = subprocess.run([TOP / "tools/walk", "--list"], check=True, capture_output=True, text=True).stdout
-    listed = re.findall(r"(?m)^ *\d+ (\w+(?:::\w+)+) \(\S+\)$", said)
-    assert listed[0] == "net_stack::Stack::rx" and len(listed) == walk()[0]
 
 
 # ---- the tables of docs/performance.md -----------------------------------------------------------------------------
