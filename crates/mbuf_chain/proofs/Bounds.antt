@@ -4,7 +4,8 @@ use Rattle.std.specs.Option.{IfSome}
 use Rattle.mbuf_pool.specs.Cells.{IsLink}
 use Rattle.mbuf_pool.specs.Store.{StoreView, mbuf_head, is_out}
 use Rattle.mbuf_chain.specs.declared.place.Place.{Place}
-use Rattle.mbuf_chain.specs.Chain.{ChainView, chain_of, IsLive, IsPlace}
+use Rattle.mbuf_chain.specs.Chain.{ChainView, chain_of, IsLive}
+use Rattle.mbuf_chain.specs.Inside.Access.{HasMbuf}
 use Rattle.mbuf_chain.specs.Inside.Cells.{pool_of, IsPool, weigh, is_at, read_chain}
 use Rattle.mbuf_chain.specs.Owners.{times_among}
 use Rattle.mbuf_chain.specs.Frames.{Fits, IsBounded}
@@ -22,14 +23,14 @@ get_index [] i h = absurd (omega arith)
 get_index (x ∷ xs) zero h = refl
 get_index (x ∷ xs) (suc i) h = get_index xs i (omega arith)
 
-fits : (s : StoreView) (c : ℕ) (at : Place) → IsPool s → IsLive (pool_of s) c → IsPlace (chain_of (pool_of s) c) at
+fits : (s : StoreView) (c : ℕ) (at : Place) → HasMbuf s c at
     → Fits (pool_of s) (chain_of (pool_of s) c) at.index
-fits s c at ok live place =
-    let r = rooms_at s c at (mbuf_head s at.cell) ok live place refl in
+fits s c at has =
+    let r = rooms_at {h = mbuf_head s at.cell} has refl in
     record {
       low = omega (arith, r.low, r.low_is, r.start);
       high = omega (arith, r.high, r.high_is, r.start, r.len);
-      known = cluster_known s c at ok live place;
+      known = cluster_known has;
     }
 
 -- how often a number is in a list of mbufs
@@ -67,11 +68,14 @@ bounded s ok = record {
   once = λ c k live. once s c k ok live;
   apart = λ c d k live_c live_d ne. apart s c d k ok live_c live_d ne;
   fits = λ c i live lt.
-      fits s c (record { index = i; cell = slice_index (chain_of (pool_of s) c).cells i }) ok live
-      (record {
-        within = lt;
-        cell = get_index (chain_of (pool_of s) c).cells i
-            (omega (arith, lt, (live_cells s c ok live).same));
+      fits s c (record { index = i; cell = slice_index (chain_of (pool_of s) c).cells i }) (record {
+        pool = ok;
+        live = live;
+        place = record {
+          within = lt;
+          cell = get_index (chain_of (pool_of s) c).cells i
+              (omega (arith, lt, (live_cells s c ok live).same));
+        };
       });
   few = omega (arith, held_is s ok.0 ok.1, few_out s);
   small = ok.1.store.mbufs.1;

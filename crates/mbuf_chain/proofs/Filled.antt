@@ -4,8 +4,9 @@ use Rattle.std.proofs.lemmas.Option.{none-some}
 use Rattle.mbuf_pool.specs.Cells.{Head, over}
 use Rattle.mbuf_pool.specs.Store.{StoreView, mbuf_of, mbuf_head, IsStore}
 use Rattle.mbuf_chain.specs.declared.place.Place.{Place}
-use Rattle.mbuf_chain.specs.Chain.{Entry, ChainView, chain_of, entry_of, IsLive, IsPlace, IsUnshared, with_chain, Adds}
+use Rattle.mbuf_chain.specs.Chain.{Entry, ChainView, chain_of, IsPlace, with_chain, Adds}
 use Rattle.mbuf_chain.specs.Steps.{one_mbuf, with_entry}
+use Rattle.mbuf_chain.specs.Inside.Access.{CanWrite}
 use Rattle.mbuf_chain.specs.Inside.Cells.{place_bytes, entry_over, pool_of, IsPool, Taken, only_head, start_of, head_room_low, room_high, WritesPlace}
 use Rattle.mbuf_chain.proofs.Made.{new_plain, plain_made, low_for}
 use Rattle.mbuf_chain.proofs.Bytes.{run_written}
@@ -18,10 +19,7 @@ only i = record { index = 0; cell = i }
 
 -- what the write needs, and the pool after it
 pub record Blank (s t : StoreView) (i : ℕ) (header : Bool) (start : ℕ) (ws : List ℕ) : Type 0 where
-  pub pool : IsPool t
-  pub live : IsLive (pool_of t) i
-  pub place : IsPlace (chain_of (pool_of t) i) (only i)
-  pub unshared : IsUnshared (pool_of t) (entry_of (chain_of (pool_of t) i) 0)
+  pub can : CanWrite t i (only i)
   pub cluster : None ≡ (mbuf_head t i).cluster
   pub low : head_room_low (mbuf_head t i) ≤ start
   pub high : start + length ws ≤ room_high (mbuf_head t i)
@@ -39,12 +37,16 @@ blank s t i header start ws pool got store low high =
     let shows = new_entry (pool_of s) (pool_of t) i 0 header old m.adds refl in
     let long : length (mbuf_of t i).bytes ≡ 128 = store.mbuf_bytes i n.out in
     record {
-      pool = m.pool;
-      live = live_adds m.adds;
-      place =
-          subst (λ (v : ChainView). IsPlace v (only i)) (sym (shown_adds m.adds))
-          (record { within = omega arith; cell = refl });
-      unshared = λ c is. absurd (none-some c (ap (λ (e : Entry). e.cluster) (sym shows) ∙ is));
+      can = record {
+        place = record {
+          pool = m.pool;
+          live = live_adds m.adds;
+          place =
+              subst (λ (v : ChainView). IsPlace v (only i)) (sym (shown_adds m.adds))
+              (record { within = omega arith; cell = refl });
+        };
+        unshared = λ c is. absurd (none-some c (ap (λ (e : Entry). e.cluster) (sym shows) ∙ is));
+      };
       cluster = ap (λ (h : Head). h.cluster) (sym n.head);
       low = omega (arith, low, ap head_room_low n.head, low_for header start (length ws));
       high = omega (arith, high, ap room_high n.head);

@@ -5,8 +5,9 @@ use Rattle.std.proofs.lemmas.List.Sums.{sum_by-cons}
 use Rattle.std.proofs.lemmas.Option.{same_Some, slice_get_within}
 use Rattle.mbuf_pool.specs.Cells.{Head, over}
 use Rattle.mbuf_pool.specs.Store.{StoreView, ClusterView, IsStore, TakesCluster, cluster_of, free_cluster, mbuf_head}
-use Rattle.mbuf_chain.specs.Chain.{Entry, Front, ChainView, IsLive, IsPlace, IsUnshared, Adds, chain_of, entry_of, references, refers, with_chain}
+use Rattle.mbuf_chain.specs.Chain.{Entry, Front, ChainView, IsPlace, IsUnshared, Adds, chain_of, references, refers, with_chain}
 use Rattle.mbuf_chain.specs.Steps.{one_mbuf, with_entry}
+use Rattle.mbuf_chain.specs.Inside.Access.{CanWrite}
 use Rattle.mbuf_chain.specs.Inside.Cells.{IsPool, Taken, WritesPlace, entry_from, entry_over, front_of, only_head, place_bytes, pool_of, room_high, head_room_low}
 use Rattle.mbuf_chain.proofs.Bytes.{run_written}
 use Rattle.mbuf_chain.proofs.Filled.{only}
@@ -36,10 +37,7 @@ made s t u i d header start len pool got_cluster got store high =
 
 -- what the write needs, and the pool after it
 pub record Blank (s u : StoreView) (i d : ℕ) (header : Bool) (start : ℕ) (ws : List ℕ) : Type 0 where
-  pub pool : IsPool u
-  pub live : IsLive (pool_of u) i
-  pub place : IsPlace (chain_of (pool_of u) i) (only i)
-  pub unshared : IsUnshared (pool_of u) (entry_of (chain_of (pool_of u) i) 0)
+  pub can : CanWrite u i (only i)
   pub cluster : Some d ≡ (mbuf_head u i).cluster
   pub low : head_room_low (mbuf_head u i) ≤ start
   pub high : start + length ws ≤ room_high (mbuf_head u i)
@@ -70,14 +68,18 @@ blank s t u i d header start ws pool got_cluster none got store high =
       ap (λ (b : Bool). cond {A = ℕ} b 1 0) (eq-eqb d d refl),
     ) in
     record {
-      pool = m.pool;
-      live = live_adds m.adds;
-      place =
-          subst (λ (v : ChainView). IsPlace v (only i)) (sym (shown_adds m.adds))
-          (record { within = omega arith; cell = refl });
-      unshared =
-          subst (IsUnshared (pool_of u)) (sym shows)
-          (λ k is. subst (λ (j : ℕ). references (pool_of u) j ≡ 1) (same_Some d k is) one);
+      can = record {
+        place = record {
+          pool = m.pool;
+          live = live_adds m.adds;
+          place =
+              subst (λ (v : ChainView). IsPlace v (only i)) (sym (shown_adds m.adds))
+              (record { within = omega arith; cell = refl });
+        };
+        unshared =
+            subst (IsUnshared (pool_of u)) (sym shows)
+            (λ k is. subst (λ (j : ℕ). references (pool_of u) j ≡ 1) (same_Some d k is) one);
+      };
       cluster = ap (λ (h : Head). h.cluster) (sym n.head);
       low = omega (arith, ap head_room_low n.head);
       high = omega (arith, high, ap room_high n.head);

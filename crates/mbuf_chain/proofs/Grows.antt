@@ -4,9 +4,10 @@ use Rattle.std.proofs.lemmas.Bool.{cases_eq, eq-eqb, ne_eqb}
 use Rattle.mbuf_pool.specs.Cells.{Head, PacketHeader}
 use Rattle.mbuf_pool.specs.Store.{StoreView, mbuf_head, is_out}
 use Rattle.mbuf_chain.specs.declared.place.Place.{Place}
-use Rattle.mbuf_chain.specs.Chain.{Entry, chain_of, IsLive, IsPlace, with_chain, entry_of, room_start, room_end, leading_space, trailing_space}
+use Rattle.mbuf_chain.specs.Chain.{Entry, chain_of, with_chain, entry_of, room_start, room_end, leading_space, trailing_space}
 use Rattle.mbuf_chain.specs.Steps.{with_entry, with_front, with_back}
-use Rattle.mbuf_chain.specs.Inside.Cells.{weigh, one, entry_from, IsFollower, AllFollow, IsChain, pool_of, IsPool, head_room_low, room_high, with_segment, WritesPlace}
+use Rattle.mbuf_chain.specs.Inside.Access.{HasMbuf, Written}
+use Rattle.mbuf_chain.specs.Inside.Cells.{weigh, one, entry_from, IsFollower, AllFollow, IsChain, pool_of, head_room_low, room_high, with_segment}
 use Rattle.mbuf_chain.proofs.Focused.{open_on, enter}
 use Rattle.mbuf_chain.proofs.Heads.{shown_at}
 use Rattle.mbuf_chain.proofs.Places.{header_is}
@@ -23,12 +24,11 @@ pub record FitsAfter (s : StoreView) (at : Place) (h : Head) (n : ℕ) : Type 0 
   pub high : h.start + h.len + n ≤ room_high (mbuf_head s at.cell)
   pub small : room_high (mbuf_head s at.cell) ≤ 2048
 
-pub fits_after : {s : StoreView} (c : ℕ) {n : ℕ} {at : Place} {h : Head} → IsPool s → IsLive (pool_of s) c
-    → IsPlace (chain_of (pool_of s) c) at → h ≡ mbuf_head s at.cell
+pub fits_after : {s : StoreView} {c n : ℕ} {at : Place} {h : Head} → HasMbuf s c at → h ≡ mbuf_head s at.cell
     → (entry_of (chain_of (pool_of s) c) at.index).start + length (entry_of (chain_of (pool_of s) c) at.index).bytes + n
     ≤ room_end (entry_of (chain_of (pool_of s) c) at.index) → FitsAfter s at h n
-fits_after {s} c {n} {at} {h} pool live place e fits =
-    let k = shown_at s c at pool live place in
+fits_after {s} {c} {n} {at} {h} has e fits =
+    let k = shown_at has in
     record {
       out = k.out;
       low = omega (arith, k.fit.low, ap (λ (y : Head). y.start) e);
@@ -46,8 +46,7 @@ fits_after {s} c {n} {at} {h} pool live place e fits =
     }
 
 pub record ReadyAfter (s t : StoreView) (c n : ℕ) (at : Place) (h : Head) (ws : List ℕ) : Type 0 where
-  pub live : IsLive (pool_of t) c
-  pub place : IsPlace (chain_of (pool_of t) c) at
+  pub place : HasMbuf t c at
   pub low : head_room_low (mbuf_head t at.cell) ≤ h.start
   pub high : h.start + (h.len + n) ≤ room_high (mbuf_head t at.cell)
   pub done : (u : StoreView) → pool_of u
@@ -56,31 +55,30 @@ pub record ReadyAfter (s t : StoreView) (c n : ℕ) (at : Place) (h : Head) (ws 
       → pool_of u ≡ with_chain (pool_of s) c
       (with_entry (chain_of (pool_of s) c) at.index (with_back (entry_of (chain_of (pool_of s) c) at.index) ws))
 
-pub ready_after : {s t : StoreView} (c : ℕ) {n : ℕ} {at : Place} {h : Head} {ws : List ℕ} → IsPool s
-    → IsLive (pool_of s) c → IsPlace (chain_of (pool_of s) c) at → h ≡ mbuf_head s at.cell
+pub ready_after : {s t : StoreView} {c n : ℕ} {at : Place} {h : Head} {ws : List ℕ} → HasMbuf s c at
+    → h ≡ mbuf_head s at.cell
     → (entry_of (chain_of (pool_of s) c) at.index).start + length (entry_of (chain_of (pool_of s) c) at.index).bytes + n
     ≤ room_end (entry_of (chain_of (pool_of s) c) at.index) → n ≡ length ws
-    → WritesPlace s t c at (h.start + h.len) ws → ReadyAfter s t c n at h ws
-ready_after {s} {t} c {n} {at} {h} {ws} pool live place e fits count w =
+    → Written s t c at (h.start + h.len) ws → ReadyAfter s t c n at h ws
+ready_after {s} {t} {c} {n} {at} {h} {ws} has e fits count w =
     subst (λ (y : Head). ReadyAfter s t c n at y ws) (sym e)
-    (go (subst (λ (y : Head). WritesPlace s t c at (y.start + y.len) ws) e w)
-    (fits_after c pool live place refl fits))
+    (go (subst (λ (y : Head). Written s t c at (y.start + y.len) ws) e w)
+    (fits_after has refl fits))
   where
-    go : WritesPlace s t c at ((mbuf_head s at.cell).start + (mbuf_head s at.cell).len) ws
+    go : Written s t c at ((mbuf_head s at.cell).start + (mbuf_head s at.cell).len) ws
         → FitsAfter s at (mbuf_head s at.cell) n → ReadyAfter s t c n at (mbuf_head s at.cell) ws
     go w' f =
-        let k = shown_at s c at pool live place in
+        let k = shown_at has in
         let g =
-        grown s t c ((mbuf_head s at.cell).start + (mbuf_head s at.cell).len) ws at pool live place w'
+        grown s t c ((mbuf_head s at.cell).start + (mbuf_head s at.cell).len) ws at has w'
         (omega (arith, f.high, count)) (inl (omega arith)) in
         record {
-          live = g.live;
           place = g.place;
           low = omega (arith, ap head_room_low g.head, k.fit.low);
           high = omega (arith, ap room_high g.head, f.high);
           done =
               λ u change. grown_is s t u c at _ _ g.same change
-              (grown_back s t c n ws at k w' count (omega (arith, f.high, count)));
+              (grown_back s t c n ws at k w'.writes count (omega (arith, f.high, count)));
         }
 
 -- ---- bytes added before the data
@@ -99,20 +97,19 @@ follows s l i h lt within = go l i h lt within
     go (x ∷ xs) zero g p q = absurd (omega arith)
     go (x ∷ xs) (suc j) g p q = inside xs j g.1 (omega arith)
 
-pub low_seen : (s : StoreView) (c : ℕ) (at : Place) → IsPool s → IsLive (pool_of s) c
-    → IsPlace (chain_of (pool_of s) c) at
+pub low_seen : {s : StoreView} {c : ℕ} {at : Place} → HasMbuf s c at
     → head_room_low (mbuf_head s at.cell) ≡ room_start (chain_of (pool_of s) c) at.index
-low_seen s c at pool live place =
-    let k = shown_at s c at pool live place in
-    let o = open_on s c pool live in
-    let e = enter s c at o.at place in
+low_seen {s} {c} {at} has =
+    let k = shown_at has in
+    let o = open_on s c has.pool has.live in
+    let e = enter s c at o.at has.place in
     ap (λ (y : Entry). cond {A = ℕ} (is_some y.cluster) 0 (cond (is_some (mbuf_head s at.cell).packet) 28 20))
     (sym k.entry)
     ∙ ap (cond (is_some (entry_of (chain_of (pool_of s) c) at.index).cluster) 0) (elim (cases_eq at.index 0) [
       | inl zero_is ↦ ap (λ (b : Bool). cond {A = ℕ} b 28 20)
           (ap (λ (j : ℕ). is_some (mbuf_head s j).packet)
           (sym e.cell ∙ ap (slice_index o.at.cells) zero_is ∙ o.at.first)
-          ∙ header_is s c pool live)
+          ∙ header_is s c has.pool has.live)
           ∙ sym (ap (λ (b : Bool). cond (chain_of (pool_of s) c).front.header (cond {A = ℕ} b 28 20) 20)
           (eq-eqb at.index 0 zero_is))
       | inr ne ↦ ap (λ (p : Option PacketHeader). cond {A = ℕ} (is_some p) 28 20)
@@ -134,13 +131,12 @@ pub record FitsBefore (s : StoreView) (at : Place) (h : Head) (n : ℕ) : Type 0
   pub few : n ≤ 2048
   pub most : h.len + n ≤ 4096
 
-pub fits_before : (s : StoreView) (c n : ℕ) (at : Place) (h : Head) → IsPool s → IsLive (pool_of s) c
-    → IsPlace (chain_of (pool_of s) c) at → h ≡ mbuf_head s at.cell
+pub fits_before : {s : StoreView} {c n : ℕ} {at : Place} {h : Head} → HasMbuf s c at → h ≡ mbuf_head s at.cell
     → room_start (chain_of (pool_of s) c) at.index + n ≤ (entry_of (chain_of (pool_of s) c) at.index).start
     → FitsBefore s at h n
-fits_before s c n at h pool live place e fits =
-    let k = shown_at s c at pool live place in
-    let low = low_seen s c at pool live place in
+fits_before {s} {c} {n} {at} {h} has e fits =
+    let k = shown_at has in
+    let low = low_seen has in
     record {
       out = k.out;
       less = omega (arith, fits, ap (λ (y : Entry). y.start) k.entry, ap (λ (y : Head). y.start) e);
@@ -159,8 +155,7 @@ fits_before s c n at h pool live place e fits =
     }
 
 pub record ReadyBefore (s t : StoreView) (c n : ℕ) (at : Place) (h : Head) (ws : List ℕ) : Type 0 where
-  pub live : IsLive (pool_of t) c
-  pub place : IsPlace (chain_of (pool_of t) c) at
+  pub place : HasMbuf t c at
   pub low : head_room_low (mbuf_head t at.cell) ≤ h.start - n
   pub high : h.start - n + (h.len + n) ≤ room_high (mbuf_head t at.cell)
   pub done : (u : StoreView) → pool_of u
@@ -169,30 +164,29 @@ pub record ReadyBefore (s t : StoreView) (c n : ℕ) (at : Place) (h : Head) (ws
       → pool_of u ≡ with_chain (pool_of s) c
       (with_entry (chain_of (pool_of s) c) at.index (with_front (entry_of (chain_of (pool_of s) c) at.index) ws))
 
-pub ready_before : (s t : StoreView) (c n : ℕ) (at : Place) (h : Head) (ws : List ℕ) → IsPool s → IsLive (pool_of s) c
-    → IsPlace (chain_of (pool_of s) c) at → h ≡ mbuf_head s at.cell
+pub ready_before : {s t : StoreView} {c n : ℕ} {at : Place} {h : Head} {ws : List ℕ} → HasMbuf s c at
+    → h ≡ mbuf_head s at.cell
     → room_start (chain_of (pool_of s) c) at.index + n ≤ (entry_of (chain_of (pool_of s) c) at.index).start
-    → n ≡ length ws → WritesPlace s t c at (h.start - n) ws → ReadyBefore s t c n at h ws
-ready_before s t c n at h ws pool live place e fits count w =
+    → n ≡ length ws → Written s t c at (h.start - n) ws → ReadyBefore s t c n at h ws
+ready_before {s} {t} {c} {n} {at} {h} {ws} has e fits count w =
     subst (λ (y : Head). ReadyBefore s t c n at y ws) (sym e)
-    (go (subst (λ (y : Head). WritesPlace s t c at (y.start - n) ws) e w)
-    (fits_before s c n at (mbuf_head s at.cell) pool live place refl fits))
+    (go (subst (λ (y : Head). Written s t c at (y.start - n) ws) e w)
+    (fits_before has refl fits))
   where
-    go : WritesPlace s t c at ((mbuf_head s at.cell).start - n) ws → FitsBefore s at (mbuf_head s at.cell) n
+    go : Written s t c at ((mbuf_head s at.cell).start - n) ws → FitsBefore s at (mbuf_head s at.cell) n
         → ReadyBefore s t c n at (mbuf_head s at.cell) ws
     go w' f =
-        let k = shown_at s c at pool live place in
+        let k = shown_at has in
         let g =
-        grown s t c ((mbuf_head s at.cell).start - n) ws at pool live place w' (omega (arith, f.high, count))
+        grown s t c ((mbuf_head s at.cell).start - n) ws at has w' (omega (arith, f.high, count))
         (inr (omega (arith, f.less, count))) in
         record {
-          live = g.live;
           place = g.place;
           low = omega (arith, ap head_room_low g.head, f.low);
           high = omega (arith, ap room_high g.head, k.fit.high, f.less);
           done =
               λ u change. grown_is s t u c at _ _ g.same change
-              (grown_front s t c n ((mbuf_head s at.cell).start - n) ws at k w' count (omega (arith, f.less, count)));
+              (grown_front s t c n ((mbuf_head s at.cell).start - n) ws at k w'.writes count (omega (arith, f.less, count)));
         }
 
 -- ---- the free bytes before and after the data, by the head
@@ -206,17 +200,17 @@ pub record Rooms (s : StoreView) (c : ℕ) (at : Place) (h : Head) : Type 0 wher
   pub high : h.start + h.len ≤ room_high h
   pub high_is : room_high h ≡ room_end (entry_of (chain_of (pool_of s) c) at.index)
 
-pub rooms_at : (s : StoreView) (c : ℕ) (at : Place) (h : Head) → IsPool s → IsLive (pool_of s) c
-    → IsPlace (chain_of (pool_of s) c) at → h ≡ mbuf_head s at.cell → Rooms s c at h
-rooms_at s c at h pool live place e =
-    let k = shown_at s c at pool live place in
+pub rooms_at : {s : StoreView} {c : ℕ} {at : Place} {h : Head} → HasMbuf s c at → h ≡ mbuf_head s at.cell
+    → Rooms s c at h
+rooms_at {s} {c} {at} {h} has e =
+    let k = shown_at has in
     record {
       out = k.out;
       start = ap (λ (y : Head). y.start) e ∙ ap (λ (y : Entry). y.start) (sym k.entry);
       len = ap (λ (y : Head). y.len) e ∙ k.long;
       cluster = ap (λ (y : Head). y.cluster) e ∙ ap (λ (y : Entry). y.cluster) (sym k.entry);
       low = subst (λ (y : Head). head_room_low y ≤ y.start) (sym e) k.fit.low;
-      low_is = ap head_room_low e ∙ low_seen s c at pool live place;
+      low_is = ap head_room_low e ∙ low_seen has;
       high = subst (λ (y : Head). y.start + y.len ≤ room_high y) (sym e) k.fit.high;
       high_is = ap room_high e ∙ high_seen s c at k;
     }

@@ -7,8 +7,9 @@ use Rattle.std.proofs.lemmas.List.{length-set}
 use Rattle.mbuf_pool.specs.Cells.{Head, PacketHeader, head_size, over, with_packet_len}
 use Rattle.mbuf_pool.specs.Store.{StoreView, MbufView, is_out, mbuf_of, mbuf_head, with_mbuf, SetsHead, IsStore}
 use Rattle.mbuf_chain.specs.declared.place.Place.{Place}
-use Rattle.mbuf_chain.specs.Chain.{Entry, ChainView, PoolView, chain_of, IsLive, with_chain, entry_of, IsPlace}
+use Rattle.mbuf_chain.specs.Chain.{Entry, ChainView, PoolView, chain_of, IsLive, with_chain, entry_of}
 use Rattle.mbuf_chain.specs.Steps.{with_entry, narrowed}
+use Rattle.mbuf_chain.specs.Inside.Access.{HasMbuf}
 use Rattle.mbuf_chain.specs.Inside.Cells.{weigh, is_at, one, len_at, place_bytes, entry_from, entry_at, front_of, arrival_of, refers_at, IsLinked, IsFollower, IsTotal, IsOff, IsFit, pool_of, IsPool, head_room_low, room_high, with_segment}
 use Rattle.mbuf_chain.proofs.Maps.{insert_same}
 use Rattle.mbuf_chain.proofs.Lists.{bit, on, out_below}
@@ -304,15 +305,14 @@ pub record Resized (s t : StoreView) (c added removed i : ℕ) (e : Entry) : Typ
   pub live : IsLive (pool_of t) c
   pub map_is : pool_of t ≡ with_chain (pool_of s) c (with_entry (chain_of (pool_of s) c) i e)
 
-pub resized : (s t : StoreView) (c added removed start len : ℕ) (at : Place) → IsPool s → IsLive (pool_of s) c
-    → IsPlace (chain_of (pool_of s) c) at → SetsHead s t at.cell (with_segment (mbuf_head s at.cell) start len)
-    → IsStore t
+pub resized : (s t : StoreView) (c added removed start len : ℕ) (at : Place) → HasMbuf s c at
+    → SetsHead s t at.cell (with_segment (mbuf_head s at.cell) start len) → IsStore t
     → head_room_low (mbuf_head s at.cell) ≤ start → start + len ≤ room_high (mbuf_head s at.cell)
     → len + removed ≡ (mbuf_head s at.cell).len + added
     → Resized s t c added removed at.index (entry_from s at.cell (with_segment (mbuf_head s at.cell) start len))
-resized s t c added removed start len at pool live place sets store low high lens =
-    let o = open_on s c pool live in
-    let e = enter s c at o.at place in
+resized s t c added removed start len at has sets store low high lens =
+    let o = open_on s c has.pool has.live in
+    let e = enter s c at o.at has.place in
     let h = with_segment (mbuf_head s at.cell) start len in
     let r =
     rehead s t c at.index at.cell h o.at e sets store refl refl (record { low = low; high = high; kind = e.fit.kind })
@@ -346,11 +346,10 @@ pub record Shown (s : StoreView) (c : ℕ) (at : Place) : Type 0 where
   pub place : length (place_bytes s at.cell (mbuf_head s at.cell).cluster) ≡ room_high (mbuf_head s at.cell)
   pub entry : entry_of (chain_of (pool_of s) c) at.index ≡ entry_at s at.cell
 
-pub shown_at : (s : StoreView) (c : ℕ) (at : Place) → IsPool s → IsLive (pool_of s) c
-    → IsPlace (chain_of (pool_of s) c) at → Shown s c at
-shown_at s c at pool live place =
-    let o = open_on s c pool live in
-    let e = enter s c at o.at place in
+pub shown_at : {s : StoreView} {c : ℕ} {at : Place} → HasMbuf s c at → Shown s c at
+shown_at {s} {c} {at} has =
+    let o = open_on s c has.pool has.live in
+    let e = enter s c at o.at has.place in
     record {
       out = e.out;
       fit = e.fit;

@@ -4,36 +4,36 @@ use Rattle.mbuf_pool.specs.Store.{StoreView, mbuf_head, SetsHead, IsStore}
 use Rattle.mbuf_chain.specs.declared.place.Place.{Place}
 use Rattle.mbuf_chain.specs.Chain.{ChainView, PoolView, chain_of, IsLive, IsPlace, with_chain, without, string, alone}
 use Rattle.mbuf_chain.specs.Steps.{headless, joined}
-use Rattle.mbuf_chain.specs.Inside.Cells.{pool_of, IsPool}
+use Rattle.mbuf_chain.specs.Inside.Access.{HasChain, HasMbuf}
+use Rattle.mbuf_chain.specs.Inside.Cells.{pool_of}
 use Rattle.mbuf_chain.proofs.Laws.Owners.{chain_here}
 use Rattle.mbuf_chain.proofs.Joins.{bared_twice, stripped}
 use Rattle.mbuf_chain.proofs.Places.{bared}
 
 pub record Linkable (s t : StoreView) (a b added : ℕ) (last : Place) : Type 0 where
-  pub pool : IsPool t
-  pub front : IsLive (pool_of t) a
+  pub place : HasMbuf t a last
   pub back : IsLive (pool_of t) b
-  pub place : IsPlace (chain_of (pool_of t) a) last
   pub ends : last.index + 1 ≡ length (chain_of (pool_of t) a).entries
   pub bare : (chain_of (pool_of t) b).front ≡ alone false
   pub bytes : (chain_of (pool_of t) a).front.header ≡ true → added ≡ length (string (chain_of (pool_of t) b))
   pub whole : with_chain (without (pool_of t) b) a (joined (chain_of (pool_of t) a) (chain_of (pool_of t) b))
       ≡ with_chain (without (pool_of s) b) a (joined (chain_of (pool_of s) a) (chain_of (pool_of s) b))
 
-pub linkable : (s t u : StoreView) (a b added : ℕ) (last : Place) → IsPool s → IsLive (pool_of s) a
-    → IsLive (pool_of s) b → a ≢ b → IsPlace (chain_of (pool_of s) a) last
+pub linkable : (s t u : StoreView) (a b added : ℕ) (last : Place) → HasMbuf s a last → HasChain s b → a ≢ b
     → last.index + 1 ≡ length (chain_of (pool_of s) a).entries
     → ((chain_of (pool_of s) a).front.header ≡ true → added ≡ length (string (chain_of (pool_of s) b)))
     → SetsHead s t b (record (mbuf_head s b) { packet = None })
     → SetsHead t u b (record (mbuf_head t b) { next_packet = None }) → IsStore u → Linkable s u a b added last
-linkable s t u a b added last pool front back apart place is_last bytes first later store =
-    let done = stripped s u b pool back (bared_twice s t u b pool back first later) store in
-    let e = bared (pool_of s) (pool_of u) a b apart front back done.map_is in
+linkable s t u a b added last has back apart is_last bytes first later store =
+    let done = stripped s u b back.pool back.live (bared_twice s t u b back.pool back.live first later) store in
+    let e = bared (pool_of s) (pool_of u) a b apart has.live back.live done.map_is in
     record {
-      pool = done.pool;
-      front = e.front_live;
+      place = record {
+        pool = done.pool;
+        live = e.front_live;
+        place = subst (λ (v : ChainView). IsPlace v last) (sym e.front_same) has.place;
+      };
       back = e.back_live;
-      place = subst (λ (v : ChainView). IsPlace v last) (sym e.front_same) place;
       ends = is_last ∙ ap (λ (v : ChainView). length v.entries) (sym e.front_same);
       bare = e.bare;
       bytes =

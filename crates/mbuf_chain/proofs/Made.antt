@@ -14,8 +14,8 @@ use Rattle.mbuf_pool.specs.Store.{StoreView, MbufView, ClusterView, no_mbuf, fre
 use Rattle.mbuf_pool.proofs.Laws.{taken_back, counted_within}
 use Rattle.mbuf_chain.specs.Chain.{Entry, Front, ChainView, alone, Adds, held_mbufs, references, reference_counts, free_clusters, chain_of, entry_of}
 use Rattle.mbuf_chain.specs.declared.place.Place.{Place}
-use Rattle.mbuf_chain.specs.Chain.{IsLive, IsPlace}
 use Rattle.mbuf_chain.specs.Steps.{one_mbuf, narrowed}
+use Rattle.mbuf_chain.specs.Inside.Access.{HasMbuf}
 use Rattle.mbuf_chain.specs.Inside.Cells.{weigh, weigh_all, is_at, one, place_bytes, entry_from, entry_at, front_of, refers_at, read_chain, cells_from, is_pointed, view_of, AreSoundChains, IsFit, pool_of, IsPool, out_at, Taken, only_head, start_of, head_room_low}
 use Rattle.mbuf_chain.proofs.Lists.{is_at_same, is_at_other, on, off}
 use Rattle.mbuf_chain.proofs.Changes.{SameCell, same_cell, step, view_is, get-view_of, held_is, references_is}
@@ -493,9 +493,9 @@ pub counts_are : (s : StoreView) → IsPool s → reference_counts (pool_of s) �
 counts_are s pool = λ i. map (λ c. unreferenced s pool c i) (range_with_len 0 (length s.clusters))
 
 -- the cluster of a live chain's entry has a count above 0
-pub counted_at : (s : StoreView) (c d : ℕ) (at : Place) → IsPool s → IsLive (pool_of s) c
-    → IsPlace (chain_of (pool_of s) c) at → (mbuf_head s at.cell).cluster ≡ Some d → 0 < cluster_count s d
-counted_at s c d at pool live place is =
-    let o = open_on s c pool live in
-    let e = enter s c at o.at place in
+pub counted_at : {s : StoreView} {c : ℕ} {at : Place} (d : ℕ) → HasMbuf s c at → (mbuf_head s at.cell).cluster ≡ Some d
+    → 0 < cluster_count s d
+counted_at {s} {c} {at} d has is =
+    let o = open_on s c has.pool has.live in
+    let e = enter s c at o.at has.place in
     counted_in s (o.at.cells ∷ o.at.rest) o.at.sound at.cell d (omega (arith, e.inside)) is

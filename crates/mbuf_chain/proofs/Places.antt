@@ -9,6 +9,7 @@ use Rattle.mbuf_chain.specs.declared.place.Place.{Place}
 use Rattle.mbuf_chain.specs.declared.place.Segment.{Segment}
 use Rattle.mbuf_chain.specs.Chain.{Entry, ChainView, PoolView, chain_of, IsLive, IsPlace, with_chain, without, entry_of, alone}
 use Rattle.mbuf_chain.specs.Steps.{headless, joined}
+use Rattle.mbuf_chain.specs.Inside.Access.{HasMbuf}
 use Rattle.mbuf_chain.specs.Inside.Cells.{weigh, one, front_of, first_of, IsLinked, IsChain, pool_of, IsPool}
 use Rattle.mbuf_chain.proofs.Maps.{remove-insert_any}
 use Rattle.mbuf_chain.proofs.Laws.Owners.{chain_here, chain_there, live_here, live_with}
@@ -57,6 +58,15 @@ pub first_place : (s : StoreView) (c : ℕ) → IsPool s → IsLive (pool_of s) 
     → IsPlace (chain_of (pool_of s) c) (record { index = 0; cell = c })
 first_place s c pool live = let l = live_cells s c pool live in record { within = l.some; cell = l.first }
 
+-- a place of a pool, in its store
+pub has_place : {s : StoreView} {p : PoolView} {c : ℕ} {at : Place} → IsPool s → pool_of s ≡ p → IsLive p c
+    → IsPlace (chain_of p c) at → HasMbuf s c at
+has_place {s} {p} {c} {at} pool is live place = record {
+  pool = pool;
+  live = subst (λ (q : PoolView). IsLive q c) (sym is) live;
+  place = subst (λ (q : PoolView). IsPlace (chain_of q c) at) (sym is) place;
+}
+
 -- ---- the place after another
 next_in : (s : StoreView) (at : Option ℕ) (l : List ℕ) (i : ℕ) → IsLinked s at l → i < weigh one l
     → (mbuf_head s (slice_index l i)).next ≡ slice_get l (suc i)
@@ -70,38 +80,38 @@ past [] i e = omega arith
 past (x ∷ xs) zero e = absurd (none-some x (sym e))
 past (x ∷ xs) (suc i) e = omega (arith, past xs i e)
 
-next_is : (s : StoreView) (c : ℕ) (at : Place) → IsPool s → IsLive (pool_of s) c → IsPlace (chain_of (pool_of s) c) at
+next_is : {s : StoreView} {c : ℕ} {at : Place} → HasMbuf s c at
     → (mbuf_head s at.cell).next ≡ slice_get (chain_of (pool_of s) c).cells (at.index + 1)
-next_is s c at pool live place =
-    let o = open_on s c pool live in
-    let e = enter s c at o.at place in
+next_is {s} {c} {at} has =
+    let o = open_on s c has.pool has.live in
+    let e = enter s c at o.at has.place in
     ap (λ (j : ℕ). (mbuf_head s j).next) (sym e.cell) ∙ next_in s (Some c) o.at.cells at.index o.at.linked e.below
     ∙ ap (λ (v : ChainView). slice_get v.cells (suc at.index)) o.at.shows
     ∙ (let same : suc at.index ≡ at.index + 1 = omega arith in ap (slice_get (chain_of (pool_of s) c).cells) same)
 
-pub next_place : (s : StoreView) (c : ℕ) (at : Place) (next : ℕ) (h : Head) → IsPool s → IsLive (pool_of s) c
-    → IsPlace (chain_of (pool_of s) c) at → h ≡ mbuf_head s at.cell → h.next ≡ Some next
+pub next_place : {s : StoreView} {c : ℕ} {at : Place} {next : ℕ} {h : Head} → HasMbuf s c at → h ≡ mbuf_head s at.cell
+    → h.next ≡ Some next
     → IsPlace (chain_of (pool_of s) c) (record { index = at.index + 1; cell = next })
-next_place s c at next h pool live place head is =
-    let l = live_cells s c pool live in
+next_place {s} {c} {at} {next} {h} has head is =
+    let l = live_cells s c has.pool has.live in
     let there : slice_get (chain_of (pool_of s) c).cells (at.index + 1) ≡ Some next =
-    sym (next_is s c at pool live place) ∙ ap (λ (y : Head). y.next) (sym head) ∙ is in
+    sym (next_is has) ∙ ap (λ (y : Head). y.next) (sym head) ∙ is in
     record {
       within = omega (arith, l.same, slice_get_within (chain_of (pool_of s) c).cells (at.index + 1) next there);
       cell = there;
     }
 
-pub next_none : (s : StoreView) (c : ℕ) (at : Place) (h : Head) → IsPool s → IsLive (pool_of s) c
-    → IsPlace (chain_of (pool_of s) c) at → h ≡ mbuf_head s at.cell → h.next ≡ None
+pub next_none : {s : StoreView} {c : ℕ} {at : Place} {h : Head} → HasMbuf s c at → h ≡ mbuf_head s at.cell
+    → h.next ≡ None
     → at.index + 1 ≡ length (chain_of (pool_of s) c).entries
-next_none s c at h pool live place head is =
-    let l = live_cells s c pool live in
+next_none {s} {c} {at} {h} has head is =
+    let l = live_cells s c has.pool has.live in
     omega (
       arith,
       l.same,
-      place.within,
+      has.place.within,
       past (chain_of (pool_of s) c).cells (at.index + 1)
-          (sym (next_is s c at pool live place) ∙ ap (λ (y : Head). y.next) (sym head) ∙ is),
+          (sym (next_is has) ∙ ap (λ (y : Head). y.next) (sym head) ∙ is),
     )
 
 -- ---- the part of a buffer that contains the bytes

@@ -2,8 +2,9 @@
 use Rattle.std.proofs.Common.{◌≡◌, ℕ, ◌<◌, true, cond, List, ◌∷◌, length, map, take, drop, Option, None, Some, is_some, refl, sym, ap, ◌∙◌, subst, arith}
 use Rattle.mbuf_pool.specs.Cells.{Head, head_size}
 use Rattle.mbuf_pool.specs.Store.{StoreView, is_out, mbuf_of, mbuf_head, cluster_of, cluster_count, IsRoom, IsPart, bytes_in, stored_part}
-use Rattle.mbuf_chain.specs.Chain.{Entry, ChainView, chain_of, entry_of, IsLive, IsPlace, layout_of}
+use Rattle.mbuf_chain.specs.Chain.{Entry, ChainView, chain_of, entry_of, IsLive, layout_of}
 use Rattle.mbuf_chain.specs.declared.place.Place.{Place}
+use Rattle.mbuf_chain.specs.Inside.Access.{HasMbuf}
 use Rattle.mbuf_chain.specs.Inside.Cells.{weigh, entry_at, entry_from, place_bytes, refers_at, buffer_of, pool_of, IsPool, head_room_low, room_high}
 use Rattle.mbuf_chain.specs.Pieces.{pieces_of}
 use Rattle.mbuf_chain.specs.Inside.Readable.{entries_from, IsReadable, data_of}
@@ -26,12 +27,12 @@ entries_are s c pool live =
     ap (map (entry_at s)) f.walks ∙ ap (λ (v : ChainView). v.entries) f.shows
 
 -- the cluster to which an mbuf of a live chain refers is a cluster of the pool
-pub cluster_known : (s : StoreView) (c : ℕ) (at : Place) → IsPool s → IsLive (pool_of s) c
-    → IsPlace (chain_of (pool_of s) c) at → (d : ℕ) → (entry_of (chain_of (pool_of s) c) at.index).cluster ≡ Some d
+pub cluster_known : {s : StoreView} {c : ℕ} {at : Place} → HasMbuf s c at → (d : ℕ)
+    → (entry_of (chain_of (pool_of s) c) at.index).cluster ≡ Some d
     → d < length s.clusters
-cluster_known s c at pool live place d is =
-    let f = (open_on s c pool live).at in
-    let e = enter s c at f place in
+cluster_known {s} {c} {at} has d is =
+    let f = (open_on s c has.pool has.live).at in
+    let e = enter s c at f has.place in
     let refers : (mbuf_head s at.cell).cluster ≡ Some d = ap (λ (x : Entry). x.cluster) (sym e.shows) ∙ is in
     counted_within s d (omega (
       arith,

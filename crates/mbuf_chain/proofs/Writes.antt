@@ -5,9 +5,10 @@ use Rattle.std.proofs.lemmas.List.{length-set}
 use Rattle.mbuf_pool.specs.Cells.{Head, Part, Buffer, over}
 use Rattle.mbuf_pool.specs.Store.{StoreView, MbufView, ClusterView, no_mbuf, is_out, mbuf_of, mbuf_head, cluster_of, cluster_count, with_mbuf, with_cluster, with_bytes, bytes_in, stored_part, write, IsRoom, IsStore}
 use Rattle.mbuf_chain.specs.declared.place.Place.{Place}
-use Rattle.mbuf_chain.specs.Chain.{Entry, PoolView, chain_of, IsLive, IsPlace, IsUnshared, with_chain, entry_of, room_end}
+use Rattle.mbuf_chain.specs.Chain.{Entry, PoolView, chain_of, IsLive, IsPlace, with_chain, entry_of, room_end}
 use Rattle.mbuf_chain.specs.Steps.{with_entry, with_front, with_back, overwritten}
-use Rattle.mbuf_chain.specs.Inside.Cells.{weigh, weigh_all, is_at, buffer_of, place_bytes, entry_from, entry_at, entry_over, front_of, refers_at, first_of, IsFit, pool_of, IsPool, head_room_low, room_high, with_segment, WritesPlace}
+use Rattle.mbuf_chain.specs.Inside.Access.{CanWrite, HasMbuf, Written}
+use Rattle.mbuf_chain.specs.Inside.Cells.{weigh, weigh_all, is_at, buffer_of, place_bytes, entry_from, entry_at, entry_over, front_of, refers_at, first_of, IsFit, pool_of, head_room_low, room_high, with_segment, WritesPlace}
 use Rattle.mbuf_chain.proofs.Lists.{is_at_other, out_below}
 use Rattle.mbuf_chain.proofs.Changes.{SameCell, same_cell}
 use Rattle.mbuf_chain.proofs.Focused.{Focused, open_on, enter, weigh_has}
@@ -150,20 +151,15 @@ sole s c x d f inside one_ref is k ne there same =
     ))
 
 -- ---- a write in a live chain
-pub record Written (s t : StoreView) (c : ℕ) (at : Place) (start : ℕ) (ws : List ℕ) : Type 0 where
-  pub pool : IsPool t
-  pub writes : WritesPlace s t c at start ws
-
-pub written : (s t : StoreView) (c start : ℕ) (ws : List ℕ) (at : Place) → IsPool s → IsLive (pool_of s) c
-    → IsPlace (chain_of (pool_of s) c) at → IsUnshared (pool_of s) (entry_of (chain_of (pool_of s) c) at.index)
+pub written : (s t : StoreView) (c start : ℕ) (ws : List ℕ) (at : Place) → CanWrite s c at
     → PlaceWrite s t at.cell start ws → IsStore t → Written s t c at start ws
-written s t c start ws at pool live place unshared w store =
-    let o = open_on s c pool live in
+written s t c start ws at can w store =
+    let o = open_on s c can.place.pool can.place.live in
     let f = o.at in
-    let e = enter s c at o.at place in
+    let e = enter s c at o.at can.place.place in
     let x = at.cell in
     let ref : (d : ℕ) → (mbuf_head s at.cell).cluster ≡ Some d → cluster_count s d ≡ 1 =
-    λ d is. sym (unreferenced s pool d) ∙ unshared d (ap (λ (y : Entry). y.cluster) e.shows ∙ is) in
+    λ d is. sym (unreferenced s can.place.pool d) ∙ can.unshared d (ap (λ (y : Entry). y.cluster) e.shows ∙ is) in
     let r = changed s t c at.index at.cell o.at e.below e.cell w.outs store (record {
       next = ap (λ (y : Head). y.next) (w.heads at.cell);
       cluster = ap (λ (y : Head). y.cluster) (w.heads at.cell);
@@ -263,24 +259,25 @@ same_pool s t c start ws at live k w fits apart =
 
 -- a step that writes bytes and then includes them in the data: what its second part needs from the first
 pub record Grown (s t : StoreView) (c : ℕ) (at : Place) : Type 0 where
-  pub live : IsLive (pool_of t) c
-  pub place : IsPlace (chain_of (pool_of t) c) at
+  pub place : HasMbuf t c at
   pub same : pool_of t ≡ pool_of s
   pub head : mbuf_head t at.cell ≡ mbuf_head s at.cell
 
-pub grown : (s t : StoreView) (c start : ℕ) (ws : List ℕ) (at : Place) → IsPool s → IsLive (pool_of s) c
-    → IsPlace (chain_of (pool_of s) c) at → WritesPlace s t c at start ws
+pub grown : (s t : StoreView) (c start : ℕ) (ws : List ℕ) (at : Place) → HasMbuf s c at → Written s t c at start ws
     → start + length ws ≤ room_high (mbuf_head s at.cell)
     → ((mbuf_head s at.cell).start + (mbuf_head s at.cell).len ≤ start)
     ⊎ (start + length ws ≤ (mbuf_head s at.cell).start)
     → Grown s t c at
-grown s t c start ws at pool live place w fits apart =
-    let same = same_pool s t c start ws at live (shown_at s c at pool live place) w fits apart in
+grown s t c start ws at has w fits apart =
+    let same = same_pool s t c start ws at has.live (shown_at has) w.writes fits apart in
     record {
-      live = subst (λ (p : PoolView). IsLive p c) (sym same) live;
-      place = subst (λ (p : PoolView). IsPlace (chain_of p c) at) (sym same) place;
+      place = record {
+        pool = w.pool;
+        live = subst (λ (p : PoolView). IsLive p c) (sym same) has.live;
+        place = subst (λ (p : PoolView). IsPlace (chain_of p c) at) (sym same) has.place;
+      };
       same = same;
-      head = w.head;
+      head = w.writes.head;
     }
 
 -- the entry after that: with the bytes after its own, or before them
@@ -368,64 +365,56 @@ entry_bytes s c skip n start b at k is begins within =
     same (Some d) = refl
 
 -- ---- bytes lent, and copied
-counted_place : (s : StoreView) (c : ℕ) (at : Place) → IsPool s → IsLive (pool_of s) c
-    → IsPlace (chain_of (pool_of s) c) at → (d : ℕ) → (mbuf_head s at.cell).cluster ≡ Some d → 0 < cluster_count s d
-counted_place s c at pool live place d is = counted_at s c d at pool live place is
-
 -- some of the data bytes of an mbuf
-pub source_room : (s : StoreView) (c skip n : ℕ) (at : Place) (h : Head) (b : Buffer) → IsPool s → IsLive (pool_of s) c
-    → IsPlace (chain_of (pool_of s) c) at → h ≡ mbuf_head s at.cell → b ≡ buffer_of at.cell h.cluster
+pub source_room : {s : StoreView} {c : ℕ} (skip n : ℕ) {at : Place} {h : Head} {b : Buffer} → HasMbuf s c at
+    → h ≡ mbuf_head s at.cell → b ≡ buffer_of at.cell h.cluster
     → skip + n ≤ length (entry_of (chain_of (pool_of s) c) at.index).bytes → IsRoom s b (h.start + skip) n
-source_room s c skip n at h b pool live place e is within =
-    let k = shown_at s c at pool live place in
+source_room {s} {c} skip n {at} {h} {b} has e is within =
+    let k = shown_at has in
     subst (λ (a : Buffer). IsRoom s a (h.start + skip) n) (sym (is ∙ ap (λ (y : Head). buffer_of at.cell y.cluster) e))
-    (room_of s c (h.start + skip) n at k (counted_place s c at pool live place)
+    (room_of s c (h.start + skip) n at k (λ d. counted_at d has)
     (omega (arith, k.fit.low, ap (λ (y : Head). y.start) e))
     (omega (arith, k.fit.high, k.long, within, ap (λ (y : Head). y.start) e)))
 
-pub target_room : (s : StoreView) (c start n : ℕ) (at : Place) (h : Head) (b : Buffer) → IsPool s → IsLive (pool_of s) c
-    → IsPlace (chain_of (pool_of s) c) at → h ≡ mbuf_head s at.cell → b ≡ buffer_of at.cell h.cluster
+pub target_room : {s : StoreView} {c : ℕ} (start n : ℕ) {at : Place} {h : Head} {b : Buffer} → HasMbuf s c at
+    → h ≡ mbuf_head s at.cell → b ≡ buffer_of at.cell h.cluster
     → head_room_low (mbuf_head s at.cell) ≤ start → start + n ≤ room_high (mbuf_head s at.cell) → IsRoom s b start n
-target_room s c start n at h b pool live place e is low high =
+target_room {s} {c} start n {at} {h} {b} has e is low high =
     subst (λ (a : Buffer). IsRoom s a start n) (sym (is ∙ ap (λ (y : Head). buffer_of at.cell y.cluster) e))
-    (room_of s c start n at (shown_at s c at pool live place) (counted_place s c at pool live place) low high)
+    (room_of s c start n at (shown_at has) (λ d. counted_at d has) low high)
 
-pub lent_room : (s : StoreView) (c : ℕ) (at : Place) (h : Head) (b : Buffer) → IsPool s → IsLive (pool_of s) c
-    → IsPlace (chain_of (pool_of s) c) at → h ≡ mbuf_head s at.cell → b ≡ buffer_of at.cell h.cluster
+pub lent_room : {s : StoreView} {c : ℕ} {at : Place} {h : Head} {b : Buffer} → HasMbuf s c at
+    → h ≡ mbuf_head s at.cell → b ≡ buffer_of at.cell h.cluster
     → IsRoom s b h.start h.len
-lent_room s c at h b pool live place e is =
-    let k = shown_at s c at pool live place in
-    target_room s c h.start h.len at h b pool live place e is (omega (arith, k.fit.low, ap (λ (y : Head). y.start) e))
+lent_room {s} {c} {at} {h} {b} has e is =
+    let k = shown_at has in
+    target_room h.start h.len has e is (omega (arith, k.fit.low, ap (λ (y : Head). y.start) e))
     (omega (arith, k.fit.high, ap (λ (y : Head). y.start) e, ap (λ (y : Head). y.len) e))
 
 place_is : (s : StoreView) (x : ℕ) (o : Option ℕ) → bytes_in s (buffer_of x o) ≡ place_bytes s x o
 place_is s x None = refl
 place_is s x (Some d) = refl
 
-pub lent_bytes : (s : StoreView) (c : ℕ) (at : Place) (h : Head) (b : Buffer) → IsPool s → IsLive (pool_of s) c
-    → IsPlace (chain_of (pool_of s) c) at → h ≡ mbuf_head s at.cell → b ≡ buffer_of at.cell h.cluster
+pub lent_bytes : {s : StoreView} {c : ℕ} {at : Place} {h : Head} {b : Buffer} → HasMbuf s c at
+    → h ≡ mbuf_head s at.cell → b ≡ buffer_of at.cell h.cluster
     → take h.len (drop h.start (bytes_in s b)) ≡ (entry_of (chain_of (pool_of s) c) at.index).bytes
-lent_bytes s c at h b pool live place e is =
-    let k = shown_at s c at pool live place in
+lent_bytes {s} {c} {at} {h} {b} has e is =
+    let k = shown_at has in
     (λ i. take (e i).len (drop (e i).start (bytes_in s ((is ∙ ap (λ (y : Head). buffer_of at.cell y.cluster) e) i))))
     ∙ ap (λ (xs : List ℕ). take (mbuf_head s at.cell).len (drop (mbuf_head s at.cell).start xs))
     (place_is s at.cell (mbuf_head s at.cell).cluster)
     ∙ ap (λ (y : Entry). y.bytes) (sym k.entry)
 
 pub copied : {s t : StoreView} (c other : ℕ) {start : ℕ} (skip n : ℕ) {at from : Place} {h g : Head} {b a : Buffer}
-    → IsPool s → IsLive (pool_of s) c → IsPlace (chain_of (pool_of s) c) at
-    → IsUnshared (pool_of s) (entry_of (chain_of (pool_of s) c) at.index)
-    → IsLive (pool_of s) other → IsPlace (chain_of (pool_of s) other) from
+    → CanWrite s c at → HasMbuf s other from
     → skip + n ≤ length (entry_of (chain_of (pool_of s) other) from.index).bytes
     → h ≡ mbuf_head s at.cell → g ≡ mbuf_head s from.cell → b ≡ buffer_of at.cell h.cluster
     → a ≡ buffer_of from.cell g.cluster
     → t ≡ write s (record { buffer = b; start = start; len = n })
     (stored_part s (record { buffer = a; start = g.start + skip; len = n })) → IsStore t
     → Written s t c at start (take n (drop skip (entry_of (chain_of (pool_of s) other) from.index).bytes))
-copied {s} {t} c other {start} skip n {at} {from} {h} {g} {b} {a} pool live place unshared live_other from_place within
-    e e' is is' change store =
-    let k = shown_at s c at pool live place in
-    let k' = shown_at s other from pool live_other from_place in
+copied {s} {t} c other {start} skip n {at} {from} {h} {g} {b} {a} can has_from within e e' is is' change store =
+    let k' = shown_at has_from in
     let ws = take n (drop skip (entry_of (chain_of (pool_of s) other) from.index).bytes) in
     let read_is : take n (drop (g.start + skip) (bytes_in s a))
     ≡ take n (drop skip (entry_of (chain_of (pool_of s) other) from.index).bytes) =
@@ -434,8 +423,8 @@ copied {s} {t} c other {start} skip n {at} {from} {h} {g} {b} {a} pool live plac
     let long : n ≡ length (take n (drop skip (entry_of (chain_of (pool_of s) other) from.index).bytes)) =
     sym (Rattle.mbuf_chain.proofs.Bytes.run_length (entry_of (chain_of (pool_of s) other) from.index).bytes skip n
     within) in
-    written s t c start ws at pool live place unshared
-    (place_written s t at.cell start ws k.out (counted_place s c at pool live place)
+    written s t c start ws at can
+    (place_written s t at.cell start ws (shown_at can.place).out (λ d. counted_at d can.place)
     (change ∙ ap (λ (xs : List ℕ). write s (record { buffer = b; start = start; len = n }) xs) read_is
     ∙ write_is s (record { buffer = b; start = start; len = n }) ws long
     ∙ ap (λ (y : Buffer). with_bytes s y

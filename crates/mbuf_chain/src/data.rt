@@ -3,9 +3,10 @@ ghost use Rattle.std.specs.Prelude.{◌≡◌, ◌+◌, ◌-◌, ◌<◌, ◌≤
 ghost use Rattle.params.specs.declared.TheConstants.{MCLBYTES};
 ghost use Rattle.mbuf_pool.specs.Store.{IsStore, mbuf_head, with_bytes, bytes_in, IsRoom};
 ghost use Rattle.mbuf_pool.specs.Cells.{over};
-ghost use Rattle.mbuf_chain.specs.Chain.{IsLive, IsPlace, IsUnshared, chain_of, entry_in, HasLeadingSpace, HasTrailingSpace};
-ghost use Rattle.mbuf_chain.specs.Steps.{with_front, with_back, narrowed, overwritten, with_entry_in};
-ghost use Rattle.mbuf_chain.specs.Inside.Cells.{IsPool, IsOff, pool_of, buffer_of, head_room_low, room_high, with_segment, entry_from, WritesPlace};
+ghost use Rattle.mbuf_chain.specs.Chain.{IsLive, chain_of, entry_in, HasLeadingSpace, HasTrailingSpace};
+ghost use Rattle.mbuf_chain.specs.Steps.{with_front, with_back, narrowed, overwritten};
+ghost use Rattle.mbuf_chain.specs.Inside.Access.{CanWrite, HasMbuf, Replaced, Written};
+ghost use Rattle.mbuf_chain.specs.Inside.Cells.{IsPool, IsOff, pool_of, buffer_of, head_room_low, room_high, with_segment, entry_from};
 
 use crate::place::Place;
 use mbuf_pool::{Buffer, Change, Part, Store};
@@ -49,15 +50,11 @@ pub(crate) fn write_in(
     start: u32,
     bytes: &[u8],
 )
-    requires pool { IsPool store.old }
-    requires live { IsLive (pool_of store.old) first }
-    requires place { IsPlace (chain_of (pool_of store.old) first) at }
-    requires unshared { IsUnshared (pool_of store.old) (entry_in (pool_of store.old) first at) }
+    requires can { CanWrite store.old first at }
     requires cluster { cluster ≡ (mbuf_head store.old at.cell).cluster }
     requires low { head_room_low (mbuf_head store.old at.cell) ≤ start }
     requires high { start + length bytes.now ≤ room_high (mbuf_head store.old at.cell) }
-    ensures pool { IsPool store.new }
-    ensures writes { WritesPlace store.old store.new first at start bytes.now }
+    ensures { Written store.old store.new first at start bytes.now }
 {
     write(store, buffer_of(at.cell, cluster), start, bytes);
 }
@@ -73,17 +70,12 @@ fn copy_in(
     skip: u32,
     count: u32,
 )
-    requires pool { IsPool store.old }
-    requires live { IsLive (pool_of store.old) first }
-    requires place { IsPlace (chain_of (pool_of store.old) first) at }
-    requires unshared { IsUnshared (pool_of store.old) (entry_in (pool_of store.old) first at) }
+    requires can { CanWrite store.old first at }
     requires low { head_room_low (mbuf_head store.old at.cell) ≤ start }
     requires high { start + count ≤ room_high (mbuf_head store.old at.cell) }
-    requires other { IsLive (pool_of store.old) other }
-    requires from { IsPlace (chain_of (pool_of store.old) other) from }
+    requires from { HasMbuf store.old other from }
     requires within { skip + count ≤ length (entry_in (pool_of store.old) other from).bytes }
-    ensures pool { IsPool store.new }
-    ensures writes { WritesPlace store.old store.new first at start
+    ensures { Written store.old store.new first at start
         (take count (drop skip (entry_in (pool_of store.old) other from).bytes)) }
 {
     let head = store.head(at.cell);
@@ -120,14 +112,10 @@ pub(crate) fn set_total(store: &mut Store, first: u32, added: u32, removed: u32)
 /// Makes the `len` bytes from offset `start` of its buffer the data of an mbuf.
 #[inline(always)]
 pub(crate) fn resize(store: &mut Store, first: u32, at: Place, start: u32, len: u32)
-    requires pool { IsPool store.old }
-    requires live { IsLive (pool_of store.old) first }
-    requires place { IsPlace (chain_of (pool_of store.old) first) at }
+    requires place { HasMbuf store.old first at }
     requires low { head_room_low (mbuf_head store.old at.cell) ≤ start }
     requires high { start + len ≤ room_high (mbuf_head store.old at.cell) }
-    ensures pool { IsPool store.new }
-    ensures change { pool_of store.new ≡
-        with_entry_in (pool_of store.old) first at
+    ensures { Replaced store.old store.new first at
         (entry_from store.old at.cell (with_segment (mbuf_head store.old at.cell) start len)) }
 {
     let head = store.head(at.cell);
@@ -138,13 +126,9 @@ pub(crate) fn resize(store: &mut Store, first: u32, at: Place, start: u32, len: 
 /// Keeps only `keep` bytes of an mbuf, after the first `skip`.
 #[inline(always)]
 pub(crate) fn narrow(store: &mut Store, first: u32, at: Place, skip: u32, keep: u32)
-    requires pool { IsPool store.old }
-    requires live { IsLive (pool_of store.old) first }
-    requires place { IsPlace (chain_of (pool_of store.old) first) at }
+    requires place { HasMbuf store.old first at }
     requires within { skip + keep ≤ length (entry_in (pool_of store.old) first at).bytes }
-    ensures pool { IsPool store.new }
-    ensures change { pool_of store.new ≡
-        with_entry_in (pool_of store.old) first at
+    ensures { Replaced store.old store.new first at
         (narrowed (entry_in (pool_of store.old) first at) skip keep) }
 {
     let head = store.head(at.cell);
@@ -154,14 +138,9 @@ pub(crate) fn narrow(store: &mut Store, first: u32, at: Place, skip: u32, keep: 
 /// Appends bytes to those of an mbuf, into its trailing space.
 #[inline(always)]
 pub(crate) fn put_back(store: &mut Store, first: u32, at: Place, bytes: &[u8])
-    requires pool { IsPool store.old }
-    requires live { IsLive (pool_of store.old) first }
-    requires place { IsPlace (chain_of (pool_of store.old) first) at }
-    requires unshared { IsUnshared (pool_of store.old) (entry_in (pool_of store.old) first at) }
+    requires can { CanWrite store.old first at }
     requires fits { HasTrailingSpace (entry_in (pool_of store.old) first at) (length bytes.now) }
-    ensures pool { IsPool store.new }
-    ensures change { pool_of store.new ≡
-        with_entry_in (pool_of store.old) first at
+    ensures { Replaced store.old store.new first at
         (with_back (entry_in (pool_of store.old) first at) bytes.now) }
 {
     let head = store.head(at.cell);
@@ -173,14 +152,9 @@ pub(crate) fn put_back(store: &mut Store, first: u32, at: Place, bytes: &[u8])
 /// Prepends bytes to those of an mbuf, into its leading space.
 #[inline(always)]
 pub(crate) fn put_front(store: &mut Store, first: u32, at: Place, bytes: &[u8])
-    requires pool { IsPool store.old }
-    requires live { IsLive (pool_of store.old) first }
-    requires place { IsPlace (chain_of (pool_of store.old) first) at }
-    requires unshared { IsUnshared (pool_of store.old) (entry_in (pool_of store.old) first at) }
+    requires can { CanWrite store.old first at }
     requires fits { HasLeadingSpace (chain_of (pool_of store.old) first) at.index (length bytes.now) }
-    ensures pool { IsPool store.new }
-    ensures change { pool_of store.new ≡
-        with_entry_in (pool_of store.old) first at
+    ensures { Replaced store.old store.new first at
         (with_front (entry_in (pool_of store.old) first at) bytes.now) }
 {
     let head = store.head(at.cell);
@@ -193,14 +167,9 @@ pub(crate) fn put_front(store: &mut Store, first: u32, at: Place, bytes: &[u8])
 /// Overwrites bytes of an mbuf from `offset` on.
 #[inline(always)]
 pub(crate) fn overwrite(store: &mut Store, first: u32, at: Place, offset: u32, bytes: &[u8])
-    requires pool { IsPool store.old }
-    requires live { IsLive (pool_of store.old) first }
-    requires place { IsPlace (chain_of (pool_of store.old) first) at }
-    requires unshared { IsUnshared (pool_of store.old) (entry_in (pool_of store.old) first at) }
+    requires can { CanWrite store.old first at }
     requires within { offset + length bytes.now ≤ length (entry_in (pool_of store.old) first at).bytes }
-    ensures pool { IsPool store.new }
-    ensures change { pool_of store.new ≡
-        with_entry_in (pool_of store.old) first at
+    ensures { Replaced store.old store.new first at
         (overwritten (entry_in (pool_of store.old) first at) offset bytes.now) }
 {
     let head = store.head(at.cell);
@@ -217,17 +186,11 @@ pub(crate) fn append(
     skip: u32,
     count: u32,
 )
-    requires pool { IsPool store.old }
-    requires live { IsLive (pool_of store.old) first }
-    requires place { IsPlace (chain_of (pool_of store.old) first) at }
-    requires unshared { IsUnshared (pool_of store.old) (entry_in (pool_of store.old) first at) }
+    requires can { CanWrite store.old first at }
     requires fits { HasTrailingSpace (entry_in (pool_of store.old) first at) count }
-    requires other { IsLive (pool_of store.old) other }
-    requires from { IsPlace (chain_of (pool_of store.old) other) from }
+    requires from { HasMbuf store.old other from }
     requires within { skip + count ≤ length (entry_in (pool_of store.old) other from).bytes }
-    ensures pool { IsPool store.new }
-    ensures change { pool_of store.new ≡
-        with_entry_in (pool_of store.old) first at
+    ensures { Replaced store.old store.new first at
         (with_back (entry_in (pool_of store.old) first at)
         (take count (drop skip (entry_in (pool_of store.old) other from).bytes))) }
 {
@@ -248,9 +211,7 @@ pub(crate) fn append(
 /// Returns the bytes of an mbuf, without copying.
 #[inline(always)]
 pub(crate) fn bytes(store: &Store, first: u32, at: Place) -> &[u8]
-    requires pool { IsPool store.now }
-    requires live { IsLive (pool_of store.now) first }
-    requires place { IsPlace (chain_of (pool_of store.now) first) at }
+    requires { HasMbuf store.now first at }
     ensures value { result.now ≡ (entry_in (pool_of store.now) first at).bytes }
     ensures len { length result.now ≡ length (entry_in (pool_of store.now) first at).bytes }
 {

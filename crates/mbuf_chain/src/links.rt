@@ -1,8 +1,9 @@
 //! Freeing, joining and cutting chains.
 ghost use Rattle.std.specs.Prelude.{◌≡◌, ◌≢◌, ℕ, ◌+◌, ◌<◌, ◌≤◌, true, IsTrue, Some, None, length, take, MatchOption, is_some, if◌then◌else◌};
 ghost use Rattle.mbuf_pool.specs.Store.{IsStore, is_out, mbuf_head};
-ghost use Rattle.mbuf_chain.specs.Chain.{IsLive, IsPlace, chain_of, with_chain, without, string, room_start, room_end, leading_space, trailing_space, Adds, entry_in, HasLeadingSpace, HasTrailingSpace};
+ghost use Rattle.mbuf_chain.specs.Chain.{IsPlace, chain_of, with_chain, without, string, room_start, room_end, leading_space, trailing_space, Adds, entry_in, HasLeadingSpace, HasTrailingSpace};
 ghost use Rattle.mbuf_chain.specs.Steps.{joined, first_part, second_part};
+ghost use Rattle.mbuf_chain.specs.Inside.Access.{HasChain, HasMbuf};
 ghost use Rattle.mbuf_chain.specs.Inside.Cells.{IsPool, LeadsToEnd, pool_of, cells_from, weigh, one, len_at, last_of, packet_len};
 
 use crate::cells::{bytes_from, count_from, free_from, free_mbuf};
@@ -14,8 +15,7 @@ use params::{MBUF_HEADER, MSIZE, PACKET_START};
 /// Returns how many bytes a chain has.
 #[inline(always)]
 pub(crate) fn bytes_of(store: &Store, first: u32) -> u32
-    requires pool { IsPool store.now }
-    requires live { IsLive (pool_of store.now) first }
+    requires { HasChain store.now first }
     ensures { result ≡ length (string (chain_of (pool_of store.now) first)) }
 {
     match store.head(first).packet {
@@ -26,8 +26,7 @@ pub(crate) fn bytes_of(store: &Store, first: u32) -> u32
 
 /// Returns how many mbufs a chain has.
 pub(crate) fn mbufs_of(store: &Store, first: u32) -> u32
-    requires pool { IsPool store.now }
-    requires live { IsLive (pool_of store.now) first }
+    requires { HasChain store.now first }
     ensures { result ≡ length (chain_of (pool_of store.now) first).entries }
 {
     count_from(store, first)
@@ -36,8 +35,7 @@ pub(crate) fn mbufs_of(store: &Store, first: u32) -> u32
 /// Returns whether a chain has a packet header.
 #[inline(always)]
 pub(crate) fn has_header(store: &Store, first: u32) -> bool
-    requires pool { IsPool store.now }
-    requires live { IsLive (pool_of store.now) first }
+    requires { HasChain store.now first }
     ensures { result ≡ (chain_of (pool_of store.now) first).front.header }
 {
     store.head(first).packet.is_some()
@@ -45,9 +43,7 @@ pub(crate) fn has_header(store: &Store, first: u32) -> bool
 
 /// Returns the place after another.
 pub(crate) fn next(store: &Store, first: u32, at: Place) -> Option<Place>
-    requires pool { IsPool store.now }
-    requires live { IsLive (pool_of store.now) first }
-    requires place { IsPlace (chain_of (pool_of store.now) first) at }
+    requires { HasMbuf store.now first at }
     ensures { MatchOption result (at.index + 1 ≡
         length (chain_of (pool_of store.now) first).entries)
         (λ q. IsPlace (chain_of (pool_of store.now) first) q × (q.index ≡ at.index + 1)) }
@@ -63,8 +59,7 @@ pub(crate) fn next(store: &Store, first: u32, at: Place) -> Option<Place>
 
 /// Returns the place of a chain's last mbuf.
 pub(crate) fn last(store: &Store, start: u32) -> Place
-    requires pool { IsPool store.now }
-    requires live { IsLive (pool_of store.now) start }
+    requires { HasChain store.now start }
     ensures place { IsPlace (chain_of (pool_of store.now) start) result }
     ensures index { result.index + 1 ≡ length (chain_of (pool_of store.now) start).entries }
 {
@@ -83,9 +78,7 @@ pub(crate) fn last(store: &Store, start: u32) -> Place
 /// Returns the location of an mbuf's bytes.
 #[inline(always)]
 pub(crate) fn segment(store: &Store, first: u32, at: Place) -> Segment
-    requires pool { IsPool store.now }
-    requires live { IsLive (pool_of store.now) first }
-    requires place { IsPlace (chain_of (pool_of store.now) first) at }
+    requires { HasMbuf store.now first at }
     ensures value { result ≡ record {
       start = (entry_in (pool_of store.now) first at).start;
       len = length (entry_in (pool_of store.now) first at).bytes;
@@ -118,9 +111,7 @@ fn data_start(packet: Option<PacketHeader>) -> u32
 /// Returns the number of free bytes before an mbuf's data.
 #[inline(always)]
 pub(crate) fn leading_space(store: &Store, first: u32, at: Place) -> u32
-    requires pool { IsPool store.now }
-    requires live { IsLive (pool_of store.now) first }
-    requires place { IsPlace (chain_of (pool_of store.now) first) at }
+    requires { HasMbuf store.now first at }
     ensures value { result ≡ leading_space (chain_of (pool_of store.now) first) at.index }
     ensures within { HasLeadingSpace (chain_of (pool_of store.now) first) at.index result }
 {
@@ -134,9 +125,7 @@ pub(crate) fn leading_space(store: &Store, first: u32, at: Place) -> u32
 
 /// Returns the number of free bytes after an mbuf's data.
 pub(crate) fn trailing_space(store: &Store, first: u32, at: Place) -> u32
-    requires pool { IsPool store.now }
-    requires live { IsLive (pool_of store.now) first }
-    requires place { IsPlace (chain_of (pool_of store.now) first) at }
+    requires { HasMbuf store.now first at }
     ensures value { result ≡ trailing_space (entry_in (pool_of store.now) first at) }
     ensures within { HasTrailingSpace (entry_in (pool_of store.now) first at) result }
 {
@@ -150,8 +139,7 @@ pub(crate) fn trailing_space(store: &Store, first: u32, at: Place) -> u32
 
 /// Frees a chain's mbufs and their cluster references.
 pub(crate) fn free_chain(store: &mut Store, first: u32)
-    requires pool { IsPool store.old }
-    requires live { IsLive (pool_of store.old) first }
+    requires { HasChain store.old first }
     ensures pool { IsPool store.new }
     ensures change { pool_of store.new ≡ without (pool_of store.old) first }
 {
@@ -160,8 +148,7 @@ pub(crate) fn free_chain(store: &mut Store, first: u32)
 
 /// Frees the first mbuf of a chain of two or more and its cluster reference. Returns the number of the rest.
 pub(crate) fn free_first(store: &mut Store, first: u32) -> u32
-    requires pool { IsPool store.old }
-    requires live { IsLive (pool_of store.old) first }
+    requires chain { HasChain store.old first }
     requires several { 1 < length (chain_of (pool_of store.old) first).entries }
     ensures pool { IsPool store.new }
     ensures change { Adds (without (pool_of store.old) first) (pool_of store.new) result
@@ -173,9 +160,8 @@ pub(crate) fn free_first(store: &mut Store, first: u32) -> u32
 /// Returns how many bytes the packet length of a chain grows by when another chain is linked after it. This is 0
 /// without a packet header, because then no length is stored.
 pub(crate) fn added_by(store: &Store, front: u32, back: u32) -> u32
-    requires pool { IsPool store.now }
-    requires front { IsLive (pool_of store.now) front }
-    requires back { IsLive (pool_of store.now) back }
+    requires front { HasChain store.now front }
+    requires back { HasChain store.now back }
     ensures { (chain_of (pool_of store.now) front).front.header ≡ true →
         result ≡ length (string (chain_of (pool_of store.now) back)) }
 {
@@ -189,11 +175,9 @@ pub(crate) fn added_by(store: &Store, front: u32, back: u32) -> u32
 /// Links a chain after another. The chain that is linked loses its packet header. If the other has one, `added` is the
 /// number of bytes of the chain that is linked.
 pub(crate) fn link(store: &mut Store, front: u32, last: Place, back: u32, added: u32) -> Place
-    requires pool { IsPool store.old }
-    requires front { IsLive (pool_of store.old) front }
-    requires back { IsLive (pool_of store.old) back }
+    requires place { HasMbuf store.old front last }
+    requires back { HasChain store.old back }
     requires apart { front ≢ back }
-    requires place { IsPlace (chain_of (pool_of store.old) front) last }
     requires last { last.index + 1 ≡ length (chain_of (pool_of store.old) front).entries }
     requires bytes { (chain_of (pool_of store.old) front).front.header ≡ true →
         added ≡ length (string (chain_of (pool_of store.old) back)) }
@@ -248,8 +232,7 @@ fn packet_len(store: &Store, first: u32) -> u32
 
 /// Cuts a chain after its first `keep` mbufs, and returns the number of the rest.
 pub(crate) fn cut(store: &mut Store, first: u32, keep: u32) -> u32
-    requires pool { IsPool store.old }
-    requires live { IsLive (pool_of store.old) first }
+    requires chain { HasChain store.old first }
     requires some { 0 < keep }
     requires within { keep < length (chain_of (pool_of store.old) first).entries }
     ensures pool { IsPool store.new }

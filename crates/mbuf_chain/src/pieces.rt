@@ -1,9 +1,10 @@
 //! Reading a chain's mbufs in place, one after another.
 ghost use Rattle.std.specs.Prelude.{◌≡◌, Some};
 ghost use Rattle.std.specs.Iterator.{YieldsFirst, YieldsFirstBy, YieldsFirstRef, item_count};
-ghost use Rattle.mbuf_chain.specs.Chain.{IsLive, chain_of, layout};
+ghost use Rattle.mbuf_chain.specs.Chain.{chain_of, layout};
 ghost use Rattle.mbuf_chain.specs.Heads.{heads};
-ghost use Rattle.mbuf_chain.specs.Inside.Cells.{IsPool, pool_of};
+ghost use Rattle.mbuf_chain.specs.Inside.Access.{HasChain};
+ghost use Rattle.mbuf_chain.specs.Inside.Cells.{pool_of};
 ghost use Rattle.mbuf_chain.specs.Pieces.{chain_pieces};
 ghost use Rattle.mbuf_chain.specs.Inside.Readable.{data_of};
 
@@ -85,8 +86,7 @@ fn data_of(cell: u32, head: Head) -> Part
 
 /// Iterates over the mbufs of a chain: their lengths and clusters.
 pub(crate) fn layout_of(store: &Store, first: u32) -> Entries<'_>
-    requires pool { IsPool store.now }
-    requires live { IsLive (pool_of store.now) first }
+    requires { HasChain store.now first }
     ensures { result ≡ layout (chain_of (pool_of store.now) first) }
 {
     Entries {
@@ -97,8 +97,7 @@ pub(crate) fn layout_of(store: &Store, first: u32) -> Entries<'_>
 
 /// Iterates over the mbufs of a chain: their bytes.
 pub(crate) fn pieces_of(store: &Store, first: u32) -> Pieces<'_>
-    requires pool { IsPool store.now }
-    requires live { IsLive (pool_of store.now) first }
+    requires { HasChain store.now first }
     ensures { result ≡ chain_pieces (chain_of (pool_of store.now) first) }
 {
     Pieces {
@@ -109,8 +108,7 @@ pub(crate) fn pieces_of(store: &Store, first: u32) -> Pieces<'_>
 
 /// Iterates over the mbufs of a chain: their head fields and their bytes.
 pub(crate) fn heads_of(store: &Store, first: u32) -> MbufHeads<'_>
-    requires pool { IsPool store.now }
-    requires live { IsLive (pool_of store.now) first }
+    requires { HasChain store.now first }
     ensures { result ≡ heads (chain_of (pool_of store.now) first) }
 {
     MbufHeads {

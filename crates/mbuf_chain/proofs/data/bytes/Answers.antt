@@ -5,19 +5,17 @@ use Rattle.mbuf_chain.proofs.Heads.{shown_at}
 use Rattle.mbuf_chain.proofs.data.bytes.Goals as goal
 
 pub head-head-requires : goal.head-head-requires
-head-head-requires c = (shown_at _ _ _ c.requires.pool c.requires.live c.requires.place).out
+head-head-requires c = (shown_at c.requires).out
 
 pub bytes-requires : goal.bytes-requires
 bytes-requires c =
-    lent_room c.args.store.now c.args.first c.args.at c.head-head.result c.buffer_of.result c.requires.pool
-    c.requires.live c.requires.place c.head-head.ensures.value c.buffer_of.ensures
+    lent_room c.requires c.head-head.ensures.value c.buffer_of.ensures
 
 pub returns-clause-value : goal.returns-clause-value
 returns-clause-value c =
-    c.bytes.ensures.value ∙ lent_bytes c.args.store.now c.args.first c.args.at c.head-head.result c.buffer_of.result
-    c.requires.pool c.requires.live c.requires.place c.head-head.ensures.value c.buffer_of.ensures
+    c.bytes.ensures.value ∙ lent_bytes c.requires c.head-head.ensures.value c.buffer_of.ensures
 
 pub returns-clause-len : goal.returns-clause-len
 returns-clause-len c =
     c.bytes.ensures.len ∙ ap (λ (h : Head). h.len) c.head-head.ensures.value
-    ∙ (shown_at c.args.store.now c.args.first c.args.at c.requires.pool c.requires.live c.requires.place).long
+    ∙ (shown_at c.requires).long

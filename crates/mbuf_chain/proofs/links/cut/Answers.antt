@@ -8,29 +8,29 @@ use Rattle.mbuf_chain.proofs.Cuts.{IsCut, cut_made, cut_place}
 use Rattle.mbuf_chain.proofs.links.cut.Goals as goal
 
 pub packet_len-whole-requires : goal.packet_len-whole-requires
-packet_len-whole-requires c = first_out _ _ (open_on _ _ c.requires.pool c.requires.live).at
+packet_len-whole-requires c = first_out _ _ (open_on _ _ c.requires.chain.pool c.requires.chain.live).at
 
 pub end_of-last-requires-clause-whole : goal.end_of-last-requires-clause-whole
-end_of-last-requires-clause-whole c = whole_of _ _ (open_on _ _ c.requires.pool c.requires.live).at
+end_of-last-requires-clause-whole c = whole_of _ _ (open_on _ _ c.requires.chain.pool c.requires.chain.live).at
 
 pub end_of-last-requires-clause-within : goal.end_of-last-requires-clause-within
 end_of-last-requires-clause-within c =
-    let o = open_on c.args.store.now c.args.first c.requires.pool c.requires.live in
+    let o = open_on c.args.store.now c.args.first c.requires.chain.pool c.requires.chain.live in
     omega (arith, ap (weigh one) o.at.walks, count_cells c.args.store.now c.args.first o.at, c.requires.within)
 
 pub head-head-requires : goal.head-head-requires
 head-head-requires c =
-    (cut_place c.args.first c.requires.pool c.requires.live c.requires.some c.requires.within
+    (cut_place c.args.first c.requires.chain.pool c.requires.chain.live c.requires.some c.requires.within
     c.end_of-last.ensures.cell).out
 
 pub change_head-requires-clause-out : goal.change_head-requires-clause-out
 change_head-requires-clause-out c =
-    (cut_place c.args.first c.requires.pool c.requires.live c.requires.some c.requires.within
+    (cut_place c.args.first c.requires.chain.pool c.requires.chain.live c.requires.some c.requires.within
     c.end_of-last.ensures.cell).out
 
 pub unwrap-rest-requires : goal.unwrap-rest-requires
 unwrap-rest-requires c =
-    (cut_place c.args.first c.requires.pool c.requires.live c.requires.some c.requires.within
+    (cut_place c.args.first c.requires.chain.pool c.requires.chain.live c.requires.some c.requires.within
     c.end_of-last.ensures.cell).some c.head-head.result c.head-head.ensures.value
 
 -- both chains, after the link of the first one's last mbuf is removed
@@ -39,10 +39,10 @@ made : (c : goal.After-set_total-arg-1)
     c.packet_len-whole.result
 made c =
     let place =
-    cut_place c.args.first c.requires.pool c.requires.live c.requires.some c.requires.within
+    cut_place c.args.first c.requires.chain.pool c.requires.chain.live c.requires.some c.requires.within
     c.end_of-last.ensures.cell in
     let next = ap (λ (h : Head). h.next) (sym c.head-head.ensures.value) ∙ c.unwrap-rest.ensures in
-    cut_made c.args.first c.requires.pool c.requires.live c.requires.some c.requires.within c.end_of-last.ensures.cell
+    cut_made c.args.first c.requires.chain.pool c.requires.chain.live c.requires.some c.requires.within c.end_of-last.ensures.cell
     c.end_of-last.ensures.bytes
     c.packet_len-whole.ensures next place.out place.fit c.change_head.ensures.change c.change_head.ensures.store
 

@@ -4,7 +4,7 @@ use Rattle.mbuf_chain.proofs.Places.{next_place, next_none, live_cells}
 use Rattle.mbuf_chain.proofs.links.next.Goals as goal
 
 pub head-requires : goal.head-requires
-head-requires c = (shown_at _ _ _ c.requires.pool c.requires.live c.requires.place).out
+head-requires c = (shown_at c.requires).out
 
 pub overflow_add-result : goal.overflow_add-result
 overflow_add-result c =
@@ -16,7 +16,7 @@ overflow_add-result c =
 
 pub returns-in-Some : goal.returns-in-Some
 returns-in-Some c =
-    (next_place _ _ _ _ _ c.requires.pool c.requires.live c.requires.place c.head.ensures.value c.in-Some.is, refl)
+    (next_place c.requires c.head.ensures.value c.in-Some.is, refl)
 
 pub returns-in-None : goal.returns-in-None
-returns-in-None c = next_none _ _ _ _ c.requires.pool c.requires.live c.requires.place c.head.ensures.value c.in-None.is
+returns-in-None c = next_none c.requires c.head.ensures.value c.in-None.is

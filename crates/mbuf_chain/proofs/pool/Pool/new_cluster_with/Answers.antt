@@ -8,78 +8,27 @@ use Rattle.mbuf_chain.specs.Steps.{one_mbuf}
 use Rattle.mbuf_chain.specs.Inside.Cells.{Taken, IsPool, pool_of}
 use Rattle.mbuf_chain.proofs.Made.{none_free, one_free_beside, given_back, cluster_free, free_are, was_unreferenced}
 use Rattle.mbuf_chain.proofs.Stores.{taken}
-use Rattle.mbuf_chain.proofs.FilledCluster.{blank}
+use Rattle.mbuf_chain.proofs.FilledCluster.{Blank, blank}
 use Rattle.mbuf_chain.proofs.pool.Pool.new_cluster_with.Goals as goal
+use Rattle.mbuf_chain.proofs.pool.Pool.new_cluster_with.Goals.{In-Ok-get_with}
 
-pub write_in-requires-clause-pool : goal.write_in-requires-clause-pool
-write_in-requires-clause-pool c =
-    (blank c.self.inside.store c.get_cluster.new.self c.get_with.new.self c.in-Ok-get_with.first c.in-Ok.cluster
+-- the new mbuf, before its bytes are written
+made : (c : In-Ok-get_with)
+    → Blank c.self.inside.store c.get_with.new.self c.in-Ok-get_with.first c.in-Ok.cluster c.args.header c.args.start
+    c.args.bytes.now
+made c =
+    blank c.self.inside.store c.get_cluster.new.self c.get_with.new.self c.in-Ok-get_with.first c.in-Ok.cluster
     c.args.header
     c.args.start c.args.bytes.now c.self.invariant c.in-Ok.ensures.ok
     (was_unreferenced _ _ _ c.self.invariant c.in-Ok.ensures.ok)
     (subst (λ (h : Head). Taken c.get_cluster.new.self c.get_with.new.self c.in-Ok-get_with.first h)
     c.head_for-head.ensures
-    (taken _ _ _ _ c.in-Ok-get_with.ensures.ok)) c.get_with.ensures.store c.requires).pool
+    (taken _ _ _ _ c.in-Ok-get_with.ensures.ok)) c.get_with.ensures.store c.requires
 
-pub write_in-requires-clause-live : goal.write_in-requires-clause-live
-write_in-requires-clause-live c =
-    (blank c.self.inside.store c.get_cluster.new.self c.get_with.new.self c.in-Ok-get_with.first c.in-Ok.cluster
-    c.args.header
-    c.args.start c.args.bytes.now c.self.invariant c.in-Ok.ensures.ok
-    (was_unreferenced _ _ _ c.self.invariant c.in-Ok.ensures.ok)
-    (subst (λ (h : Head). Taken c.get_cluster.new.self c.get_with.new.self c.in-Ok-get_with.first h)
-    c.head_for-head.ensures
-    (taken _ _ _ _ c.in-Ok-get_with.ensures.ok)) c.get_with.ensures.store c.requires).live
-
-pub write_in-requires-clause-place : goal.write_in-requires-clause-place
-write_in-requires-clause-place c =
-    (blank c.self.inside.store c.get_cluster.new.self c.get_with.new.self c.in-Ok-get_with.first c.in-Ok.cluster
-    c.args.header
-    c.args.start c.args.bytes.now c.self.invariant c.in-Ok.ensures.ok
-    (was_unreferenced _ _ _ c.self.invariant c.in-Ok.ensures.ok)
-    (subst (λ (h : Head). Taken c.get_cluster.new.self c.get_with.new.self c.in-Ok-get_with.first h)
-    c.head_for-head.ensures
-    (taken _ _ _ _ c.in-Ok-get_with.ensures.ok)) c.get_with.ensures.store c.requires).place
-
-pub write_in-requires-clause-unshared : goal.write_in-requires-clause-unshared
-write_in-requires-clause-unshared c =
-    (blank c.self.inside.store c.get_cluster.new.self c.get_with.new.self c.in-Ok-get_with.first c.in-Ok.cluster
-    c.args.header
-    c.args.start c.args.bytes.now c.self.invariant c.in-Ok.ensures.ok
-    (was_unreferenced _ _ _ c.self.invariant c.in-Ok.ensures.ok)
-    (subst (λ (h : Head). Taken c.get_cluster.new.self c.get_with.new.self c.in-Ok-get_with.first h)
-    c.head_for-head.ensures
-    (taken _ _ _ _ c.in-Ok-get_with.ensures.ok)) c.get_with.ensures.store c.requires).unshared
-
-pub write_in-requires-clause-cluster : goal.write_in-requires-clause-cluster
-write_in-requires-clause-cluster c =
-    (blank c.self.inside.store c.get_cluster.new.self c.get_with.new.self c.in-Ok-get_with.first c.in-Ok.cluster
-    c.args.header
-    c.args.start c.args.bytes.now c.self.invariant c.in-Ok.ensures.ok
-    (was_unreferenced _ _ _ c.self.invariant c.in-Ok.ensures.ok)
-    (subst (λ (h : Head). Taken c.get_cluster.new.self c.get_with.new.self c.in-Ok-get_with.first h)
-    c.head_for-head.ensures
-    (taken _ _ _ _ c.in-Ok-get_with.ensures.ok)) c.get_with.ensures.store c.requires).cluster
-
-pub write_in-requires-clause-low : goal.write_in-requires-clause-low
-write_in-requires-clause-low c =
-    (blank c.self.inside.store c.get_cluster.new.self c.get_with.new.self c.in-Ok-get_with.first c.in-Ok.cluster
-    c.args.header
-    c.args.start c.args.bytes.now c.self.invariant c.in-Ok.ensures.ok
-    (was_unreferenced _ _ _ c.self.invariant c.in-Ok.ensures.ok)
-    (subst (λ (h : Head). Taken c.get_cluster.new.self c.get_with.new.self c.in-Ok-get_with.first h)
-    c.head_for-head.ensures
-    (taken _ _ _ _ c.in-Ok-get_with.ensures.ok)) c.get_with.ensures.store c.requires).low
-
-pub write_in-requires-clause-high : goal.write_in-requires-clause-high
-write_in-requires-clause-high c =
-    (blank c.self.inside.store c.get_cluster.new.self c.get_with.new.self c.in-Ok-get_with.first c.in-Ok.cluster
-    c.args.header
-    c.args.start c.args.bytes.now c.self.invariant c.in-Ok.ensures.ok
-    (was_unreferenced _ _ _ c.self.invariant c.in-Ok.ensures.ok)
-    (subst (λ (h : Head). Taken c.get_cluster.new.self c.get_with.new.self c.in-Ok-get_with.first h)
-    c.head_for-head.ensures
-    (taken _ _ _ _ c.in-Ok-get_with.ensures.ok)) c.get_with.ensures.store c.requires).high
+pub write_in-requires : goal.write_in-requires
+write_in-requires c =
+    let m = made (goal.at.write_in-requires c).In-Ok-get_with in
+    record { can = m.can; cluster = m.cluster; low = m.low; high = m.high }
 
 pub returns-in-Ok-get_with-clause-ok : goal.returns-in-Ok-get_with-clause-ok
 returns-in-Ok-get_with-clause-ok c =
@@ -91,13 +40,7 @@ returns-in-Ok-get_with-clause-ok c =
       c.in-Ok.cluster,
       slice_get_within _ _ _ c.in-Ok.ensures.ok.was_free,
       was_unreferenced _ _ _ c.self.invariant c.in-Ok.ensures.ok,
-      (blank c.self.inside.store c.get_cluster.new.self c.get_with.new.self c.in-Ok-get_with.first c.in-Ok.cluster
-          c.args.header
-          c.args.start c.args.bytes.now c.self.invariant c.in-Ok.ensures.ok
-          (was_unreferenced _ _ _ c.self.invariant c.in-Ok.ensures.ok)
-          (subst (λ (h : Head). Taken c.get_cluster.new.self c.get_with.new.self c.in-Ok-get_with.first h)
-          c.head_for-head.ensures
-          (taken _ _ _ _ c.in-Ok-get_with.ensures.ok)) c.get_with.ensures.store c.requires).done c.write_in.new.store
+      (made (goal.at.returns-in-Ok-get_with-clause-ok c).In-Ok-get_with).done c.write_in.new.store
           c.write_in.ensures.writes,
     ))
 

@@ -6,69 +6,31 @@ use Rattle.mbuf_chain.specs.Chain.{PoolView, Adds, held_mbufs}
 use Rattle.mbuf_chain.specs.Steps.{one_mbuf}
 use Rattle.mbuf_chain.specs.Inside.Cells.{Taken, pool_of}
 use Rattle.mbuf_chain.proofs.Made.{none_free, one_free}
-use Rattle.mbuf_chain.proofs.Filled.{blank}
+use Rattle.mbuf_chain.proofs.Filled.{Blank, blank}
 use Rattle.mbuf_chain.proofs.Stores.{taken}
 use Rattle.mbuf_chain.proofs.pool.Pool.new_plain_with.Goals as goal
+use Rattle.mbuf_chain.proofs.pool.Pool.new_plain_with.Goals.{In-Ok}
 
-pub write_in-requires-clause-pool : goal.write_in-requires-clause-pool
-write_in-requires-clause-pool c =
-    (blank c.self.inside.store c.get_with.new.self c.in-Ok.first c.args.header c.args.start c.args.bytes.now
+-- the new mbuf, before its bytes are written
+made : (c : In-Ok)
+    → Blank c.self.inside.store c.get_with.new.self c.in-Ok.first c.args.header c.args.start c.args.bytes.now
+made c =
+    blank c.self.inside.store c.get_with.new.self c.in-Ok.first c.args.header c.args.start c.args.bytes.now
     c.self.invariant
     (subst (λ (h : Head). Taken c.self.inside.store c.get_with.new.self c.in-Ok.first h) c.head_for-head.ensures
-    (taken _ _ _ _ c.in-Ok.ensures.ok)) c.get_with.ensures.store c.requires.low c.requires.high).pool
+    (taken _ _ _ _ c.in-Ok.ensures.ok)) c.get_with.ensures.store c.requires.low c.requires.high
 
-pub write_in-requires-clause-live : goal.write_in-requires-clause-live
-write_in-requires-clause-live c =
-    (blank c.self.inside.store c.get_with.new.self c.in-Ok.first c.args.header c.args.start c.args.bytes.now
-    c.self.invariant
-    (subst (λ (h : Head). Taken c.self.inside.store c.get_with.new.self c.in-Ok.first h) c.head_for-head.ensures
-    (taken _ _ _ _ c.in-Ok.ensures.ok)) c.get_with.ensures.store c.requires.low c.requires.high).live
-
-pub write_in-requires-clause-place : goal.write_in-requires-clause-place
-write_in-requires-clause-place c =
-    (blank c.self.inside.store c.get_with.new.self c.in-Ok.first c.args.header c.args.start c.args.bytes.now
-    c.self.invariant
-    (subst (λ (h : Head). Taken c.self.inside.store c.get_with.new.self c.in-Ok.first h) c.head_for-head.ensures
-    (taken _ _ _ _ c.in-Ok.ensures.ok)) c.get_with.ensures.store c.requires.low c.requires.high).place
-
-pub write_in-requires-clause-unshared : goal.write_in-requires-clause-unshared
-write_in-requires-clause-unshared c =
-    (blank c.self.inside.store c.get_with.new.self c.in-Ok.first c.args.header c.args.start c.args.bytes.now
-    c.self.invariant
-    (subst (λ (h : Head). Taken c.self.inside.store c.get_with.new.self c.in-Ok.first h) c.head_for-head.ensures
-    (taken _ _ _ _ c.in-Ok.ensures.ok)) c.get_with.ensures.store c.requires.low c.requires.high).unshared
-
-pub write_in-requires-clause-cluster : goal.write_in-requires-clause-cluster
-write_in-requires-clause-cluster c =
-    (blank c.self.inside.store c.get_with.new.self c.in-Ok.first c.args.header c.args.start c.args.bytes.now
-    c.self.invariant
-    (subst (λ (h : Head). Taken c.self.inside.store c.get_with.new.self c.in-Ok.first h) c.head_for-head.ensures
-    (taken _ _ _ _ c.in-Ok.ensures.ok)) c.get_with.ensures.store c.requires.low c.requires.high).cluster
-
-pub write_in-requires-clause-low : goal.write_in-requires-clause-low
-write_in-requires-clause-low c =
-    (blank c.self.inside.store c.get_with.new.self c.in-Ok.first c.args.header c.args.start c.args.bytes.now
-    c.self.invariant
-    (subst (λ (h : Head). Taken c.self.inside.store c.get_with.new.self c.in-Ok.first h) c.head_for-head.ensures
-    (taken _ _ _ _ c.in-Ok.ensures.ok)) c.get_with.ensures.store c.requires.low c.requires.high).low
-
-pub write_in-requires-clause-high : goal.write_in-requires-clause-high
-write_in-requires-clause-high c =
-    (blank c.self.inside.store c.get_with.new.self c.in-Ok.first c.args.header c.args.start c.args.bytes.now
-    c.self.invariant
-    (subst (λ (h : Head). Taken c.self.inside.store c.get_with.new.self c.in-Ok.first h) c.head_for-head.ensures
-    (taken _ _ _ _ c.in-Ok.ensures.ok)) c.get_with.ensures.store c.requires.low c.requires.high).high
+pub write_in-requires : goal.write_in-requires
+write_in-requires c =
+    let m = made (goal.at.write_in-requires c).In-Ok in
+    record { can = m.can; cluster = m.cluster; low = m.low; high = m.high }
 
 pub returns-in-Ok-clause-ok : goal.returns-in-Ok-clause-ok
 returns-in-Ok-clause-ok c =
     subst (λ (p : PoolView). Adds p (pool_of c.write_in.new.store) c.in-Ok.first
     (one_mbuf c.args.header (record { bytes = c.args.bytes.now; start = c.args.start; cluster = None })
     c.in-Ok.first)) c.self.view_is
-    ((blank c.self.inside.store c.get_with.new.self c.in-Ok.first c.args.header c.args.start c.args.bytes.now
-    c.self.invariant
-    (subst (λ (h : Head). Taken c.self.inside.store c.get_with.new.self c.in-Ok.first h) c.head_for-head.ensures
-    (taken _ _ _ _ c.in-Ok.ensures.ok)) c.get_with.ensures.store c.requires.low c.requires.high).done
-    c.write_in.new.store
+    ((made (goal.at.returns-in-Ok-clause-ok c).In-Ok).done c.write_in.new.store
     c.write_in.ensures.writes)
 
 pub returns-in-Ok-clause-free : goal.returns-in-Ok-clause-free
