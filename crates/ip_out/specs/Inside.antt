@@ -1,17 +1,18 @@
 -- How packets are counted and made, one after another (this project's own). No caller reads it.
-use Rattle.std.specs.Prelude.{◌≡◌, ℕ, ◌+◌, ◌-◌, ◌*◌, ◌/◌, ◌%◌, ◌<◌, ◌≤◌, min, max, nat_lt, if◌then◌else◌, List, [], ◌∷◌, ◌++◌, length, map, drop, sum_by, None}
+use Rattle.std.specs.Prelude.{◌≡◌, ℕ, ◌+◌, ◌-◌, ◌*◌, ◌/◌, ◌%◌, ◌<◌, ◌≤◌, min, max, nat_lt, if◌then◌else◌, List, [], ◌∷◌, ◌++◌, length, map, drop, sum_by, None, Result, Ok, Err}
 use Rattle.std.specs.List.{range_with_len}
 use Rattle.params.specs.declared.TheConstants.{FRAGMENT_UNIT, IP_HEADER, IP_MAX_PACKET, IP_UDP_HEADERS, OUTPUT_QUEUE_PACKETS, PACKET_START, UDP_HEADER}
 use Rattle.flat_model.specs.Amounts.Weight.{Item}
 use Rattle.flat_model.specs.Fragments.Cuts.{Part, cuts, part}
 use Rattle.flat_model.specs.Machine.Sending.{later_weight}
-use Rattle.mbuf_chain.specs.Chain.{Entry, PoolView, ChainView, string}
+use Rattle.mbuf_chain.specs.Chain.{Entry, PoolView, ChainView, IsLive, chain_of, held_mbufs, string, without}
 use Rattle.mbuf_chain.specs.Train.{TrainView, numbers, IsHeld}
 use Rattle.mbuf_chain.specs.Owners.{Moves, IsOwned}
+use Rattle.chain_ops.specs.Makes.{HasMbufs, LacksMbufs}
 use Rattle.chain_ops.specs.Weights.{layout_entries}
 use Rattle.ip_out.specs.declared.head.IpHead.{IpHead}
 use Rattle.ip_out.specs.Headings.{head_bytes}
-use Rattle.ip_out.specs.Packets.{train_packets, part_bytes, BeginPlain}
+use Rattle.ip_out.specs.Packets.{BeginPlain, IsDatagramChain, later_need, packets_of, part_bytes, train_packets}
 
 -- ---- how many mbufs of a send share a byte with its later fragments
 
@@ -50,6 +51,31 @@ pub record IsLater (p q : PoolView) (t : TrainView) (v : ChainView) (h : IpHead)
   pub moves : Moves p [] q (numbers q t)
   pub items : train_packets q t ≡ map (later_item v h) parts
   pub plain : BeginPlain q t
+
+-- chain c has a datagram after the room for its header, n bytes with it
+pub record HasDatagram (p : PoolView) (c n : ℕ) : Type 0 where
+  pub live : IsLive p c
+  pub datagram : IsDatagramChain (chain_of p c)
+  pub len : n ≡ length (string (chain_of p c))
+
+-- from p to q the packets of chain c were made
+pub record IsPacked (p : PoolView) (c : ℕ) (h : IpHead) (mtu : ℕ) (q : PoolView) (t : TrainView) : Type 0 where
+  pub held : IsHeld q t
+  pub packets : train_packets q t ≡ packets_of (chain_of p c) h mtu
+  pub plain : BeginPlain q t
+  pub moves : Moves p (c ∷ []) q (numbers q t)
+  pub count : held_mbufs q ≡ held_mbufs p + later_need (chain_of p c) mtu
+  pub enough : HasMbufs p (later_need (chain_of p c) mtu)
+
+-- too few mbufs are free for them: the chain was freed
+pub record IsNotPacked (p : PoolView) (c mtu : ℕ) (q : PoolView) : Type 0 where
+  pub err : LacksMbufs p (later_need (chain_of p c) mtu)
+  pub freed : q ≡ without p c
+
+module _ {E : Type 0} where
+  abbrev pub Packs : PoolView → ℕ → IpHead → ℕ → PoolView → Result TrainView E → Type 0
+  Packs p c h mtu q (Ok t) = IsPacked p c h mtu q t
+  Packs p c h mtu q (Err e) = IsNotPacked p c mtu q
 
 -- n bytes are cut into parts of c, k of them
 pub record IsCutInto (n mtu c k : ℕ) : Type 0 where

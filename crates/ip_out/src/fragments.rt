@@ -1,7 +1,7 @@
 //! The packets of a datagram: the chain itself, trimmed, and copies that share its clusters.
 ghost use Rattle.std.specs.Prelude.{◌≡◌, ℕ, ◌+◌, ◌-◌, ◌*◌, ◌/◌, ◌%◌, ◌<◌, ◌≤◌, [], ◌∷◌, ◌++◌, true, false, length, sum_by, IfOk, OnOk, OnErr};
 ghost use Rattle.flat_model.specs.Fragments.Cuts.{part};
-ghost use Rattle.mbuf_chain.specs.Chain.{IsLive, chain_of, string, alone, held_mbufs, without, Adds};
+ghost use Rattle.mbuf_chain.specs.Chain.{IsLive, chain_of, string, alone, held_mbufs, Adds};
 ghost use Rattle.mbuf_chain.specs.Steps.{one_mbuf};
 ghost use Rattle.mbuf_chain.specs.Owners.{Moves, times_among};
 ghost use Rattle.mbuf_chain.specs.Train.{IsHeld, numbers};
@@ -9,7 +9,7 @@ ghost use Rattle.chain_ops.specs.Makes.{Makes, HasMbufs, LacksMbufs};
 ghost use Rattle.chain_ops.specs.Copies.{copied};
 ghost use Rattle.chain_ops.specs.Cursors.{IsCursor};
 ghost use Rattle.ip_out.specs.Packets.{BeginPlain, IsDatagramChain, part_head, later_need, train_packets, packets_of, part_need};
-ghost use Rattle.ip_out.specs.Inside.{head_entry, parts_to, IsCutInto, IsLater};
+ghost use Rattle.ip_out.specs.Inside.{HasDatagram, Packs, head_entry, parts_to, IsCutInto, IsLater};
 
 use crate::head::{IpHead, MAX_OFFSET, write_head};
 use chain_ops::theorems::copy_weight;
@@ -151,9 +151,7 @@ fn later(pool: &mut Pool, chain: &Chain, head: IpHead, n: u32, cut: Cut) -> Resu
 /// header written over its first bytes.
 #[inline(always)]
 pub(crate) fn add_whole(pool: &mut Pool, train: &mut Train, chain: Chain, head: IpHead, len: u32)
-    requires live { IsLive pool.old chain }
-    requires datagram { IsDatagramChain (chain_of pool.old chain) }
-    requires len { len ≡ length (string (chain_of pool.old chain)) }
+    requires has { HasDatagram pool.old chain len }
     requires held { IsHeld pool.old train.old }
     requires apart { times_among chain (numbers pool.old train.old) ≡ 0 }
     ensures held { IsHeld pool.new train.new }
@@ -179,9 +177,7 @@ pub(crate) fn add_whole(pool: &mut Pool, train: &mut Train, chain: Chain, head: 
 
 /// Makes the packet of a datagram of `len` bytes that isn't cut: see `add_whole`.
 fn one_packet(pool: &mut Pool, chain: Chain, head: IpHead, len: u32) -> Train
-    requires live { IsLive pool.old chain }
-    requires datagram { IsDatagramChain (chain_of pool.old chain) }
-    requires len { len ≡ length (string (chain_of pool.old chain)) }
+    requires { HasDatagram pool.old chain len }
     ensures held { IsHeld pool.new result }
     ensures packets { (mtu : ℕ) → len ≤ mtu
         → train_packets pool.new result ≡ packets_of (chain_of pool.old chain) head mtu }
@@ -205,20 +201,10 @@ fn cut_packets(
     len: u32,
     mtu: u16,
 ) -> Result<Train, NoBufs>
-    requires len { len ≡ length (string (chain_of pool.old chain)) }
+    requires has { HasDatagram pool.old chain len }
     requires long { mtu < len }
-    requires live { IsLive pool.old chain }
-    requires datagram { IsDatagramChain (chain_of pool.old chain) }
     requires least { MIN_MTU ≤ mtu }
-    ensures held { IfOk result (IsHeld pool.new) }
-    ensures packets { IfOk result (λ t. train_packets pool.new t ≡ packets_of (chain_of pool.old chain) head mtu) }
-    ensures plain { IfOk result (BeginPlain pool.new) }
-    ensures moves { IfOk result (λ t. Moves pool.old (chain ∷ []) pool.new (numbers pool.new t)) }
-    ensures count { OnOk result
-        (held_mbufs pool.new ≡ held_mbufs pool.old + later_need (chain_of pool.old chain) mtu) }
-    ensures enough { OnOk result (HasMbufs pool.old (later_need (chain_of pool.old chain) mtu)) }
-    ensures err { OnErr result (LacksMbufs pool.old (later_need (chain_of pool.old chain) mtu)) }
-    ensures freed { OnErr result (pool.new ≡ without pool.old chain) }
+    ensures { Packs pool.old chain head mtu pool.new result }
 {
     let n = len - IP_HEADER;
     let cut = cut_of(n, mtu as u32);
@@ -251,15 +237,7 @@ pub(crate) fn fragments(
     requires live { IsLive pool.old chain }
     requires datagram { IsDatagramChain (chain_of pool.old chain) }
     requires least { MIN_MTU ≤ mtu }
-    ensures held { IfOk result (IsHeld pool.new) }
-    ensures packets { IfOk result (λ t. train_packets pool.new t ≡ packets_of (chain_of pool.old chain) head mtu) }
-    ensures plain { IfOk result (BeginPlain pool.new) }
-    ensures moves { IfOk result (λ t. Moves pool.old (chain ∷ []) pool.new (numbers pool.new t)) }
-    ensures count { OnOk result
-        (held_mbufs pool.new ≡ held_mbufs pool.old + later_need (chain_of pool.old chain) mtu) }
-    ensures enough { OnOk result (HasMbufs pool.old (later_need (chain_of pool.old chain) mtu)) }
-    ensures err { OnErr result (LacksMbufs pool.old (later_need (chain_of pool.old chain) mtu)) }
-    ensures freed { OnErr result (pool.new ≡ without pool.old chain) }
+    ensures { Packs pool.old chain head mtu pool.new result }
 {
     let len = pool.len(&chain);
     if len > mtu as u32 {

@@ -5,6 +5,7 @@ ghost use Rattle.mbuf_chain.specs.Heads.{nth_heads};
 ghost use Rattle.mbuf_chain.specs.Owners.{Moves, IsOwned, times_among};
 ghost use Rattle.mbuf_chain.specs.Train.{IsHeld, numbers};
 ghost use Rattle.ledger.specs.Accounts.{item_at};
+ghost use Rattle.ip_out.specs.Inside.{HasDatagram};
 ghost use Rattle.ip_out.specs.Packets.{BeginPlain, IsDatagramChain, train_packets, packets_of, chain_parts};
 ghost use Rattle.ip_out.specs.Questions.{nth_packet, oldest_length};
 ghost use Rattle.ip_out.specs.Queues.{IsOutputQueue};
@@ -168,9 +169,7 @@ impl Queue {
         len: u32,
     ) -> bool
         requires queue { IsOutputQueue pool.old self.old }
-        requires live { IsLive pool.old chain }
-        requires datagram { IsDatagramChain (chain_of pool.old chain) }
-        requires len { len ≡ length (string (chain_of pool.old chain)) }
+        requires has { HasDatagram pool.old chain len }
         requires apart { times_among chain (numbers pool.old self.old) ≡ 0 }
         ensures packets { (mtu : ℕ) → len ≤ mtu → train_packets pool.new self.new ≡ take OUTPUT_QUEUE_PACKETS
             (train_packets pool.old self.old ++ packets_of (chain_of pool.old chain) head mtu) }

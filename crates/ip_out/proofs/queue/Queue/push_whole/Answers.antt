@@ -9,10 +9,10 @@ pub returns-then-len-ge-OUTPUT_QUEUE_PACKETS-clause-packets : goal.returns-then-
 returns-then-len-ge-OUTPUT_QUEUE_PACKETS-clause-packets c mtu fits =
     let a =
     aside c.args.chain c.args.self.now
-    (moves_without c.args.pool.now c.free_chain.new.self c.args.chain c.requires.live c.free_chain.ensures)
-    c.requires.live c.requires.queue.held c.requires.apart in
+    (moves_without c.args.pool.now c.free_chain.new.self c.args.chain c.requires.has.live c.free_chain.ensures)
+    c.requires.has.live c.requires.queue.held c.requires.apart in
     let one =
-    one_packet (chain_of c.args.pool.now c.args.chain) c.args.head c.args.len mtu c.requires.datagram c.requires.len
+    one_packet (chain_of c.args.pool.now c.args.chain) c.args.head c.args.len mtu c.requires.has.datagram c.requires.has.len
     fits in
     (no_room c.args.pool.now c.free_chain.new.self c.args.self.now _ c.requires.queue
     (omega (arith, c.len.ensures, c.if-len-ge-OUTPUT_QUEUE_PACKETS.true)) one a.same_packets).items
@@ -21,10 +21,10 @@ pub returns-then-len-ge-OUTPUT_QUEUE_PACKETS-clause-lost : goal.returns-then-len
 returns-then-len-ge-OUTPUT_QUEUE_PACKETS-clause-lost c mtu fits =
     let a =
     aside c.args.chain c.args.self.now
-    (moves_without c.args.pool.now c.free_chain.new.self c.args.chain c.requires.live c.free_chain.ensures)
-    c.requires.live c.requires.queue.held c.requires.apart in
+    (moves_without c.args.pool.now c.free_chain.new.self c.args.chain c.requires.has.live c.free_chain.ensures)
+    c.requires.has.live c.requires.queue.held c.requires.apart in
     let one =
-    one_packet (chain_of c.args.pool.now c.args.chain) c.args.head c.args.len mtu c.requires.datagram c.requires.len
+    one_packet (chain_of c.args.pool.now c.args.chain) c.args.head c.args.len mtu c.requires.has.datagram c.requires.has.len
     fits in
     (no_room c.args.pool.now c.free_chain.new.self c.args.self.now _ c.requires.queue
     (omega (arith, c.len.ensures, c.if-len-ge-OUTPUT_QUEUE_PACKETS.true)) one a.same_packets).is_lost
@@ -33,21 +33,21 @@ pub returns-then-len-ge-OUTPUT_QUEUE_PACKETS-clause-plain : goal.returns-then-le
 returns-then-len-ge-OUTPUT_QUEUE_PACKETS-clause-plain c = λ before.
     let a =
     aside c.args.chain c.args.self.now
-    (moves_without c.args.pool.now c.free_chain.new.self c.args.chain c.requires.live c.free_chain.ensures)
-    c.requires.live c.requires.queue.held c.requires.apart in
+    (moves_without c.args.pool.now c.free_chain.new.self c.args.chain c.requires.has.live c.free_chain.ensures)
+    c.requires.has.live c.requires.queue.held c.requires.apart in
     subst AreBegunPlain (sym a.same_queued) before
 
 pub returns-then-len-ge-OUTPUT_QUEUE_PACKETS-clause-queue : goal.returns-then-len-ge-OUTPUT_QUEUE_PACKETS-clause-queue
 returns-then-len-ge-OUTPUT_QUEUE_PACKETS-clause-queue c = record {
   held =
-      (aside_gone c.args.chain c.args.self.now c.free_chain.ensures c.requires.live c.requires.queue.held
+      (aside_gone c.args.chain c.args.self.now c.free_chain.ensures c.requires.has.live c.requires.queue.held
       c.requires.apart).0;
   room = c.requires.queue.room;
 }
 
 pub returns-then-len-ge-OUTPUT_QUEUE_PACKETS-clause-moves : goal.returns-then-len-ge-OUTPUT_QUEUE_PACKETS-clause-moves
 returns-then-len-ge-OUTPUT_QUEUE_PACKETS-clause-moves c =
-    (aside_gone c.args.chain c.args.self.now c.free_chain.ensures c.requires.live c.requires.queue.held
+    (aside_gone c.args.chain c.args.self.now c.free_chain.ensures c.requires.has.live c.requires.queue.held
     c.requires.apart).1
 
 pub returns-clause-packets : goal.returns-clause-packets
