@@ -15,7 +15,7 @@ use Rattle.ip_reass.specs.Inside.Walks.{arrived, reach, AllUpto, AllAbove, trimm
 use Rattle.ip_reass.proofs.Walks.{length-fragments, reach_last}
 use Rattle.ip_reass.proofs.Whole.{last_here, reach_inserted}
 use Rattle.ip_reass.specs.Inside.Known.{apart_left, apart_right, end_trimmed, AllEnd-append, AllEnd-take, AllEnd-drop, AllEnd-left_from}
-use Rattle.ip_reass.proofs.Inserted.{Around, inserted_is, inserted_apart, covered_yes, covered_no}
+use Rattle.ip_reass.proofs.Overlays.{Around, inserted_is, inserted_apart, covered_yes, covered_no}
 use Rattle.chain_ops.proofs.Laws.Strings.{without_first_bytes}
 use Rattle.ip_reass.proofs.Edits.{map-insert, weight_trimmed}
 use Rattle.ip_reass.proofs.Steps.{length-queued, fragments_are, Changed}

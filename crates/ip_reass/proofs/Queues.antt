@@ -22,11 +22,11 @@ use Rattle.ip_reass.specs.Layouts.{KeyedQueue, queue_of, queues, has_queue_key, 
 use Rattle.ip_reass.specs.declared.datagram.Datagram.{Datagram}
 use Rattle.ip_reass.specs.declared.arrival.Arrival.{Arrival}
 use Rattle.ip_reass.specs.declared.arrival.Arrival.TheVariants.{Kept, Whole, Dropped}
-use Rattle.ip_reass.proofs.Inserted.{covered_no}
+use Rattle.ip_reass.proofs.Overlays.{covered_no}
 use Rattle.ip_reass.proofs.Places.{found_passes}
 use Rattle.ip_reass.proofs.Steps.{fragments_are}
 use Rattle.ip_reass.proofs.Aging.{lent}
-use Rattle.ip_reass.proofs.Arriving.{slice_at}
+use Rattle.ip_reass.proofs.ArriveLemmas.{slice_at}
 
 -- ---- by key and by place
 none_in : (p : PoolView) (k : Key) (ds : List Datagram) → find (has_key k) ds ≡ None

@@ -4,4 +4,5 @@ pub mod Known
 pub mod Weighs
 pub mod Steps
 pub mod Place
+pub mod Queue
 pub mod Index

@@ -26,7 +26,7 @@ pub struct Datagram {
 /// Frees a datagram's fragments and its key's mbuf.
 pub(crate) fn free_datagram(pool: &mut Pool, datagram: Datagram)
     requires owned { IsOwned pool.old (held pool.old datagram) }
-    requires fragments { IsHeld pool.old datagram.fragments }
+    requires held { IsHeld pool.old datagram.fragments }
     ensures { Moves pool.old (held pool.old datagram) pool.new [] }
 {
     let Datagram {

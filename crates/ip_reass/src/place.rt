@@ -4,6 +4,7 @@ ghost use Rattle.std.specs.Prelude.{◌≡◌, ◌+◌, ◌<◌, ◌∷◌, true
 ghost use Rattle.mbuf_chain.specs.Chain.{IsLive, chain_of, alone};
 ghost use Rattle.mbuf_chain.specs.Owners.{times_among, Moves};
 ghost use Rattle.mbuf_chain.specs.Train.{queued_packets, queued_packet_at, numbers, IsQueuedPlace, IsHeld};
+ghost use Rattle.ip_reass.specs.Inside.Queue.{HasFront, LeavesFront};
 ghost use Rattle.ip_reass.specs.Inside.Walks.{IsFront, after};
 
 use mbuf_chain::{Chain, Pool, QueuedPlace, Train};
@@ -14,8 +15,7 @@ pub(crate) fn next_after(
     train: &Train,
     front: Option<QueuedPlace>,
 ) -> Option<QueuedPlace>
-    requires front { IsFront pool.now train.now front }
-    requires held { IsHeld pool.now train.now }
+    requires { HasFront pool.now train.now front }
     ensures { MatchOption result (train.now.len ≡ after front) (λ at. (at.index ≡ after front)
         × IsQueuedPlace pool.now train.now at) }
 {
@@ -31,9 +31,8 @@ pub(crate) fn take_after(
     train: &mut Train,
     front: Option<QueuedPlace>,
 ) -> (Chain, u32)
-    requires front { IsFront pool.old train.old front }
+    requires at { HasFront pool.old train.old front }
     requires more { after front < train.old.len }
-    requires held { IsHeld pool.old train.old }
     ensures queued_packets { queued_packets pool.new train.new
         ≡ remove (queued_packets pool.old train.old) (after front) }
     ensures taken { queued_packet_at pool.old train.old (after front) ≡
@@ -63,19 +62,15 @@ pub(crate) fn insert_after(
     chain: Chain,
     tag: u32,
 )
-    requires front { IsFront pool.old train.old front }
+    requires at { HasFront pool.old train.old front }
     requires live { IsLive pool.old chain }
     requires headed { (chain_of pool.old chain).front.header ≡ true }
-    requires held { IsHeld pool.old train.old }
     requires apart { times_among chain (numbers pool.old train.old) ≡ 0 }
     ensures queued_packets { queued_packets pool.new train.new ≡
         insert (queued_packets pool.old train.old) (after front)
         (record { number = chain; entries = (chain_of pool.old chain).entries; tag = tag }) }
-    ensures front { IsFront pool.new train.new front }
-    ensures held { IsHeld pool.new train.new }
+    ensures left { LeavesFront pool.old (chain ∷ numbers pool.old train.old) pool.new train.new front }
     ensures len { train.new.len ≡ train.old.len + 1 }
-    ensures moves { Moves pool.old (chain ∷ numbers pool.old train.old) pool.new
-        (numbers pool.new train.new) }
 {
     match front {
         None => train.insert(pool, 0, chain, tag),

@@ -4,6 +4,7 @@ ghost use Rattle.mbuf_chain.specs.Chain.{IsLive, chain_of, string, alone, flat_b
 ghost use Rattle.mbuf_chain.specs.Owners.{times_among, Moves};
 ghost use Rattle.mbuf_chain.specs.Train.{numbers, queued_packet_at, IsQueuedPlace, IsHeld};
 ghost use Rattle.ip_reass.specs.Fragments.{AllEnd, IsQueue, bytes_held, cut, cut_to, fragments, joined_fragments, map_of, queued, queued_end};
+ghost use Rattle.ip_reass.specs.Inside.Queue.{CanInsert, HasFront, LeavesFront};
 ghost use Rattle.ip_reass.specs.Inside.Walks.{AllAbove, AllUpto, IsFront, ReportsWhole, arrived, after, is_left, queued_at, reach};
 ghost use Rattle.ip_reass.specs.Inside.Steps.{IsInserted};
 
@@ -97,14 +98,11 @@ fn ends(pool: &Pool, train: &Train, at: QueuedPlace) -> u32
 
 /// Removes the fragment after a place and frees it.
 fn free_after(pool: &mut Pool, train: &mut Train, front: Option<QueuedPlace>)
-    requires front { IsFront pool.old train.old front }
+    requires at { HasFront pool.old train.old front }
     requires more { after front < train.old.len }
-    requires held { IsHeld pool.old train.old }
     ensures queue { queued pool.new train.new ≡ remove (queued pool.old train.old) (after front) }
-    ensures front { IsFront pool.new train.new front }
-    ensures held { IsHeld pool.new train.new }
+    ensures left { LeavesFront pool.old (numbers pool.old train.old) pool.new train.new front }
     ensures len { train.new.len + 1 ≡ train.old.len }
-    ensures moves { Moves pool.old (numbers pool.old train.old) pool.new (numbers pool.new train.new) }
 {
     let (chain, _) = take_after(pool, train, front);
     pool.free_chain(chain);
@@ -112,18 +110,15 @@ fn free_after(pool: &mut Pool, train: &mut Train, front: Option<QueuedPlace>)
 
 /// Cuts the first n bytes off the fragment after a place, like `m_adj`.
 fn trim_after(pool: &mut Pool, train: &mut Train, front: Option<QueuedPlace>, n: u32)
-    requires front { IsFront pool.old train.old front }
+    requires at { HasFront pool.old train.old front }
     requires more { after front < train.old.len }
-    requires held { IsHeld pool.old train.old }
     requires small { AllEnd IP_MAX_DATA (fragments pool.old train.old) }
     requires within { n ≤ length (flat_bytes (queued_at (queued pool.old train.old) (after front)).entries) }
     ensures queue { queued pool.new train.new ≡
         slice_set (queued pool.old train.old) (after front)
         (cut n (queued_at (queued pool.old train.old) (after front))) }
-    ensures front { IsFront pool.new train.new front }
-    ensures held { IsHeld pool.new train.new }
+    ensures left { LeavesFront pool.old (numbers pool.old train.old) pool.new train.new front }
     ensures len { train.new.len ≡ train.old.len }
-    ensures moves { Moves pool.old (numbers pool.old train.old) pool.new (numbers pool.new train.new) }
 {
     let (chain, tag) = take_after(pool, train, front);
     let moved = Tag { bits: tag }.moved(n);
@@ -134,17 +129,14 @@ fn trim_after(pool: &mut Pool, train: &mut Train, front: Option<QueuedPlace>, n:
 /// Removes the bytes below an offset from the fragments after a place: whole fragments, and the front of one. Returns
 /// how many bytes that are.
 fn clear(pool: &mut Pool, train: &mut Train, front: Option<QueuedPlace>, end: u32) -> u32
-    requires front { IsFront pool.old train.old front }
-    requires held { IsHeld pool.old train.old }
+    requires at { HasFront pool.old train.old front }
     requires small { AllEnd IP_MAX_DATA (fragments pool.old train.old) }
     requires few { bytes_held (fragments pool.old train.old) ≤ IP_MAX_DATA }
     ensures queue { queued pool.new train.new ≡
         take (after front) (queued pool.old train.old) ++ cut_to end (drop (after front) (queued pool.old train.old)) }
-    ensures front { IsFront pool.new train.new front }
-    ensures held { IsHeld pool.new train.new }
+    ensures left { LeavesFront pool.old (numbers pool.old train.old) pool.new train.new front }
     ensures len { train.new.len ≤ train.old.len }
     ensures gone { result + bytes_held (fragments pool.new train.new) ≡ bytes_held (fragments pool.old train.old) }
-    ensures moves { Moves pool.old (numbers pool.old train.old) pool.new (numbers pool.new train.new) }
 {
     let mut gone = 0;
     'fragments: while let Some(at) = next_after(pool, train, front) {
@@ -172,8 +164,7 @@ fn insert_trimmed(
     before: Before,
     span: Span,
 ) -> u32
-    requires front { IsFront pool.old train.old before.front }
-    requires held { IsHeld pool.old train.old }
+    requires at { HasFront pool.old train.old before.front }
     requires small { AllEnd IP_MAX_DATA (fragments pool.old train.old) }
     requires few { bytes_held (fragments pool.old train.old) ≤ IP_MAX_DATA }
     requires live { IsLive pool.old chain }
@@ -185,11 +176,9 @@ fn insert_trimmed(
         queued pool.new train.new ≡ take (after before.front) (queued pool.old train.old)
         ++ cut (before.end - span.offset) f ∷ cut_to (queued_end f)
         (drop (after before.front) (queued pool.old train.old)) }
-    ensures front { IsFront pool.new train.new before.front }
-    ensures held { IsHeld pool.new train.new }
+    ensures left { LeavesFront pool.old (chain ∷ numbers pool.old train.old) pool.new train.new before.front }
     ensures gone { result + bytes_held (fragments pool.new train.new) ≡ bytes_held (fragments pool.old train.old)
         + (length (string (chain_of pool.old chain)) - (before.end - span.offset)) }
-    ensures moves { Moves pool.old (chain ∷ numbers pool.old train.old) pool.new (numbers pool.new train.new) }
 {
     let end = span.offset + pool.len(&chain);
     let skip = before.end.saturating_sub(span.offset);
@@ -238,13 +227,7 @@ fn whole(pool: &Pool, datagram: &Datagram) -> Insertion
 /// to find out whether the datagram is whole.
 #[inline(always)]
 fn append(pool: &mut Pool, datagram: &mut Datagram, chain: Chain, span: Span) -> Insertion
-    requires queue { IsQueue pool.old datagram.old.fragments }
-    requires counted { datagram.old.bytes ≡ bytes_held (fragments pool.old datagram.old.fragments) }
-    requires live { IsLive pool.old chain }
-    requires headed { (chain_of pool.old chain).front.header ≡ true }
-    requires apart { times_among chain (numbers pool.old datagram.old.fragments) ≡ 0 }
-    requires some { 0 < length (string (chain_of pool.old chain)) }
-    requires small { span.offset + length (string (chain_of pool.old chain)) ≤ IP_MAX_DATA }
+    requires can { CanInsert pool.old datagram.old chain span.offset }
     requires past { reach 0 (fragments pool.old datagram.old.fragments) ≤ span.offset }
     ensures left { is_left result ≡ true }
     ensures inserted { IsInserted pool.old datagram.old chain (arrived pool.old chain span.offset span.more) true
@@ -272,13 +255,7 @@ fn append(pool: &mut Pool, datagram: &mut Datagram, chain: Chain, span: Span) ->
 // Not inlined, like `whole`: few fragments come out of order.
 #[inline(never)]
 fn insert_between(pool: &mut Pool, datagram: &mut Datagram, chain: Chain, span: Span) -> bool
-    requires queue { IsQueue pool.old datagram.old.fragments }
-    requires counted { datagram.old.bytes ≡ bytes_held (fragments pool.old datagram.old.fragments) }
-    requires live { IsLive pool.old chain }
-    requires headed { (chain_of pool.old chain).front.header ≡ true }
-    requires apart { times_among chain (numbers pool.old datagram.old.fragments) ≡ 0 }
-    requires some { 0 < length (string (chain_of pool.old chain)) }
-    requires small { span.offset + length (string (chain_of pool.old chain)) ≤ IP_MAX_DATA }
+    requires { CanInsert pool.old datagram.old chain span.offset }
     ensures inserted { IsInserted pool.old datagram.old chain (arrived pool.old chain span.offset span.more) result
         pool.new datagram.new }
     ensures reach { reach 0 (fragments pool.old datagram.old.fragments)
@@ -308,13 +285,7 @@ pub(crate) fn insert(
     chain: Chain,
     span: Span,
 ) -> Insertion
-    requires queue { IsQueue pool.old datagram.old.fragments }
-    requires counted { datagram.old.bytes ≡ bytes_held (fragments pool.old datagram.old.fragments) }
-    requires live { IsLive pool.old chain }
-    requires headed { (chain_of pool.old chain).front.header ≡ true }
-    requires apart { times_among chain (numbers pool.old datagram.old.fragments) ≡ 0 }
-    requires some { 0 < length (string (chain_of pool.old chain)) }
-    requires small { span.offset + length (string (chain_of pool.old chain)) ≤ IP_MAX_DATA }
+    requires { CanInsert pool.old datagram.old chain span.offset }
     ensures inserted { IsInserted pool.old datagram.old chain (arrived pool.old chain span.offset span.more)
         (is_left result) pool.new datagram.new }
     ensures whole { ReportsWhole (map_of (fragments pool.new datagram.new.fragments)) result }

@@ -5,7 +5,7 @@ use Rattle.mbuf_chain.proofs.Laws.Owners.{live_adds}
 use Rattle.mbuf_chain.proofs.Laws.Steps.{apart, count_new, live_beside}
 use Rattle.chain_ops.proofs.Laws.Makes.{makes_as}
 use Rattle.chain_ops.proofs.Laws.Steps.{kept_adds, string_one}
-use Rattle.ip_reass.proofs.AtOnce.{left_are, put_before}
+use Rattle.ip_reass.proofs.ArriveBytes.{left_are, put_before}
 use Rattle.ip_reass.proofs.at_once.store_mbufs.Goals as goal
 
 pub unreachable-requires-in_default-new_plain_with : goal.unreachable-requires-in_default-new_plain_with

@@ -2,7 +2,7 @@ use Rattle.std.proofs.Common.{◌++◌, ◌+◌, ◌≤◌, List, length, take, 
 use Rattle.ip_reass.specs.Inside.Walks.{arrived, is_left}
 use Rattle.ip_reass.specs.Arrivals.{key_in}
 use Rattle.ip_reass.specs.declared.datagram.Datagram.{Datagram}
-use Rattle.ip_reass.proofs.Settled.{Lent, lent_table, lent_kept, lent_whole, lent_len, lent_moves, lent_leaves, whole_short}
+use Rattle.ip_reass.proofs.InsertAndCount.{Lent, lent_table, lent_kept, lent_whole, lent_len, lent_moves, lent_leaves, whole_short}
 use Rattle.ip_reass.proofs.Queues.{covered_layout}
 use Rattle.ip_reass.proofs.insert.insert_and_count.Goals as goal
 
@@ -12,12 +12,7 @@ kept : (c : goal.In-Waits) → Lent c.args.pool.now c.args.table.now.items c.arg
     c.insert_in.new.pool c.insert_in.new.table
     (take c.args.table.now.len (c.insert_in.new.table ++ drop (length c.insert_in.new.table) c.args.table.now.items))
 kept c =
-    lent_table c.args.pool.now c.insert_in.new.pool c.args.table.now.items c.as_mut_slice.result.now
-    c.insert_in.new.table
-    c.args.i c.args.fragment.chain c.args.table.now.len
-    (arrived c.args.pool.now c.args.fragment.chain c.args.fragment.head.offset c.args.fragment.head.more)
-    (is_left c.insert_in.result) _
-    c.requires.place (omega (
+    lent_table c.args.table.now.len c.requires.place (omega (
       arith,
       c.as_mut_slice.ensures.len,
       ap (λ (ds : List Datagram). length ds)
@@ -30,12 +25,7 @@ whole : (c : goal.After-count)
     c.insert_in.new.pool c.insert_in.new.table
     (take c.args.table.now.len (c.insert_in.new.table ++ drop (length c.insert_in.new.table) c.args.table.now.items))
 whole c =
-    lent_table c.args.pool.now c.insert_in.new.pool c.args.table.now.items c.as_mut_slice.result.now
-    c.insert_in.new.table
-    c.args.i c.args.fragment.chain c.args.table.now.len
-    (arrived c.args.pool.now c.args.fragment.chain c.args.fragment.head.offset c.args.fragment.head.more)
-    (is_left c.insert_in.result) _
-    c.requires.place (omega (
+    lent_table c.args.table.now.len c.requires.place (omega (
       arith,
       c.as_mut_slice.ensures.len,
       ap (λ (ds : List Datagram). length ds)
@@ -44,17 +34,13 @@ whole c =
 
 pub returns-in-Waits-clause-step : goal.returns-in-Waits-clause-step
 returns-in-Waits-clause-step c = λ rest held new here most is.
-    lent_kept c.args.pool.now c.insert_in.new.pool c.args.table.now.items c.insert_in.new.table _ c.args.i
-    c.args.fragment.chain (arrived c.args.pool.now c.args.fragment.chain c.args.fragment.head.offset
-    c.args.fragment.head.more) (kept c)
+    lent_kept (kept c)
     rest held (key_in c.args.fragment.head) c.args.counters.now new c.requires.place here most c.in-Waits.ensures.whole
     is
 
 short : (c : goal.After-count) → c.in-Whole.len ≤ 65515
 short c =
-    whole_short c.args.pool.now c.insert_in.new.pool c.args.table.now.items c.insert_in.new.table _ c.args.i
-    c.args.fragment.chain (arrived c.args.pool.now c.args.fragment.chain c.args.fragment.head.offset
-    c.args.fragment.head.more) (whole c) c.in-Whole.len c.in-Whole.ensures.whole
+    whole_short (whole c) c.in-Whole.len c.in-Whole.ensures.whole
 
 pub overflow_add-result : goal.overflow_add-result
 overflow_add-result c = omega (arith, short c)
@@ -64,28 +50,22 @@ overflow_cast-result c = omega (arith, short c)
 
 pub returns-clause-step : goal.returns-clause-step
 returns-clause-step c = λ rest held new here most goes.
-    lent_whole c.args.pool.now c.insert_in.new.pool c.args.table.now.items c.insert_in.new.table _ c.args.i
-    c.args.fragment.chain (arrived c.args.pool.now c.args.fragment.chain c.args.fragment.head.offset
-    c.args.fragment.head.more) (whole c)
-    c.requires.place c.take_out-chain.new.pool c.take_out-chain.new.table.items c.take_out-chain.result c.in-Whole.len
+    lent_whole (whole c)
+    c.requires.place c.in-Whole.len
     c.laws.ensures c.in-Whole.ensures.whole c.take_out-chain.ensures.takes
     rest held (key_in c.args.fragment.head) c.args.counters.now c.count.new.self new here most c.count.ensures goes
 
 pub returns-clause-moves : goal.returns-clause-moves
 returns-clause-moves c =
-    lent_moves c.args.pool.now c.insert_in.new.pool c.args.table.now.items c.insert_in.new.table _ c.args.i
-    c.args.fragment.chain (arrived c.args.pool.now c.args.fragment.chain c.args.fragment.head.offset
-    c.args.fragment.head.more) (whole c)
-    c.requires.place c.take_out-chain.new.pool c.take_out-chain.new.table.items c.take_out-chain.result c.in-Whole.len
+    lent_moves (whole c)
+    c.requires.place c.in-Whole.len
     c.laws.ensures c.in-Whole.ensures.whole c.take_out-chain.ensures.takes
 
 pub returns-clause-whole : goal.returns-clause-whole
 returns-clause-whole c =
     let size =
-    lent_len c.args.pool.now c.insert_in.new.pool c.args.table.now.items c.insert_in.new.table _ c.args.i
-    c.args.fragment.chain (arrived c.args.pool.now c.args.fragment.chain c.args.fragment.head.offset
-    c.args.fragment.head.more) (whole c)
-    c.requires.place c.take_out-chain.new.pool c.take_out-chain.new.table.items c.take_out-chain.result c.in-Whole.len
+    lent_len (whole c)
+    c.requires.place c.in-Whole.len
     c.laws.ensures c.in-Whole.ensures.whole c.take_out-chain.ensures.takes in
     record {
       front = c.take_out-chain.ensures.takes.front;
@@ -108,8 +88,6 @@ returns-in-Covered-clause-layout c =
 
 pub returns-clause-layout : goal.returns-clause-layout
 returns-clause-layout c =
-    lent_leaves c.args.pool.now c.insert_in.new.pool c.args.table.now.items c.insert_in.new.table _ c.args.i
-    c.args.fragment.chain (arrived c.args.pool.now c.args.fragment.chain c.args.fragment.head.offset
-    c.args.fragment.head.more) (whole c)
-    c.requires.place c.take_out-chain.new.pool c.take_out-chain.new.table.items c.take_out-chain.result c.in-Whole.len
+    lent_leaves (whole c)
+    c.requires.place c.in-Whole.len
     c.laws.ensures c.in-Whole.ensures.whole c.take_out-chain.ensures.takes

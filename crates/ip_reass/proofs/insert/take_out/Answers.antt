@@ -2,7 +2,7 @@ use Rattle.std.proofs.Common.{sym, subst}
 use Rattle.ip_reass.specs.declared.datagram.Datagram.{Datagram}
 use Rattle.std.proofs.Common.{List}
 use Rattle.ip_reass.specs.Inside.Steps.{TakesOut}
-use Rattle.ip_reass.proofs.Entered.{taken_out, held_then}
+use Rattle.ip_reass.proofs.InsertIn.{taken_out, held_then}
 use Rattle.ip_reass.proofs.insert.take_out.Goals as goal
 
 pub returns-clause-takes : goal.returns-clause-takes

@@ -18,13 +18,13 @@ all : (c : After-insert) → Settled c.args.pool.now c.args.datagram.now.fragmen
 all c =
     appended c.args.pool.now c.insert.new.pool c.args.datagram.now.fragments c.insert.new.self c.args.chain
     c.len-place.result c.args.span.offset c.new-tag.result.bits c.args.span.more c.len-place.ensures
-    c.requires.queue.held c.new-tag.ensures.half c.new-tag.ensures.odd c.insert.ensures.queued_packets
+    c.requires.can.queue.held c.new-tag.ensures.half c.new-tag.ensures.odd c.insert.ensures.queued_packets
     c.insert.ensures.moves
 
 inserted : (c : After-insert) → Inserted c.args.pool.now c.args.datagram.now.fragments
     (arrived c.args.pool.now c.args.chain c.args.span.offset c.args.span.more) c.insert.new.pool c.insert.new.self
 inserted c =
-    let l = length-fragments c.args.pool.now c.args.datagram.now.fragments c.requires.queue.held in
+    let l = length-fragments c.args.pool.now c.args.datagram.now.fragments c.requires.can.queue.held in
     let fs : List Fragment = fragments c.args.pool.now c.args.datagram.now.fragments in
     let whole : Rattle.std.proofs.Common.take c.args.datagram.now.fragments.len
     (fragments c.args.pool.now c.args.datagram.now.fragments)
@@ -37,18 +37,18 @@ inserted c =
     (omega (arith, l)) in
     inserted_in c.args.pool.now c.insert.new.pool c.args.datagram.now.fragments c.insert.new.self
     c.args.datagram.now.fragments.len 0 c.args.chain
-    (arrived c.args.pool.now c.args.chain c.args.span.offset c.args.span.more) c.requires.queue
+    (arrived c.args.pool.now c.args.chain c.args.span.offset c.args.span.more) c.requires.can.queue
     (subst (AllUpto c.args.span.offset) (sym whole)
-    (upto_reach c.args.span.offset 0 (fragments c.args.pool.now c.args.datagram.now.fragments) c.requires.queue.apart
+    (upto_reach c.args.span.offset 0 (fragments c.args.pool.now c.args.datagram.now.fragments) c.requires.can.queue.apart
     c.requires.past))
     (subst (AllAbove c.args.span.offset) (sym none) tt)
-    (omega (arith, c.requires.past, ap (reach 0) whole)) c.requires.some c.requires.small (all c)
+    (omega (arith, c.requires.past, ap (reach 0) whole)) c.requires.can.some c.requires.can.small (all c)
 
 whole_of : (c : After-insert) → IsLast c.insert.new.pool c.insert.new.self c.len-place.result
     (fragment_of (arrived c.args.pool.now c.args.chain c.args.span.offset c.args.span.more))
 whole_of c =
     is_last c.args.pool.now c.insert.new.pool c.args.datagram.now.fragments c.insert.new.self c.len-place.result
-    c.args.chain (arrived c.args.pool.now c.args.chain c.args.span.offset c.args.span.more) c.requires.queue.held
+    c.args.chain (arrived c.args.pool.now c.args.chain c.args.span.offset c.args.span.more) c.requires.can.queue.held
     c.len-place.ensures
     (subst (λ (n : ℕ). Settled c.args.pool.now c.args.datagram.now.fragments n 0 c.args.chain
     (arrived c.args.pool.now c.args.chain c.args.span.offset c.args.span.more) c.insert.new.pool
@@ -60,11 +60,11 @@ counted c =
     omega (
       arith,
       c.from.ensures,
-      c.requires.counted,
+      c.requires.can.counted,
       c.len-len.ensures,
       held_after c.args.pool.now c.insert.new.pool c.args.datagram.now.fragments c.insert.new.self
           c.args.datagram.now.fragments.len (arrived c.args.pool.now c.args.chain c.args.span.offset c.args.span.more)
-          c.requires.queue.held (all c).queue_is refl,
+          c.requires.can.queue.held (all c).queue_is refl,
     )
 
 is_inserted : (c : After-insert) → IsInserted c.args.pool.now c.args.datagram.now c.args.chain
@@ -126,11 +126,11 @@ overflow_add-bytes c =
     omega (
       arith,
       c.from.ensures,
-      c.requires.counted,
-      held_within (fragments c.args.pool.now c.args.datagram.now.fragments) c.requires.queue.apart
-          c.requires.queue.small,
+      c.requires.can.counted,
+      held_within (fragments c.args.pool.now c.args.datagram.now.fragments) c.requires.can.queue.apart
+          c.requires.can.queue.small,
       c.len-len.ensures,
-      c.requires.small,
+      c.requires.can.small,
     )
 
 pub overflow_cast-datagram : goal.overflow_cast-datagram
@@ -138,9 +138,9 @@ overflow_cast-datagram c =
     omega (
       arith,
       c.from.ensures,
-      c.requires.counted,
-      held_most 0 (fragments c.args.pool.now c.args.datagram.now.fragments) c.requires.queue.apart,
+      c.requires.can.counted,
+      held_most 0 (fragments c.args.pool.now c.args.datagram.now.fragments) c.requires.can.queue.apart,
       c.requires.past,
       c.len-len.ensures,
-      c.requires.small,
+      c.requires.can.small,
     )

@@ -17,9 +17,9 @@ fragments-preserved c =
     let end =
     ap (λ (n : ℕ). queued_end (queued_at (queued c.fragments.pool c.fragments.train) n)) c.in-Some.ensures.0 in
     record {
-      front = c.free_after.ensures.front;
+      front = c.free_after.ensures.left.front;
       few = omega arith;
-      held = c.free_after.ensures.held;
+      held = c.free_after.ensures.left.held;
       small =
           subst (AllEnd 65515) (sym (fragments_freed c.fragments.pool c.free_after.new.pool c.fragments.train
           c.free_after.new.train (after c.args.front) c.free_after.ensures.queue)) (AllEnd-remove 65515 (fragments
@@ -35,7 +35,7 @@ fragments-preserved c =
           clearing_more c.args.end (after c.args.front) (queued c.args.pool.now c.args.train.now) was
           (queued c.free_after.new.pool c.free_after.new.train) c.fragments.invariant.clearing (omega arith)
           (omega arith) (omega arith) c.free_after.ensures.queue;
-      moves = moves_trans c.fragments.invariant.moves c.free_after.ensures.moves;
+      moves = moves_trans c.fragments.invariant.moves c.free_after.ensures.left.moves;
     }
 
 pub returns-then-end-begin-clause-queue : goal.returns-then-end-begin-clause-queue

@@ -8,20 +8,17 @@ all : (c : goal.After-free_chain)
     → FreedPacket c.args.pool.now c.args.train.now c.take_after-chain.new.pool c.free_chain.new.self
     c.take_after-chain.new.train
 all c =
-    freed_packet c.requires.held c.take_after-chain.ensures.held c.take_after-chain.ensures.moves c.free_chain.ensures
+    freed_packet c.requires.at.held c.take_after-chain.ensures.held c.take_after-chain.ensures.moves c.free_chain.ensures
 
 pub returns-clause-queue : goal.returns-clause-queue
 returns-clause-queue c =
     queue_freed c.args.pool.now c.take_after-chain.new.pool c.free_chain.new.self c.args.train.now
     c.take_after-chain.new.train (after c.args.front) (all c) c.take_after-chain.ensures.queued_packets
 
-pub returns-clause-held : goal.returns-clause-held
-returns-clause-held c = (all c).held
-
-pub returns-clause-moves : goal.returns-clause-moves
-returns-clause-moves c = (all c).moves
-
-pub returns-clause-front : goal.returns-clause-front
-returns-clause-front c =
-    front_beside c.take_after-chain.new.pool c.free_chain.new.self c.take_after-chain.new.train c.args.front
-    (all c).queued_packets c.take_after-chain.ensures.front
+pub returns-clause-left : goal.returns-clause-left
+returns-clause-left c = record {
+  front = front_beside c.take_after-chain.new.pool c.free_chain.new.self c.take_after-chain.new.train c.args.front
+      (all c).queued_packets c.take_after-chain.ensures.front;
+  held = (all c).held;
+  moves = (all c).moves;
+}

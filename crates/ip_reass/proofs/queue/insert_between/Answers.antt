@@ -48,7 +48,7 @@ done c =
           c.insert_trimmed-gone.ensures.queue
           ∙ ap (λ (n : ℕ). take i were ++ cut n here ∷ cut_to (queued_end here) (drop i were))
           (sym c.saturating_sub-lost.ensures);
-      moves = c.insert_trimmed-gone.ensures.moves;
+      moves = c.insert_trimmed-gone.ensures.left.moves;
     }
 
 some : (c : After-insert_trimmed-gone)
@@ -71,7 +71,7 @@ returns-clause-inserted c = record {
   none = tt;
   queue =
       record {
-        held = c.insert_trimmed-gone.ensures.held;
+        held = c.insert_trimmed-gone.ensures.left.held;
         apart = (some c.before.before).apart;
         small = (some c.before.before).small;
       };
@@ -84,7 +84,7 @@ returns-clause-inserted c = record {
         c.saturating_sub-lost.ensures,
         c.len-len.ensures,
       );
-  moves = c.insert_trimmed-gone.ensures.moves;
+  moves = c.insert_trimmed-gone.ensures.left.moves;
 }
 
 pub overflow_cast-datagram : goal.overflow_cast-datagram

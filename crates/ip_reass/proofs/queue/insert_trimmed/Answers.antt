@@ -18,10 +18,14 @@ change : (c : goal.After-clear-arg-2-1)
     }) c.trim_front.new.pool
 change c =
     changed c.args.pool.now c.trim_front.new.pool c.args.train.now c.args.chain _ c.requires.live c.requires.apart
-    c.requires.held c.trim_front.ensures
+    c.requires.at.held c.trim_front.ensures
 
-pub clear-gone-requires-clause-held : goal.clear-gone-requires-clause-held
-clear-gone-requires-clause-held c = (change c).held
+pub clear-gone-requires-clause-at : goal.clear-gone-requires-clause-at
+clear-gone-requires-clause-at c = record {
+  front = front_beside c.args.pool.now c.trim_front.new.pool c.args.train.now c.args.before.front
+      ((change c).queued_packets_are) c.requires.at.front;
+  held = (change c).held;
+}
 
 pub clear-gone-requires-clause-small : goal.clear-gone-requires-clause-small
 clear-gone-requires-clause-small c =
@@ -37,17 +41,13 @@ wait c =
     { entries = without_first c.saturating_sub-skip.result (chain_of c.args.pool.now c.args.chain).entries } in
     let change =
     changed c.args.pool.now c.trim_front.new.pool c.args.train.now c.args.chain v c.requires.live c.requires.apart
-    c.requires.held c.trim_front.ensures in
+    c.requires.at.held c.trim_front.ensures in
     waits c.trim_front.new.pool c.clear-gone.new.pool c.args.train.now c.clear-gone.new.train c.args.chain v change.live
-    change.shown change.apart c.clear-gone.ensures.moves
+    change.shown change.apart c.clear-gone.ensures.left.moves
 
-pub insert_after-requires-clause-front : goal.insert_after-requires-clause-front
-insert_after-requires-clause-front c = c.clear-gone.ensures.front
-
-pub clear-gone-requires-clause-front : goal.clear-gone-requires-clause-front
-clear-gone-requires-clause-front c =
-    front_beside c.args.pool.now c.trim_front.new.pool c.args.train.now c.args.before.front
-    ((change c).queued_packets_are) c.requires.front
+pub insert_after-requires-clause-at : goal.insert_after-requires-clause-at
+insert_after-requires-clause-at c =
+    record { front = c.clear-gone.ensures.left.front; held = c.clear-gone.ensures.left.held }
 
 pub insert_after-requires-clause-live : goal.insert_after-requires-clause-live
 insert_after-requires-clause-live c = (wait c).live
@@ -67,11 +67,11 @@ all c =
     c.clear-gone.new.train c.insert_after.new.train c.args.chain (after c.args.before.front)
     c.saturating_sub-skip.result c.args.span.offset (c.args.span.offset + c.len.result) c.new-tag.result.bits
     c.args.span.more
-    (front_within c.args.pool.now c.args.train.now c.args.before.front c.requires.front) c.requires.held
+    (front_within c.args.pool.now c.args.train.now c.args.before.front c.requires.at.front) c.requires.at.held
     (changed c.args.pool.now c.trim_front.new.pool c.args.train.now c.args.chain _ c.requires.live c.requires.apart
-    c.requires.held c.trim_front.ensures)
-    c.clear-gone.ensures.queue c.clear-gone.ensures.moves (ap (λ (n : ℕ). c.args.span.offset + n) c.len.ensures)
-    c.new-tag.ensures.half c.new-tag.ensures.odd c.insert_after.ensures.queued_packets c.insert_after.ensures.moves
+    c.requires.at.held c.trim_front.ensures)
+    c.clear-gone.ensures.queue c.clear-gone.ensures.left.moves (ap (λ (n : ℕ). c.args.span.offset + n) c.len.ensures)
+    c.new-tag.ensures.half c.new-tag.ensures.odd c.insert_after.ensures.queued_packets c.insert_after.ensures.left.moves
 
 pub returns-clause-queue : goal.returns-clause-queue
 returns-clause-queue c =
@@ -81,8 +81,12 @@ returns-clause-queue c =
     (all c).queue_is ∙ ap (λ (n : ℕ). take i were ++ cut n here ∷ cut_to (queued_end here) (drop i were))
     c.saturating_sub-skip.ensures
 
-pub returns-clause-moves : goal.returns-clause-moves
-returns-clause-moves c = (all c).moves
+pub returns-clause-left : goal.returns-clause-left
+returns-clause-left c = record {
+  front = c.insert_after.ensures.left.front;
+  held = c.insert_after.ensures.left.held;
+  moves = (all c).moves;
+}
 
 counted : (c : goal.After-insert_after)
     → bytes_held (fragments c.insert_after.new.pool c.insert_after.new.train)
@@ -94,7 +98,7 @@ counted c =
     let were = queued c.args.pool.now c.args.train.now in
     let is : queued c.trim_front.new.pool c.args.train.now ≡ queued c.args.pool.now c.args.train.now =
     ap (map queued_of) (changed c.args.pool.now c.trim_front.new.pool c.args.train.now c.args.chain _ c.requires.live
-    c.requires.apart c.requires.held c.trim_front.ensures).queued_packets_are in
+    c.requires.apart c.requires.at.held c.trim_front.ensures).queued_packets_are in
     held_between c.clear-gone.new.pool c.insert_after.new.pool c.clear-gone.new.train c.insert_after.new.train
     c.saturating_sub-skip.result (take i were) (cut_to (c.args.span.offset + c.len.result) (drop i were))
     here (c.clear-gone.ensures.queue ∙ λ j. take i (is j) ++ cut_to (c.args.span.offset + c.len.result) (drop i (is j)))
@@ -119,7 +123,7 @@ returns-clause-gone c =
       ap (λ (cs : List QueuedPacket). bytes_held (map fragment_in cs))
           (changed c.args.pool.now c.trim_front.new.pool c.args.train.now c.args.chain _ c.requires.live
           c.requires.apart
-          c.requires.held c.trim_front.ensures).queued_packets_are,
+          c.requires.at.held c.trim_front.ensures).queued_packets_are,
       c.len.ensures,
       c.saturating_sub-skip.ensures,
     )

@@ -13,12 +13,12 @@ use Rattle.ip_reass.proofs.queue.trim_after.Goals as goal
 pub moved-moved-requires : goal.moved-moved-requires
 moved-moved-requires c =
     let was =
-    queued_is c.args.pool.now c.args.train.now (after c.args.front) c.requires.held c.requires.more
+    queued_is c.args.pool.now c.args.train.now (after c.args.front) c.requires.at.held c.requires.more
     ∙ ap queued_of c.take_after-chain.ensures.taken in
     let ends =
     end_at 65515 (queued c.args.pool.now c.args.train.now) (after c.args.front)
     (within_of 65515 c.args.pool.now c.args.train.now c.requires.small)
-    (omega (arith, length-queued c.args.pool.now c.args.train.now c.requires.held)) in
+    (omega (arith, length-queued c.args.pool.now c.args.train.now c.requires.at.held)) in
     omega (arith, ends, ap (λ (p : QueuedFragment). p.offset) was, c.requires.within)
 
 change : (c : goal.After-insert_after-arg-2-1)
@@ -29,7 +29,7 @@ change : (c : goal.After-insert_after-arg-2-1)
 change c =
     let o : IsOwned c.take_after-chain.new.pool
     (c.take_after-chain.result.0 ∷ numbers c.take_after-chain.new.pool c.take_after-chain.new.train) =
-    owned_after c.take_after-chain.ensures.moves c.requires.held.owned in
+    owned_after c.take_after-chain.ensures.moves c.requires.at.held.owned in
     changed c.take_after-chain.new.pool c.trim_front.new.pool c.take_after-chain.new.train c.take_after-chain.result.0 _
     (live_first c.take_after-chain.new.pool c.take_after-chain.result.0
     (numbers c.take_after-chain.new.pool c.take_after-chain.new.train) o)
@@ -44,9 +44,6 @@ pub insert_after-requires-clause-headed : goal.insert_after-requires-clause-head
 insert_after-requires-clause-headed c =
     ap (λ (v : ChainView). v.front.header) ((change c).shown) ∙ ap (λ f. f.header) c.take_after-chain.ensures.alone
 
-pub insert_after-requires-clause-held : goal.insert_after-requires-clause-held
-insert_after-requires-clause-held c = (change c).held
-
 pub insert_after-requires-clause-apart : goal.insert_after-requires-clause-apart
 insert_after-requires-clause-apart c = (change c).apart
 
@@ -56,11 +53,11 @@ all : (c : goal.After-insert_after)
 all c =
     let o : IsOwned c.take_after-chain.new.pool
     (c.take_after-chain.result.0 ∷ numbers c.take_after-chain.new.pool c.take_after-chain.new.train) =
-    owned_after c.take_after-chain.ensures.moves c.requires.held.owned in
+    owned_after c.take_after-chain.ensures.moves c.requires.at.held.owned in
     trimmed_at c.args.pool.now c.take_after-chain.new.pool c.trim_front.new.pool c.insert_after.new.pool
     c.args.train.now c.take_after-chain.new.train c.insert_after.new.train c.take_after-chain.result.0
     (after c.args.front) c.args.n c.take_after-chain.result.1
-    c.requires.more c.requires.held c.take_after-chain.ensures.queued_packets c.take_after-chain.ensures.taken
+    c.requires.more c.requires.at.held c.take_after-chain.ensures.queued_packets c.take_after-chain.ensures.taken
     c.take_after-chain.ensures.moves
     (changed c.take_after-chain.new.pool c.trim_front.new.pool c.take_after-chain.new.train c.take_after-chain.result.0
     _ (live_first c.take_after-chain.new.pool c.take_after-chain.result.0
@@ -76,15 +73,21 @@ all c =
           (chain_of c.trim_front.new.pool c.take_after-chain.result.0).entries;
       tag =
           n;
-    })) c.moved-moved.ensures) c.insert_after.ensures.moves
+    })) c.moved-moved.ensures) c.insert_after.ensures.left.moves
 
 pub returns-clause-queue : goal.returns-clause-queue
 returns-clause-queue c = (all c).queue_is
 
-pub returns-clause-moves : goal.returns-clause-moves
-returns-clause-moves c = (all c).moves
+pub returns-clause-left : goal.returns-clause-left
+returns-clause-left c = record {
+  front = c.insert_after.ensures.left.front;
+  held = c.insert_after.ensures.left.held;
+  moves = (all c).moves;
+}
 
-pub insert_after-requires-clause-front : goal.insert_after-requires-clause-front
-insert_after-requires-clause-front c =
-    front_beside c.take_after-chain.new.pool c.trim_front.new.pool c.take_after-chain.new.train c.args.front
-    ((change c).queued_packets_are) c.take_after-chain.ensures.front
+pub insert_after-requires-clause-at : goal.insert_after-requires-clause-at
+insert_after-requires-clause-at c = record {
+  front = front_beside c.take_after-chain.new.pool c.trim_front.new.pool c.take_after-chain.new.train c.args.front
+      ((change c).queued_packets_are) c.take_after-chain.ensures.front;
+  held = (change c).held;
+}

@@ -9,8 +9,8 @@ free_datagram-requires-clause-owned c =
     (last_of c.table.pool c.table.table.items c.pop.new.self.items c.in-Some.datagram c.in-Some.ensures.items
     c.table.invariant.table).owned
 
-pub free_datagram-requires-clause-fragments : goal.free_datagram-requires-clause-fragments
-free_datagram-requires-clause-fragments c =
+pub free_datagram-requires-clause-held : goal.free_datagram-requires-clause-held
+free_datagram-requires-clause-held c =
     (last_of c.table.pool c.table.table.items c.pop.new.self.items c.in-Some.datagram c.in-Some.ensures.items
     c.table.invariant.table).held
 

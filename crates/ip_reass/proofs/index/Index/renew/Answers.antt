@@ -1,6 +1,6 @@
 use Rattle.std.proofs.Common.{ℕ, ◌+◌, take, ap, sym, ◌∙◌, arith}
 use Rattle.ip_reass.specs.Inside.Index.{buckets_of}
-use Rattle.ip_reass.proofs.Followed.{renewed}
+use Rattle.ip_reass.proofs.IndexAfter.{renewed}
 use Rattle.ip_reass.proofs.index.Index.renew.Goals as goal
 
 pub rows-preserved : goal.rows-preserved

@@ -14,16 +14,22 @@ use Rattle.ip_reass.specs.Table.{TableView, held_all}
 use Rattle.ip_reass.specs.Same.{distinct_same}
 use Rattle.ip_reass.specs.Layouts.{fragment_carried, queues, under}
 use Rattle.ip_reass.proofs.Queues.{arrived_layout, arrived_cause, cause_lacking}
-use Rattle.ip_reass.proofs.Reserved.{stays, freed}
-use Rattle.ip_reass.proofs.Arriving.{accounts, one_weighs, same_weight, trimmed_off, arrives_bad, none_cluster, some_plain, some_cluster, carried_len, carried_size, good_some, good_small, accounted_counters}
+use Rattle.ip_reass.proofs.Reserve.{Freed, stays, freed}
+use Rattle.ip_reass.proofs.ArriveLemmas.{Trimmed, accounts, one_weighs, same_weight, trimmed_off, arrives_bad, none_cluster, some_plain, some_cluster, carried_len, carried_size, good_some, good_small, accounted_counters}
 use Rattle.ip_reass.proofs.table.Reass.arrive.Goals as goal
+use Rattle.ip_reass.proofs.table.Reass.arrive.Goals.{After-free_chain, After-trim_front, In-Some}
+
+-- a malformed fragment was freed
+bad : (c : After-free_chain) → Freed c.args.pool.now c.args.self.now.datagrams c.args.chain c.args.pool.now
+    c.free_chain.new.self c.args.self.now.datagrams
+bad c =
+    freed c.args.pool.now c.args.pool.now c.free_chain.new.self c.args.self.now.datagrams c.args.self.now.datagrams
+    c.args.chain (stays c.args.pool.now c.args.pool.now c.args.self.now.datagrams c.args.self.now.datagrams
+    c.args.chain c.requires.owned (moves_none _ _)) c.requires.ready.table c.free_chain.ensures
 
 pub returns-then-is_bad-clause-step : goal.returns-then-is_bad-clause-step
 returns-then-is_bad-clause-step c = λ rest held new acc is.
-    let fr =
-    freed c.args.pool.now c.args.pool.now c.free_chain.new.self c.args.self.now.datagrams c.args.self.now.datagrams
-    c.args.chain (stays c.args.pool.now c.args.pool.now c.args.self.now.datagrams c.args.self.now.datagrams
-    c.args.chain c.requires.owned (moves_none _ _)) c.requires.ready.table c.free_chain.ensures in
+    let fr = bad (goal.at.returns-then-is_bad-clause-step c).After-free_chain in
     arrives_bad held (machine_with c.args.pool.now c.args.self.now.datagrams c.args.counters.now rest) new c.args.head
     (chain_of c.args.pool.now c.args.chain)
     (ap (λ (n : ℕ). is_bad_fragment (flat_head c.args.head) (n - 20)) (sym c.requires.total ∙ sym c.len-len.ensures)
@@ -32,10 +38,7 @@ returns-then-is_bad-clause-step c = λ rest held new acc is.
 
 pub returns-then-is_bad-clause-accounts : goal.returns-then-is_bad-clause-accounts
 returns-then-is_bad-clause-accounts c = λ rest held acc.
-    let fr =
-    freed c.args.pool.now c.args.pool.now c.free_chain.new.self c.args.self.now.datagrams c.args.self.now.datagrams
-    c.args.chain (stays c.args.pool.now c.args.pool.now c.args.self.now.datagrams c.args.self.now.datagrams
-    c.args.chain c.requires.owned (moves_none _ _)) c.requires.ready.table c.free_chain.ensures in
+    let fr = bad (goal.at.returns-then-is_bad-clause-accounts c).After-free_chain in
     accounts c.args.pool.now c.free_chain.new.self (c.args.chain ∷ []) [] rest held
     (weight_at c.args.pool.now c.args.chain) nothing c.args.self.now.datagrams c.args.self.now.datagrams
     c.args.counters.now c.count_ended.new.self acc fr.moves c.requires.owned c.requires.ready.table fr.table
@@ -44,23 +47,16 @@ returns-then-is_bad-clause-accounts c = λ rest held acc.
 pub returns-then-is_bad-clause-ready : goal.returns-then-is_bad-clause-ready
 returns-then-is_bad-clause-ready c = record {
   table =
-      (freed c.args.pool.now c.args.pool.now c.free_chain.new.self c.args.self.now.datagrams c.args.self.now.datagrams
-      c.args.chain (stays c.args.pool.now c.args.pool.now c.args.self.now.datagrams c.args.self.now.datagrams
-      c.args.chain c.requires.owned (moves_none _ _)) c.requires.ready.table c.free_chain.ensures).table;
+      (bad (goal.at.returns-then-is_bad-clause-ready c).After-free_chain).table;
   fragments = c.requires.ready.fragments;
   room = omega (arith, c.requires.ready.room, ap (λ (q : PoolView). q.mbufs) c.free_chain.ensures);
   distinct = distinct_same c.args.pool.now c.free_chain.new.self c.args.self.now.datagrams c.args.self.now.datagrams
-      (freed c.args.pool.now c.args.pool.now c.free_chain.new.self c.args.self.now.datagrams c.args.self.now.datagrams
-      c.args.chain (stays c.args.pool.now c.args.pool.now c.args.self.now.datagrams c.args.self.now.datagrams
-      c.args.chain c.requires.owned (moves_none _
-      _)) c.requires.ready.table c.free_chain.ensures).shows c.requires.ready.distinct;
+      (bad (goal.at.returns-then-is_bad-clause-ready c).After-free_chain).shows c.requires.ready.distinct;
 }
 
 pub returns-then-is_bad-clause-moves : goal.returns-then-is_bad-clause-moves
 returns-then-is_bad-clause-moves c =
-    (freed c.args.pool.now c.args.pool.now c.free_chain.new.self c.args.self.now.datagrams c.args.self.now.datagrams
-    c.args.chain (stays c.args.pool.now c.args.pool.now c.args.self.now.datagrams c.args.self.now.datagrams
-    c.args.chain c.requires.owned (moves_none _ _)) c.requires.ready.table c.free_chain.ensures).moves
+    (bad (goal.at.returns-then-is_bad-clause-moves c).After-free_chain).moves
 
 pub returns-in_default-clause-step : goal.returns-in_default-clause-step
 returns-in_default-clause-step c = λ rest held new acc is.
@@ -90,15 +86,27 @@ returns-in_default-clause-accounts c = λ rest held acc.
     c.args.counters.now c.pull_up.new.counters acc m c.requires.owned c.requires.ready.table
     c.pull_up.ensures.ready.table (one_weighs c.args.pool.now c.args.chain) (same_weight nothing)
 
-pub insert_or_begin-requires-clause-ready : goal.insert_or_begin-requires-clause-ready
-insert_or_begin-requires-clause-ready c =
-    let m =
+-- the fragment was pulled up, and lost its header
+pulled : (c : In-Some) → Moves c.args.pool.now (c.args.chain ∷ held_all c.args.pool.now c.args.self.now.datagrams)
+    c.pull_up.new.pool (c.in-Some.chain ∷ held_all c.pull_up.new.pool c.pull_up.new.self.datagrams)
+pulled c =
     subst (λ (o : Option ℕ). Moves c.args.pool.now (c.args.chain ∷ held_all c.args.pool.now c.args.self.now.datagrams)
     c.pull_up.new.pool (option_to_list o
-    ++ held_all c.pull_up.new.pool c.pull_up.new.self.datagrams)) c.in-Some.is c.pull_up.ensures.moves in
-    let t =
+    ++ held_all c.pull_up.new.pool c.pull_up.new.self.datagrams)) c.in-Some.is c.pull_up.ensures.moves
+
+trimmed : (c : After-trim_front) → Moves c.args.pool.now
+    (c.args.chain ∷ held_all c.args.pool.now c.args.self.now.datagrams)
+    c.pull_up.new.pool (c.in-Some.chain ∷ held_all c.pull_up.new.pool c.pull_up.new.self.datagrams)
+    → Trimmed c.pull_up.new.pool c.pull_up.new.self.datagrams c.in-Some.chain c.trim_front.new.pool
+trimmed c m =
     trimmed_off c.pull_up.new.pool c.trim_front.new.pool c.pull_up.new.self.datagrams c.in-Some.chain
-    c.pull_up.ensures.ready.table (owned_after m c.requires.owned) c.trim_front.ensures in
+    c.pull_up.ensures.ready.table (owned_after m c.requires.owned) c.trim_front.ensures
+
+pub insert_or_begin-requires-clause-ready : goal.insert_or_begin-requires-clause-ready
+insert_or_begin-requires-clause-ready c =
+    let at = goal.at.insert_or_begin-requires-clause-ready c in
+    let m = pulled at.In-Some in
+    let t = trimmed at.After-trim_front m in
     record {
       table = t.table;
       fragments = c.pull_up.ensures.ready.fragments;
@@ -111,35 +119,23 @@ insert_or_begin-requires-clause-ready c =
 
 pub insert_or_begin-requires-clause-owned : goal.insert_or_begin-requires-clause-owned
 insert_or_begin-requires-clause-owned c =
-    let m =
-    subst (λ (o : Option ℕ). Moves c.args.pool.now (c.args.chain ∷ held_all c.args.pool.now c.args.self.now.datagrams)
-    c.pull_up.new.pool (option_to_list o
-    ++ held_all c.pull_up.new.pool c.pull_up.new.self.datagrams)) c.in-Some.is c.pull_up.ensures.moves in
-    let t =
-    trimmed_off c.pull_up.new.pool c.trim_front.new.pool c.pull_up.new.self.datagrams c.in-Some.chain
-    c.pull_up.ensures.ready.table (owned_after m c.requires.owned) c.trim_front.ensures in
+    let at = goal.at.insert_or_begin-requires-clause-owned c in
+    let m = pulled at.In-Some in
+    let t = trimmed at.After-trim_front m in
     t.owned
 
 pub insert_or_begin-requires-clause-headed : goal.insert_or_begin-requires-clause-headed
 insert_or_begin-requires-clause-headed c =
-    let m =
-    subst (λ (o : Option ℕ). Moves c.args.pool.now (c.args.chain ∷ held_all c.args.pool.now c.args.self.now.datagrams)
-    c.pull_up.new.pool (option_to_list o
-    ++ held_all c.pull_up.new.pool c.pull_up.new.self.datagrams)) c.in-Some.is c.pull_up.ensures.moves in
-    let t =
-    trimmed_off c.pull_up.new.pool c.trim_front.new.pool c.pull_up.new.self.datagrams c.in-Some.chain
-    c.pull_up.ensures.ready.table (owned_after m c.requires.owned) c.trim_front.ensures in
+    let at = goal.at.insert_or_begin-requires-clause-headed c in
+    let m = pulled at.In-Some in
+    let t = trimmed at.After-trim_front m in
     ap (λ (v : ChainView). v.front.header) t.chain ∙ c.in-Some.ensures.headed
 
 pub insert_or_begin-requires-clause-some : goal.insert_or_begin-requires-clause-some
 insert_or_begin-requires-clause-some c =
-    let m =
-    subst (λ (o : Option ℕ). Moves c.args.pool.now (c.args.chain ∷ held_all c.args.pool.now c.args.self.now.datagrams)
-    c.pull_up.new.pool (option_to_list o
-    ++ held_all c.pull_up.new.pool c.pull_up.new.self.datagrams)) c.in-Some.is c.pull_up.ensures.moves in
-    let t =
-    trimmed_off c.pull_up.new.pool c.trim_front.new.pool c.pull_up.new.self.datagrams c.in-Some.chain
-    c.pull_up.ensures.ready.table (owned_after m c.requires.owned) c.trim_front.ensures in
+    let at = goal.at.insert_or_begin-requires-clause-some c in
+    let m = pulled at.In-Some in
+    let t = trimmed at.After-trim_front m in
     let long : length (string (chain_of c.args.pool.now c.args.chain)) ≡ 20 + (c.len-len.result - 20) =
     omega (arith, c.len-len.ensures, c.requires.total, c.requires.header) in
     let good : is_bad_fragment (flat_head c.args.head) (c.len-len.result - 20) ≡ false =
@@ -152,13 +148,9 @@ insert_or_begin-requires-clause-some c =
 
 pub insert_or_begin-requires-clause-small : goal.insert_or_begin-requires-clause-small
 insert_or_begin-requires-clause-small c =
-    let m =
-    subst (λ (o : Option ℕ). Moves c.args.pool.now (c.args.chain ∷ held_all c.args.pool.now c.args.self.now.datagrams)
-    c.pull_up.new.pool (option_to_list o
-    ++ held_all c.pull_up.new.pool c.pull_up.new.self.datagrams)) c.in-Some.is c.pull_up.ensures.moves in
-    let t =
-    trimmed_off c.pull_up.new.pool c.trim_front.new.pool c.pull_up.new.self.datagrams c.in-Some.chain
-    c.pull_up.ensures.ready.table (owned_after m c.requires.owned) c.trim_front.ensures in
+    let at = goal.at.insert_or_begin-requires-clause-small c in
+    let m = pulled at.In-Some in
+    let t = trimmed at.After-trim_front m in
     let long : length (string (chain_of c.args.pool.now c.args.chain)) ≡ 20 + (c.len-len.result - 20) =
     omega (arith, c.len-len.ensures, c.requires.total, c.requires.header) in
     let good : is_bad_fragment (flat_head c.args.head) (c.len-len.result - 20) ≡ false =
@@ -171,13 +163,9 @@ insert_or_begin-requires-clause-small c =
 
 pub returns-clause-step : goal.returns-clause-step
 returns-clause-step c = λ rest held new acc goes.
-    let m =
-    subst (λ (o : Option ℕ). Moves c.args.pool.now (c.args.chain ∷ held_all c.args.pool.now c.args.self.now.datagrams)
-    c.pull_up.new.pool (option_to_list o
-    ++ held_all c.pull_up.new.pool c.pull_up.new.self.datagrams)) c.in-Some.is c.pull_up.ensures.moves in
-    let t =
-    trimmed_off c.pull_up.new.pool c.trim_front.new.pool c.pull_up.new.self.datagrams c.in-Some.chain
-    c.pull_up.ensures.ready.table (owned_after m c.requires.owned) c.trim_front.ensures in
+    let at = goal.at.returns-clause-step c in
+    let m = pulled at.In-Some in
+    let t = trimmed at.After-trim_front m in
     let good : is_bad_fragment (flat_head c.args.head) (c.args.head.total - 20) ≡ false =
     ap (λ (n : ℕ). is_bad_fragment (flat_head c.args.head) (n - 20)) (sym c.requires.total ∙ sym c.len-len.ensures)
     ∙ (sym c.is_bad.ensures ∙ c.if-is_bad.false) in
@@ -213,24 +201,16 @@ returns-clause-step c = λ rest held new acc goes.
 
 pub returns-clause-moves : goal.returns-clause-moves
 returns-clause-moves c =
-    let m =
-    subst (λ (o : Option ℕ). Moves c.args.pool.now (c.args.chain ∷ held_all c.args.pool.now c.args.self.now.datagrams)
-    c.pull_up.new.pool (option_to_list o
-    ++ held_all c.pull_up.new.pool c.pull_up.new.self.datagrams)) c.in-Some.is c.pull_up.ensures.moves in
-    let t =
-    trimmed_off c.pull_up.new.pool c.trim_front.new.pool c.pull_up.new.self.datagrams c.in-Some.chain
-    c.pull_up.ensures.ready.table (owned_after m c.requires.owned) c.trim_front.ensures in
+    let at = goal.at.returns-clause-moves c in
+    let m = pulled at.In-Some in
+    let t = trimmed at.After-trim_front m in
     moves_trans m (moves_trans t.moves c.insert_or_begin.ensures.moves)
 
 pub returns-clause-accounts : goal.returns-clause-accounts
 returns-clause-accounts c = λ rest held acc.
-    let m =
-    subst (λ (o : Option ℕ). Moves c.args.pool.now (c.args.chain ∷ held_all c.args.pool.now c.args.self.now.datagrams)
-    c.pull_up.new.pool (option_to_list o
-    ++ held_all c.pull_up.new.pool c.pull_up.new.self.datagrams)) c.in-Some.is c.pull_up.ensures.moves in
-    let t =
-    trimmed_off c.pull_up.new.pool c.trim_front.new.pool c.pull_up.new.self.datagrams c.in-Some.chain
-    c.pull_up.ensures.ready.table (owned_after m c.requires.owned) c.trim_front.ensures in
+    let at = goal.at.returns-clause-accounts c in
+    let m = pulled at.In-Some in
+    let t = trimmed at.After-trim_front m in
     accounts c.args.pool.now c.insert_or_begin.new.pool (c.args.chain ∷ []) (in_hand c.insert_or_begin.result) rest held
     (weight_at c.args.pool.now c.args.chain) (weight_owned c.insert_or_begin.new.pool (in_hand c.insert_or_begin.result))
     c.args.self.now.datagrams c.insert_or_begin.new.self.datagrams c.args.counters.now c.insert_or_begin.new.counters acc
@@ -245,20 +225,14 @@ returns-then-is_bad-clause-layout c = record {
   waited = queues c.args.pool.now c.args.self.now.datagrams;
   before = inl refl;
   leaves =
-      (freed c.args.pool.now c.args.pool.now c.free_chain.new.self c.args.self.now.datagrams c.args.self.now.datagrams
-      c.args.chain (stays c.args.pool.now c.args.pool.now c.args.self.now.datagrams c.args.self.now.datagrams
-      c.args.chain c.requires.owned (moves_none _ _)) c.requires.ready.table c.free_chain.ensures).rows;
+      (bad (goal.at.returns-then-is_bad-clause-layout c).After-free_chain).rows;
 }
 
 pub returns-clause-layout : goal.returns-clause-layout
 returns-clause-layout c =
-    let m =
-    subst (λ (o : Option ℕ). Moves c.args.pool.now (c.args.chain ∷ held_all c.args.pool.now c.args.self.now.datagrams)
-    c.pull_up.new.pool (option_to_list o
-    ++ held_all c.pull_up.new.pool c.pull_up.new.self.datagrams)) c.in-Some.is c.pull_up.ensures.moves in
-    let t =
-    trimmed_off c.pull_up.new.pool c.trim_front.new.pool c.pull_up.new.self.datagrams c.in-Some.chain
-    c.pull_up.ensures.ready.table (owned_after m c.requires.owned) c.trim_front.ensures in
+    let at = goal.at.returns-clause-layout c in
+    let m = pulled at.In-Some in
+    let t = trimmed at.After-trim_front m in
     arrived_layout c.args.pool.now c.pull_up.new.pool c.trim_front.new.pool c.insert_or_begin.new.pool
     c.args.self.now.datagrams c.pull_up.new.self.datagrams c.insert_or_begin.new.self.datagrams c.args.chain
     c.in-Some.chain c.args.head c.insert_or_begin.result
@@ -291,13 +265,9 @@ returns-in_default-clause-cause c =
 
 pub returns-clause-cause : goal.returns-clause-cause
 returns-clause-cause c =
-    let m =
-    subst (λ (o : Option ℕ). Moves c.args.pool.now (c.args.chain ∷ held_all c.args.pool.now c.args.self.now.datagrams)
-    c.pull_up.new.pool (option_to_list o
-    ++ held_all c.pull_up.new.pool c.pull_up.new.self.datagrams)) c.in-Some.is c.pull_up.ensures.moves in
-    let t =
-    trimmed_off c.pull_up.new.pool c.trim_front.new.pool c.pull_up.new.self.datagrams c.in-Some.chain
-    c.pull_up.ensures.ready.table (owned_after m c.requires.owned) c.trim_front.ensures in
+    let at = goal.at.returns-clause-cause c in
+    let m = pulled at.In-Some in
+    let t = trimmed at.After-trim_front m in
     arrived_cause c.args.pool.now c.trim_front.new.pool c.args.chain c.in-Some.chain c.args.head
     (under (key_in c.args.head) (queues c.insert_or_begin.new.pool c.insert_or_begin.new.self.datagrams))
     c.insert_or_begin.result

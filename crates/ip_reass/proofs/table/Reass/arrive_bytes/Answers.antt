@@ -1,7 +1,7 @@
 use Rattle.std.proofs.Common.{◌-◌, arith}
 use Rattle.mbuf_chain.proofs.Laws.Owners.{moves_trans}
-use Rattle.ip_reass.proofs.Arriving.{good_small}
-use Rattle.ip_reass.proofs.AtOnce.{Fits, at_once, end_accounts, fits_is, inserted_len, stored}
+use Rattle.ip_reass.proofs.ArriveLemmas.{good_small}
+use Rattle.ip_reass.proofs.ArriveBytes.{Fits, at_once, end_accounts, fits_is, inserted_len, stored}
 use Rattle.ip_reass.proofs.table.Reass.arrive_bytes.Goals as goal
 
 pub insert_or_begin-requires-clause-ready : goal.insert_or_begin-requires-clause-ready

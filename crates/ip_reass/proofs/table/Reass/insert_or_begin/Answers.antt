@@ -11,11 +11,11 @@ use Rattle.ip_reass.specs.Inside.Index.{buckets_of}
 use Rattle.ip_reass.specs.Table.{held_all}
 use Rattle.ip_reass.specs.declared.datagram.Datagram.{Datagram}
 use Rattle.ip_reass.proofs.Distinct.{distinct_after}
-use Rattle.ip_reass.proofs.Followed.{followed, kept_followed}
-use Rattle.ip_reass.proofs.Holding.{fragments_after}
-use Rattle.ip_reass.proofs.Placed.{Lacks, Placed, lacks_in, placed_in}
+use Rattle.ip_reass.proofs.IndexAfter.{followed, kept_followed}
+use Rattle.ip_reass.proofs.HaveSome.{fragments_after}
+use Rattle.ip_reass.proofs.PlaceOf.{Lacks, Placed, lacks_in, placed_in}
 use Rattle.ip_reass.proofs.Queues.{cause_lacking}
-use Rattle.ip_reass.proofs.Reserved.{room}
+use Rattle.ip_reass.proofs.Reserve.{room}
 use Rattle.ip_reass.proofs.table.Reass.insert_or_begin.Goals as goal
 
 pub place_of-requires-clause-few : goal.place_of-requires-clause-few

@@ -4,8 +4,8 @@ use Rattle.ip_reass.specs.Inside.Index.{buckets_of}
 use Rattle.ip_reass.specs.Inside.Place.{RequestsMbuf}
 use Rattle.ip_reass.specs.Table.{TableView, has_key, new_datagram}
 use Rattle.ip_reass.specs.declared.datagram.Datagram.{Datagram}
-use Rattle.ip_reass.proofs.Followed.{length_buckets, once_held, pushed}
-use Rattle.ip_reass.proofs.Placed.{asks}
+use Rattle.ip_reass.proofs.IndexAfter.{length_buckets, once_held, pushed}
+use Rattle.ip_reass.proofs.PlaceOf.{asks}
 use Rattle.ip_reass.proofs.Queues.{few_reserved}
 use Rattle.ip_reass.proofs.table.Reass.place_of.Goals as goal
 

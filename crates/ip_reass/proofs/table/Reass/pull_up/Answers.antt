@@ -5,8 +5,8 @@ use Rattle.ledger.specs.Accounts.{weight_at}
 use Rattle.ip_reass.specs.Arrivals.{machine_with}
 use Rattle.ip_reass.specs.Same.{distinct_same}
 use Rattle.ip_reass.proofs.Queues.{wait_then, wait_reserved, none_reserved}
-use Rattle.ip_reass.proofs.Reserved.{stays, freed}
-use Rattle.ip_reass.proofs.Arriving.{pulled, pulled_done, pulled_lacking}
+use Rattle.ip_reass.proofs.Reserve.{stays, freed}
+use Rattle.ip_reass.proofs.ArriveLemmas.{pulled, pulled_done, pulled_lacking}
 use Rattle.ip_reass.proofs.table.Reass.pull_up.Goals as goal
 
 pub returns-then-not-reserve-clause-tested : goal.returns-then-not-reserve-clause-tested

@@ -5,9 +5,9 @@ use Rattle.ip_reass.specs.Table.{aged, held_all, holds, AllUnfinished, IsTable}
 use Rattle.std.proofs.lemmas.List.{length-take-le}
 use Rattle.ip_reass.specs.Table.{TableView}
 use Rattle.ip_reass.proofs.Aging.{reordered, table_reordered, lent, tick_step, aged_distinct}
-use Rattle.ip_reass.proofs.Holding.{aged_fragments}
+use Rattle.ip_reass.proofs.HaveSome.{aged_fragments}
 use Rattle.ip_reass.specs.Inside.Index.{buckets_of}
-use Rattle.ip_reass.proofs.Followed.{aged_same, length_buckets}
+use Rattle.ip_reass.proofs.IndexAfter.{aged_same, length_buckets}
 use Rattle.ip_reass.proofs.table.Reass.tick.Goals as goal
 
 pub free_beyond-requires-clause-table : goal.free_beyond-requires-clause-table

@@ -133,10 +133,10 @@ pub record Lent (p : PoolView) (ds : List Datagram) (i c : ℕ) (f : QueuedFragm
   pub train_is : (datagram_at es i).fragments ≡ inserts.train
   pub queue : IsQueue q inserts.train
 
-pub lent_table : (p q : PoolView) (ds slice es : List Datagram) (i c n : ℕ) (f : QueuedFragment) (answer : Bool)
-    (back : List Datagram) → i < length ds → n ≡ length ds → slice ≡ ds → answer ≡ true
+pub lent_table : {p q : PoolView} {ds slice es : List Datagram} {i c : ℕ} (n : ℕ) {f : QueuedFragment} {answer : Bool}
+    {back : List Datagram} → i < length ds → n ≡ length ds → slice ≡ ds → answer ≡ true
     → InsertsIn p slice i c f answer q es → back ≡ take n (es ++ drop (length es) ds) → Lent p ds i c f q es back
-lent_table p q ds slice es i c n f answer back l n_is was agrees la back_is =
+lent_table {p} {q} {ds} {slice} {es} {i} {c} n {f} {answer} {back} l n_is was agrees la back_is =
     let here : InsertsIn p ds i c f true q es =
     subst (λ (zs : List Datagram). InsertsIn p zs i c f true q es) was
     (subst (λ (b : Bool). InsertsIn p slice i c f b q es) agrees la) in
@@ -161,7 +161,7 @@ lent_table p q ds slice es i c n f answer back l n_is was agrees la back_is =
       queue = subst (IsQueue q) at one.queue;
     }
 
-module _ (p q : PoolView) (ds es back : List Datagram) (i n : ℕ) (f : QueuedFragment) (e : Lent p ds i n f q es back)
+module _ {p q : PoolView} {ds es back : List Datagram} {i n : ℕ} {f : QueuedFragment} (e : Lent p ds i n f q es back)
   where
     -- the datagram waits
     pub lent_kept : (rest : State) (held : Weight) (k : Key) (c : Counters) (new : State) → i < length ds
@@ -183,7 +183,7 @@ module _ (p q : PoolView) (ds es back : List Datagram) (i n : ℕ) (f : QueuedFr
     whole_short m w = whole_most (fragments q e.inserts.train) m e.queue.apart e.queue.small (whole_here m w)
 
     -- the datagram is whole
-    module _ (l : i < length ds) (r : PoolView) (hs : List Datagram) (out m : ℕ) (bounded : IsBounded q)
+    module _ (l : i < length ds) {r : PoolView} {hs : List Datagram} {out : ℕ} (m : ℕ) (bounded : IsBounded q)
         (w : IsWhole (map_of (fragments q (datagram_at es i).fragments)) m) (takes : TakesOut q back i out r hs) where
       taken : TakesOut q es i out r hs
       taken = subst (λ (zs : List Datagram). TakesOut q zs i out r hs) e.back_is takes

@@ -20,7 +20,7 @@ use Rattle.mbuf_chain.specs.Owners.{IsOwned, Moves}
 use Rattle.mbuf_chain.specs.Frames.{SameAt}
 use Rattle.mbuf_chain.proofs.Laws.Owners.{moves_trans, moves_beside, moves_with, moves_without, moves_adds, same_with, same_beside, shown_with, owned_after, live_first, live_at_most, apart_first}
 use Rattle.chain_ops.specs.Makes.{Makes}
-use Rattle.ip_reass.proofs.Reserved.{Stays}
+use Rattle.ip_reass.proofs.Reserve.{Stays}
 use Rattle.chain_ops.specs.Pulls as ops
 use Rattle.chain_ops.specs.Trims.{without_first}
 use Rattle.chain_ops.proofs.Laws.Strings.{without_first_bytes, pulled_up_bytes}

@@ -36,8 +36,8 @@ use Rattle.ip_reass.specs.Table.{IsReady, TableView, held_all, unfinished}
 use Rattle.ip_reass.specs.Inside.Walks.{arrived}
 use Rattle.ip_reass.specs.declared.arrival.Arrival.{Arrival}
 use Rattle.ip_reass.specs.declared.datagram.Datagram.{Datagram}
-use Rattle.ip_reass.proofs.Arriving.{accounts, arrives_cluster, arrives_plain, carried_bytes, one_weighs, same_weight}
-use Rattle.ip_reass.proofs.Came.{moved_part}
+use Rattle.ip_reass.proofs.ArriveLemmas.{accounts, arrives_cluster, arrives_plain, carried_bytes, one_weighs, same_weight}
+use Rattle.ip_reass.proofs.Origins.{moved_part}
 
 -- ---- the mbufs
 

@@ -23,10 +23,10 @@ use Rattle.ip_reass.specs.Same.{distinct_same}
 use Rattle.ip_reass.specs.Table.{TableView, IsReady, IsTable, has_key, held_all, new_datagram, unfinished, unfinished_of}
 use Rattle.ip_reass.specs.declared.arrival.Arrival.{Arrival}
 use Rattle.ip_reass.specs.declared.datagram.Datagram.{Datagram}
-use Rattle.ip_reass.proofs.Arriving.{joins_found, joins_none, none_by_key}
-use Rattle.ip_reass.proofs.Followed.{length_more}
+use Rattle.ip_reass.proofs.ArriveLemmas.{joins_found, joins_none, none_by_key}
+use Rattle.ip_reass.proofs.IndexAfter.{length_more}
 use Rattle.ip_reass.proofs.Queues.{begins_cause, begins_layout, found_cause, found_layout, none_reserved, wait_reserved, wait_then}
-use Rattle.ip_reass.proofs.Reserved.{Began, Freed, Stays, began, begins_here, freed, lacking, stays}
+use Rattle.ip_reass.proofs.Reserve.{Began, Freed, Stays, began, begins_here, freed, lacking, stays}
 
 -- an mbuf is requested
 pub asks : (p q : PoolView) (r s : TableView) (c d : Counters) (answer : Bool) → ((x : State) (held : Weight)

@@ -22,7 +22,7 @@ use Rattle.ip_reass.specs.Fragments.{fragment_of}
 use Rattle.ip_reass.specs.AtOnce as at_once
 use Rattle.ip_reass.specs.Arrivals.{flat_head, key_in, carried_at, CameBy, pulled_entries, carried_entries}
 use Rattle.ip_reass.specs.Layouts.{fragment_carried, PullsUpHeader, ChainArrives}
-use Rattle.ip_reass.proofs.Arriving.{carried_bytes}
+use Rattle.ip_reass.proofs.ArriveLemmas.{carried_bytes}
 use Rattle.ip_reass.proofs.Edits.{weight_trimmed}
 
 -- ---- the weight of a packet after its header is pulled up
