@@ -14,181 +14,157 @@ use Rattle.pcb_table.proofs.Keeping.{connected_keeps, disconnected_fd, disconnec
 use Rattle.pcb_table.proofs.Steps.{closed, connect_refused, connect_step, table_of}
 use Rattle.pcb_table.proofs.Opened.{set_keeps_open}
 use Rattle.pcb_table.proofs.table.Pcbs.connect.Goals as goal
+use Rattle.pcb_table.proofs.table.Pcbs.connect.Goals.{After-set_block, After-set_block-2, In_default-destination_fault}
 
 pub returns-in_default-clause-step : goal.returns-in_default-clause-step
 returns-in_default-clause-step c = λ rest queues.
     closed c.self.inside.interface c.self.inside.blocks c.self.inside.last_port _ _ c.self.view_is c.in_default.ensures
     rest queues _
 
--- if the connect fails, the block is disconnected
+-- ---- the block is disconnected
+gone : (c : After-set_block) → c.set_block.new.self
+    ≡ set c.self.inside.blocks c.in-Some.at.index (disconnected_block c.in-Some.at.block)
+gone c = c.set_block.ensures ∙ ap (set c.self.inside.blocks c.in-Some.at.index) c.disconnected-block.ensures
+
+there : (c : After-set_block)
+    → IsLocated c.args.fd c.set_block.new.self c.in-Some.at.index (disconnected_block c.in-Some.at.block)
+there c =
+    let b = c.in-Some.at.block in
+    subst (λ (cs : List Block). IsLocated c.args.fd cs c.in-Some.at.index (disconnected_block b)) (sym (gone c))
+    (located_after c.self.inside.blocks c.args.fd c.in-Some.at.index b c.self.invariant.0 c.in-Some.ensures
+    (disconnected_block b) (disconnected_fd b))
+
+kept : (c : After-set_block) → AreApart c.set_block.new.self
+    × IsCached c.set_block.new.self c.without-self-inside.result
+kept c =
+    let is = disconnected_keeps c.self.inside.blocks c.args.fd c.in-Some.at.index c.in-Some.at.block c.self.invariant.0
+    c.in-Some.ensures c.self.inside.cache c.self.invariant.1 in (
+      subst AreApart (sym (gone c)) is.0,
+      subst (λ (k : Option Connection). IsCached c.set_block.new.self k) (sym c.without-self-inside.ensures)
+          (subst (λ (cs : List Block). IsCached cs (forgotten c.args.fd c.self.inside.cache)) (sym (gone c)) is.1),
+    )
+
+no_fault : (c : In_default-destination_fault)
+    → first_fault (block_connect_faults (interface_config c.self.inside.interface) c.set_block.new.self
+    (disconnected_block c.in-Some.at.block) (read_addr (interface_config c.self.inside.interface) c.args.address))
+    ≡ None
+no_fault c =
+    (λ k. first_fault (block_connect_faults (interface_config c.self.inside.interface) c.set_block.new.self
+    (sym c.disconnected-block.ensures k) (sym c.read-to.ensures k))) ∙ sym c.destination_fault.ensures
+    ∙ c.in_default-destination_fault.is
+
+opens : (c : After-set_block) → KeepsOpen
+    (table_of c.self.inside.interface c.self.inside.blocks c.self.inside.last_port)
+    (table_of c.self.inside.interface c.set_block.new.self c.self.inside.last_port)
+opens c =
+    let i = c.self.inside.interface in
+    let last = c.self.inside.last_port in
+    let b = c.in-Some.at.block in
+    subst (λ (cs : List Block). KeepsOpen (table_of i c.self.inside.blocks last) (table_of i cs last)) (sym (gone c))
+    (set_keeps_open i c.self.inside.blocks last last c.args.fd c.in-Some.at.index b (disconnected_block b)
+    c.in-Some.ensures (disconnected_fd b))
+
+-- ---- and then connected
+source_is : (c : After-set_block-2) → c.source-source.result
+    ≡ source_for (interface_config c.self.inside.interface) (plain (disconnected_block c.in-Some.at.block))
+    (read_addr (interface_config c.self.inside.interface) c.args.address).ip
+source_is c =
+    c.source-source.ensures ∙ (λ k. source_for (interface_config c.self.inside.interface)
+    (plain (c.disconnected-block.ensures k)) (c.read-to.ensures k).ip)
+
+given : (c : After-set_block-2) → GivesPort c.set_block.new.self c.self.inside.last_port
+    (disconnected_block c.in-Some.at.block).local (disconnected_block c.in-Some.at.block).port
+    c.port_for-chosen.result.port c.port_for-chosen.result.last
+given c =
+    subst (λ (d : Block). GivesPort c.set_block.new.self c.self.inside.last_port d.local d.port
+    c.port_for-chosen.result.port c.port_for-chosen.result.last) c.disconnected-block.ensures
+    c.port_for-chosen.ensures.port
+
+written : (c : After-set_block-2) → c.set_block-2.new.self
+    ≡ set c.set_block.new.self c.in-Some.at.index (connected_block c.source-source.result c.port_for-chosen.result.port
+    (read_addr (interface_config c.self.inside.interface) c.args.address) (disconnected_block c.in-Some.at.block))
+written c =
+    c.set_block-2.ensures ∙ ap (set c.set_block.new.self c.in-Some.at.index)
+    (c.connected_to.ensures ∙ (λ k. connected_block c.source-source.result c.port_for-chosen.result.port
+    (c.read-to.ensures k) (c.disconnected-block.ensures k)))
+
+-- ---- if the connect fails, the block is disconnected
 pub invariant_of-self : goal.invariant_of-self
 invariant_of-self c =
-    let bs = c.self.inside.blocks in
-    let index = c.in-Some.at.index in
-    let b = c.in-Some.at.block in
-    let me : Block = disconnected_block b in
-    let gone = c.set_block.new.self in
-    let at : IsLocated c.args.fd bs index b = c.in-Some.ensures in
-    let g : gone ≡ set bs index me = c.set_block.ensures ∙ ap (set bs index) c.disconnected-block.ensures in
-    let kept = disconnected_keeps bs c.args.fd index b c.self.invariant.0 at c.self.inside.cache c.self.invariant.1 in
-    let apart : AreApart gone = subst AreApart (sym g) kept.0 in
-    let cached : IsCached gone c.without-self-inside.result =
-    subst (λ (k : Option Connection). IsCached gone k) (sym c.without-self-inside.ensures)
-    (subst (λ (cs : List Block). IsCached cs (forgotten c.args.fd c.self.inside.cache)) (sym g) kept.1) in
-    (apart, cached, c.self.invariant.2)
+    let is = kept (goal.at.invariant_of-self c).After-set_block in
+    (is.0, is.1, c.self.invariant.2)
 
 pub returns-in-Some-destination_fault-clause-step : goal.returns-in-Some-destination_fault-clause-step
 returns-in-Some-destination_fault-clause-step c =
     let i = c.self.inside.interface in
-    let bs = c.self.inside.blocks in
     let last = c.self.inside.last_port in
-    let a = c.args.address in
-    let index = c.in-Some.at.index in
-    let b = c.in-Some.at.block in
-    let me : Block = disconnected_block b in
-    let gone = c.set_block.new.self in
-    let at : IsLocated c.args.fd bs index b = c.in-Some.ensures in
-    let g : gone ≡ set bs index me = c.set_block.ensures ∙ ap (set bs index) c.disconnected-block.ensures in
-    let fault : first_fault (block_connect_faults (interface_config i) gone me (read_addr (interface_config i) a))
-    ≡ Some c.in-Some-destination_fault.errno =
-    (λ k. first_fault (block_connect_faults (interface_config i) gone (sym c.disconnected-block.ensures k)
+    let left = c.set_block.new.self in
+    let errno = c.in-Some-destination_fault.errno in
+    let fault : first_fault (block_connect_faults (interface_config i) left (disconnected_block c.in-Some.at.block)
+    (read_addr (interface_config i) c.args.address)) ≡ Some errno =
+    (λ k. first_fault (block_connect_faults (interface_config i) left (sym c.disconnected-block.ensures k)
     (sym c.read-to.ensures k))) ∙ sym c.destination_fault.ensures ∙ c.in-Some-destination_fault.is in
-    subst (λ (t : Table). IsCall t (Connect c.args.fd a) (Refused c.in-Some-destination_fault.errno)
-    (table_of i gone last)) c.self.view_is
-    (connect_refused i bs last c.args.fd index b c.self.invariant.0 at gone a c.in-Some-destination_fault.errno g fault)
+    subst (λ (t : Table). IsCall t (Connect c.args.fd c.args.address) (Refused errno) (table_of i left last))
+    c.self.view_is
+    (connect_refused i c.self.inside.blocks last c.args.fd c.in-Some.at.index c.in-Some.at.block c.self.invariant.0
+    c.in-Some.ensures left c.args.address errno
+    (gone (goal.at.returns-in-Some-destination_fault-clause-step c).After-set_block) fault)
 
 pub invariant_of-self-2 : goal.invariant_of-self-2
 invariant_of-self-2 c =
+    let at = goal.at.invariant_of-self-2 c in
     let i = c.self.inside.interface in
-    let bs = c.self.inside.blocks in
     let last = c.self.inside.last_port in
-    let a = c.args.address in
     let index = c.in-Some.at.index in
-    let b = c.in-Some.at.block in
-    let me : Block = disconnected_block b in
-    let gone = c.set_block.new.self in
-    let at : IsLocated c.args.fd bs index b = c.in-Some.ensures in
-    let g : gone ≡ set bs index me = c.set_block.ensures ∙ ap (set bs index) c.disconnected-block.ensures in
-    let kept = disconnected_keeps bs c.args.fd index b c.self.invariant.0 at c.self.inside.cache c.self.invariant.1 in
-    let apart : AreApart gone = subst AreApart (sym g) kept.0 in
-    let cached : IsCached gone c.without-self-inside.result =
-    subst (λ (k : Option Connection). IsCached gone k) (sym c.without-self-inside.ensures)
-    (subst (λ (cs : List Block). IsCached cs (forgotten c.args.fd c.self.inside.cache)) (sym g) kept.1) in
-    let fault : first_fault (block_connect_faults (interface_config i) gone me (read_addr (interface_config i) a))
-    ≡ None =
-    (λ k. first_fault (block_connect_faults (interface_config i) gone (sym c.disconnected-block.ensures k)
-    (sym c.read-to.ensures k))) ∙ sym c.destination_fault.ensures ∙ c.in_default-destination_fault.is in
-    let there : IsLocated c.args.fd gone index me =
-    subst (λ (cs : List Block). IsLocated c.args.fd cs index me) (sym g)
-    (located_after bs c.args.fd index b c.self.invariant.0 at me (disconnected_fd b)) in
-    let to : Addr = read_addr (interface_config i) a in
+    let me : Block = disconnected_block c.in-Some.at.block in
+    let left = c.set_block.new.self in
+    let to : Addr = read_addr (interface_config i) c.args.address in
     let source = c.source-source.result in
     let port = c.port_for-chosen.result.port in
     let later = c.port_for-chosen.result.last in
-    let new = c.set_block-2.new.self in
-    let from : source ≡ source_for (interface_config i) (plain me) to.ip =
-    c.source-source.ensures ∙ (λ k. source_for (interface_config i) (plain (c.disconnected-block.ensures k))
-    (c.read-to.ensures k).ip) in
-    let given : GivesPort gone last me.local me.port port later =
-    subst (λ (d : Block). GivesPort gone last d.local d.port port later) c.disconnected-block.ensures
-    (c.port_for-chosen.ensures.port) in
-    let written : new ≡ set gone index (connected_block source port to me) =
-    c.set_block-2.ensures ∙ ap (set gone index)
-    (c.connected_to.ensures ∙ (λ k. connected_block source port (c.read-to.ensures k)
-    (c.disconnected-block.ensures k))) in
+    let is = kept at.After-set_block in
     let unmet =
-    subst (λ (k : ℕ). is_some (youngest_block 0 (record { local = Some k; port = me.port; peer = Some to }) gone)
-    ≡ false) (sym from) (unmet_four (interface_config i) gone me to fault) in
-    let free = no_four gone last me.local me.port later _ source port to from unmet given in
+    subst (λ (k : ℕ). is_some (youngest_block 0 (record { local = Some k; port = me.port; peer = Some to }) left)
+    ≡ false) (sym (source_is at.After-set_block-2))
+    (unmet_four (interface_config i) left me to (no_fault at.In_default-destination_fault)) in
+    let free = no_four left last me.local me.port later _ source port to (source_is at.After-set_block-2) unmet
+    (given at.After-set_block-2) in
     let done =
-    connected_keeps gone c.args.fd index me apart there source port to c.without-self-inside.result
-    (disconnected_peer b) free cached in
-    subst (λ (cs : List Block). AreApart cs × IsCached cs c.without-self-inside.result × IsInCircle later) (sym written)
-    (done.0, done.1, c.port_for-chosen.ensures.last)
+    connected_keeps left c.args.fd index me is.0 (there at.After-set_block) source port to c.without-self-inside.result
+    (disconnected_peer c.in-Some.at.block) free is.1 in
+    subst (λ (cs : List Block). AreApart cs × IsCached cs c.without-self-inside.result × IsInCircle later)
+    (sym (written at.After-set_block-2)) (done.0, done.1, c.port_for-chosen.ensures.last)
 
 pub returns-clause-step : goal.returns-clause-step
 returns-clause-step c =
+    let at = goal.at.returns-clause-step c in
     let i = c.self.inside.interface in
-    let bs = c.self.inside.blocks in
-    let last = c.self.inside.last_port in
-    let a = c.args.address in
-    let index = c.in-Some.at.index in
-    let b = c.in-Some.at.block in
-    let me : Block = disconnected_block b in
-    let gone = c.set_block.new.self in
-    let at : IsLocated c.args.fd bs index b = c.in-Some.ensures in
-    let g : gone ≡ set bs index me = c.set_block.ensures ∙ ap (set bs index) c.disconnected-block.ensures in
-    let kept = disconnected_keeps bs c.args.fd index b c.self.invariant.0 at c.self.inside.cache c.self.invariant.1 in
-    let apart : AreApart gone = subst AreApart (sym g) kept.0 in
-    let fault : first_fault (block_connect_faults (interface_config i) gone me (read_addr (interface_config i) a))
-    ≡ None =
-    (λ k. first_fault (block_connect_faults (interface_config i) gone (sym c.disconnected-block.ensures k)
-    (sym c.read-to.ensures k))) ∙ sym c.destination_fault.ensures ∙ c.in_default-destination_fault.is in
-    let there : IsLocated c.args.fd gone index me =
-    subst (λ (cs : List Block). IsLocated c.args.fd cs index me) (sym g)
-    (located_after bs c.args.fd index b c.self.invariant.0 at me (disconnected_fd b)) in
-    let to : Addr = read_addr (interface_config i) a in
-    let source = c.source-source.result in
-    let port = c.port_for-chosen.result.port in
     let later = c.port_for-chosen.result.last in
     let new = c.set_block-2.new.self in
-    let from : source ≡ source_for (interface_config i) (plain me) to.ip =
-    c.source-source.ensures ∙ (λ k. source_for (interface_config i) (plain (c.disconnected-block.ensures k))
-    (c.read-to.ensures k).ip) in
-    let given : GivesPort gone last me.local me.port port later =
-    subst (λ (d : Block). GivesPort gone last d.local d.port port later) c.disconnected-block.ensures
-    (c.port_for-chosen.ensures.port) in
-    let written : new ≡ set gone index (connected_block source port to me) =
-    c.set_block-2.ensures ∙ ap (set gone index)
-    (c.connected_to.ensures ∙ (λ k. connected_block source port (c.read-to.ensures k)
-    (c.disconnected-block.ensures k))) in
-    subst (λ (t : Table). IsCall t (Connect c.args.fd a) Done (table_of i new later)) c.self.view_is
-    (connect_step i bs last c.args.fd index b c.self.invariant.0 at gone new a source port later g fault from given
-    apart there written)
+    subst (λ (t : Table). IsCall t (Connect c.args.fd c.args.address) Done (table_of i new later)) c.self.view_is
+    (connect_step i c.self.inside.blocks c.self.inside.last_port c.args.fd c.in-Some.at.index c.in-Some.at.block
+    c.self.invariant.0 c.in-Some.ensures c.set_block.new.self new c.args.address c.source-source.result
+    c.port_for-chosen.result.port later (gone at.After-set_block) (no_fault at.In_default-destination_fault)
+    (source_is at.After-set_block-2) (given at.After-set_block-2) (kept at.After-set_block).0
+    (there at.After-set_block) (written at.After-set_block-2))
 
 pub returns-in-Some-destination_fault-clause-descriptors : goal.returns-in-Some-destination_fault-clause-descriptors
 returns-in-Some-destination_fault-clause-descriptors c =
-    let i = c.self.inside.interface in
-    let bs = c.self.inside.blocks in
-    let last = c.self.inside.last_port in
-    let index = c.in-Some.at.index in
-    let b = c.in-Some.at.block in
-    let me : Block = disconnected_block b in
-    let gone = c.set_block.new.self in
-    let at : IsLocated c.args.fd bs index b = c.in-Some.ensures in
-    let g : gone ≡ set bs index me = c.set_block.ensures ∙ ap (set bs index) c.disconnected-block.ensures in
-    subst (λ (t : Table). KeepsOpen t (table_of i gone last)) c.self.view_is
-    (subst (λ (cs : List Block). KeepsOpen (table_of i bs last) (table_of i cs last)) (sym g)
-    (set_keeps_open i bs last last c.args.fd index b me at (disconnected_fd b)))
+    subst (λ (t : Table). KeepsOpen t (table_of c.self.inside.interface c.set_block.new.self c.self.inside.last_port))
+    c.self.view_is (opens (goal.at.returns-in-Some-destination_fault-clause-descriptors c).After-set_block)
 
 pub returns-clause-descriptors : goal.returns-clause-descriptors
 returns-clause-descriptors c =
+    let at = goal.at.returns-clause-descriptors c in
     let i = c.self.inside.interface in
-    let bs = c.self.inside.blocks in
-    let last = c.self.inside.last_port in
-    let a = c.args.address in
-    let index = c.in-Some.at.index in
-    let b = c.in-Some.at.block in
-    let me : Block = disconnected_block b in
-    let gone = c.set_block.new.self in
-    let at : IsLocated c.args.fd bs index b = c.in-Some.ensures in
-    let g : gone ≡ set bs index me = c.set_block.ensures ∙ ap (set bs index) c.disconnected-block.ensures in
-    let there : IsLocated c.args.fd gone index me =
-    subst (λ (cs : List Block). IsLocated c.args.fd cs index me) (sym g)
-    (located_after bs c.args.fd index b c.self.invariant.0 at me (disconnected_fd b)) in
-    let to : Addr = read_addr (interface_config i) a in
-    let source = c.source-source.result in
-    let port = c.port_for-chosen.result.port in
     let later = c.port_for-chosen.result.last in
-    let new = c.set_block-2.new.self in
-    let written : new ≡ set gone index (connected_block source port to me) =
-    c.set_block-2.ensures ∙ ap (set gone index)
-    (c.connected_to.ensures ∙ (λ k. connected_block source port (c.read-to.ensures k)
-    (c.disconnected-block.ensures k))) in
-    let first : KeepsOpen (table_of i bs last) (table_of i gone last) =
-    subst (λ (cs : List Block). KeepsOpen (table_of i bs last) (table_of i cs last)) (sym g)
-    (set_keeps_open i bs last last c.args.fd index b me at (disconnected_fd b)) in
-    let then : KeepsOpen (table_of i gone last) (table_of i new later) =
-    subst (λ (cs : List Block). KeepsOpen (table_of i gone last) (table_of i cs later)) (sym written)
-    (set_keeps_open i gone last later c.args.fd index me (connected_block source port to me) there refl) in
-    subst (λ (t : Table). KeepsOpen t (table_of i new later)) c.self.view_is (then ∙ first)
+    let me : Block = disconnected_block c.in-Some.at.block in
+    let left = c.set_block.new.self in
+    let then : KeepsOpen (table_of i left c.self.inside.last_port) (table_of i c.set_block-2.new.self later) =
+    subst (λ (cs : List Block). KeepsOpen (table_of i left c.self.inside.last_port) (table_of i cs later))
+    (sym (written at.After-set_block-2))
+    (set_keeps_open i left c.self.inside.last_port later c.args.fd c.in-Some.at.index me
+    (connected_block c.source-source.result c.port_for-chosen.result.port
+    (read_addr (interface_config i) c.args.address) me) (there at.After-set_block) refl) in
+    subst (λ (t : Table). KeepsOpen t (table_of i c.set_block-2.new.self later)) c.self.view_is
+    (then ∙ opens at.After-set_block)
