@@ -16,6 +16,7 @@ use Rattle.mbuf_chain.specs.Train.{TrainView, QueuedPacket, no_queued_packet, qu
 use Rattle.mbuf_chain.proofs.Laws.Owners.{times_other, moves_trans, moves_before, same_beside, owned_more, owned_after, apart_first}
 use Rattle.mbuf_chain.proofs.Laws.Trains.{numbers_same, queued_packets_same, held_same, length-queued_packets}
 use Rattle.ledger.specs.Accounts.{entries_weight}
+use Rattle.sockbuf.specs.Inside.{Appended}
 use Rattle.sockbuf.specs.SockBuf.{SockBufView, IsSockBuf, IsDatagram, TakesOldest, queued_datagram, datagrams_of, datagrams, chains_of, datagram_from, memory_of, sockaddr_in, address_entry}
 use Rattle.sockbuf.proofs.Fronts.{address_again}
 
@@ -124,11 +125,6 @@ pub record IsPutIn (p : PoolView) (b : SockBufView) (c d : ℕ) (a : Addr) (q r 
       ≡ insert (queued_packets q b.train) b.train.len (record { number = d; entries = (chain_of q d).entries; tag = 0 })
   pub held : IsHeld r u
   pub moves : Moves q (d ∷ numbers q b.train) r (numbers r u)
-
-pub record Appended (p : PoolView) (b : SockBufView) (c : ℕ) (a : Addr) (r : PoolView) (d : SockBufView) : Type 0 where
-  pub datagrams : datagrams r d ≡ datagrams p b ++ datagram_from a p c ∷ []
-  pub ready : IsSockBuf r d
-  pub moves : Moves p (c ∷ chains_of p b) r (chains_of r d)
 
 pub appended : {p q r : PoolView} {b : SockBufView} {u : TrainView} {c d : ℕ} {a : Addr} (cc mbcnt : ℕ) → IsSockBuf p b
     → IsPutIn p b c d a q r u

@@ -1,3 +1,4 @@
 pub mod SockBuf
 pub mod Questions
 pub mod Stored
+pub mod Inside

@@ -10,6 +10,7 @@ ghost use Rattle.mbuf_chain.specs.Steps.{one_mbuf};
 ghost use Rattle.ledger.specs.Accounts.{weight_at};
 ghost use Rattle.sockbuf.specs.Questions.{oldest_of};
 ghost use Rattle.sockbuf.specs.Stored.{IsTaken, StoresAt};
+ghost use Rattle.sockbuf.specs.Inside.{Appended, CanAppend};
 ghost use Rattle.sockbuf.specs.SockBuf.{AppendsAddr, IsEmpty, IsSockBuf, TakesOldest, chains_of, datagram_from, datagrams, memory_of, no_datagrams};
 
 use crate::address::{sockaddr_bytes, sockaddr_in};
@@ -221,18 +222,10 @@ impl SockBuf {
         len: u32,
         memory: u32,
     )
-        requires ready { IsSockBuf pool.old self.old }
-        requires live { IsLive pool.old chain }
-        requires apart { times_among chain (chains_of pool.old self.old) ≡ 0 }
-        requires len { len ≡ length (string (chain_of pool.old chain)) }
+        requires can { CanAppend pool.old self.old chain len }
         requires memory { memory ≡ memory_of (weight_at pool.old chain) }
         requires bound { memory ≤ (MSIZE + MCLBYTES) * MAX_MBUFS }
-        requires fits { flat.fits (datagrams pool.old self.old) len ≡ true }
-        requires free { held_mbufs pool.old < pool.old.mbufs }
-        ensures datagrams { datagrams pool.new self.new
-            ≡ datagrams pool.old self.old ++ datagram_from sender pool.old chain ∷ [] }
-        ensures ready { IsSockBuf pool.new self.new }
-        ensures moves { Moves pool.old (chain ∷ chains_of pool.old self.old) pool.new (chains_of pool.new self.new) }
+        ensures { Appended pool.old self.old chain sender pool.new self.new }
     {
         pool.laws();
         let Ok(whole) = pool.new_plain_with(true, PACKET_START, &sockaddr_bytes(sender)) else {

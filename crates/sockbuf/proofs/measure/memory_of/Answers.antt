@@ -31,32 +31,6 @@ overflow_add-clusters c =
       ap (λ (b : Bool). cond {A = ℕ} b 1 0) (sym c.is_some.ensures ∙ c.if-is_some.true),
     )
 
-pub mbufs-preserved-then-is_some : goal.mbufs-preserved-then-is_some
-mbufs-preserved-then-is_some c =
-    record {
-      seen = omega (arith, c.mbufs.invariant.seen, ap length c.in-Some.ensures.steps);
-      count =
-          omega (
-            arith,
-            c.mbufs.invariant.count,
-            ap references_in c.in-Some.ensures.steps,
-            ap (λ (b : Bool). cond {A = ℕ} b 1 0) (sym c.is_some.ensures ∙ c.if-is_some.true),
-          );
-    }
-
-pub mbufs-preserved : goal.mbufs-preserved
-mbufs-preserved c =
-    record {
-      seen = omega (arith, c.mbufs.invariant.seen, ap length c.in-Some.ensures.steps);
-      count =
-          omega (
-            arith,
-            c.mbufs.invariant.count,
-            ap references_in c.in-Some.ensures.steps,
-            ap (λ (b : Bool). cond {A = ℕ} b 1 0) (sym c.is_some.ensures ∙ c.if-is_some.false),
-          );
-    }
-
 pub overflow_add-mbufs : goal.overflow_add-mbufs
 overflow_add-mbufs c =
     omega (arith, c.mbufs.invariant.seen, ap length c.in-Some.ensures.steps, chain_few _ _ c.requires c.laws.ensures)
@@ -81,16 +55,6 @@ overflow_add-result c =
       c.mbufs.invariant.count,
       bag_few (chain_of c.args.pool.now c.args.chain.now).entries,
       chain_few _ _ c.requires c.laws.ensures,
-    )
-
-pub returns-clause-value : goal.returns-clause-value
-returns-clause-value c =
-    omega (
-      arith,
-      c.mbufs.invariant.seen,
-      ap length c.in-None.ensures.steps.0,
-      c.mbufs.invariant.count,
-      ap references_in c.in-None.ensures.steps.0,
     )
 
 pub returns-clause-bound : goal.returns-clause-bound

@@ -11,9 +11,6 @@ use Rattle.udp.proofs.Reading.{carried_length, data_are, fault_of_packet}
 use Rattle.udp.proofs.checked.read.Goals as goal
 use Rattle.udp.proofs.checked.read.Goals.{then-carried-header-via-then-carried-header, then-carried-header-via-else-carried-header+then-header-lt-UDP_HEADER}
 
-pub has_right_sum-requires-clause-said : goal.has_right_sum-requires-clause-said
-has_right_sum-requires-clause-said c =
-    c.header_of-header.ensures c.carried-carried.result.now c.in-Some.ensures.cases.0
 
 pub returns-in_default : goal.returns-in_default
 returns-in_default c =
@@ -42,20 +39,6 @@ returns-then-carried-header c =
       err = fault_of_packet c.args.packet.packet.now _ c.head-head.result _ c.head-head.ensures c.if-head-ne-PROTOCOL_UDP.false c.carried-carried.ensures e;
     }
 
-pub returns-then-not-has_right_sum : goal.returns-then-not-has_right_sum
-returns-then-not-has_right_sum c =
-    let s : List ℕ = c.carried-carried.result.now in
-    let many : 8 ≤ length s = omega (arith, c.in-Some.ensures.cases) in
-    let len : c.header_of-header.result.len ≡ u16_at 4 s =
-    ap (λ (h : Header). h.len) (c.header_of-header.ensures s c.in-Some.ensures.cases.0) in
-    let wrong : has_right_sum c.head-head.result.src c.head-head.result.dst s ≡ false =
-    sym c.has_right_sum.ensures ∙ c.if-not-has_right_sum.true in
-    let e : udp_fault c.head-head.result.src c.head-head.result.dst s ≡ Some UdpBadSum =
-    first_of (search rules, grind (arith, common_steps)) in
-    record {
-      packet = tt;
-      err = fault_of_packet c.args.packet.packet.now _ c.head-head.result _ c.head-head.ensures c.if-head-ne-PROTOCOL_UDP.false c.carried-carried.ensures e;
-    }
 
 pub invariant_of-result : goal.invariant_of-result
 invariant_of-result c =
