@@ -6,16 +6,23 @@ use Rattle.sock_calls.specs.Sockets.{SocksView, IsSocks, from_three, queued_chai
 use Rattle.sock_calls.specs.Delivery.{seen, IsInput}
 use Rattle.sock_calls.specs.Inside.Parts.{socks_of}
 use Rattle.sock_calls.proofs.Delivered.{freed}
-use Rattle.sock_calls.proofs.Arriving.{all_open, reached, reached_in, delivered_to, dropped_to}
+use Rattle.sock_calls.proofs.Arriving.{Reached, all_open, reached_in, delivered_to, dropped_to}
 use Rattle.sock_calls.proofs.sockets.Socks.input.Goals as goal
+use Rattle.sock_calls.proofs.sockets.Socks.input.Goals.{In-Deliver}
+
+-- the datagram's chain, and what the sockets keep beside it
+there : (g : _) (c : In-Deliver g)
+    → Reached c.args.pool.now c.args.chain (g.R.Reclaim.owned c.args.pool.now c.args.waiting.now)
+    (socks_of c.self.inside.parts) c.input.new.pool c.in-Deliver.chain
+there g c =
+    reached_in c.args.pool.now c.input.new.pool c.args.chain c.in-Deliver.chain
+    (g.R.Reclaim.owned c.args.pool.now c.args.waiting.now) (socks_of c.self.inside.parts) _ c.self.view_is
+    c.requires.owned c.requires.ready c.in-Deliver.ensures.moves
 
 pub deliver_all-requires-clause-socks : goal.deliver_all-requires-clause-socks
 deliver_all-requires-clause-socks g c =
-    let p = c.args.pool.now in
     let q = c.input.new.pool in
-    let w = c.args.waiting.now in
-    let x = reached_in p q c.args.chain c.in-Deliver.chain (g.R.Reclaim.owned p w) (socks_of c.self.inside.parts) _
-    c.self.view_is c.requires.owned c.requires.ready c.in-Deliver.ensures.moves in
+    let x = there g (goal.at.deliver_all-requires-clause-socks g c).In-Deliver in
     subst (λ (t : Table). IsSocks q (record { pcbs = t; queues = from_three c.self.inside.parts.queues }))
     (sym c.input.ensures.blocks) x.socks.ready
 
@@ -35,8 +42,7 @@ deliver_all-requires-clause-waits g c =
     let p = c.args.pool.now in
     let q = c.input.new.pool in
     let w = c.args.waiting.now in
-    let x = reached_in p q c.args.chain c.in-Deliver.chain (g.R.Reclaim.owned p w) (socks_of c.self.inside.parts) _
-    c.self.view_is c.requires.owned c.requires.ready c.in-Deliver.ensures.moves in
+    let x = there g (goal.at.deliver_all-requires-clause-waits g c).In-Deliver in
     g.met.R.Reclaim.ready_same p q w x.same c.requires.waits
 
 pub deliver_all-requires-clause-owned : goal.deliver_all-requires-clause-owned
@@ -44,8 +50,7 @@ deliver_all-requires-clause-owned g c =
     let p = c.args.pool.now in
     let q = c.input.new.pool in
     let w = c.args.waiting.now in
-    let x = reached_in p q c.args.chain c.in-Deliver.chain (g.R.Reclaim.owned p w) (socks_of c.self.inside.parts) _
-    c.self.view_is c.requires.owned c.requires.ready c.in-Deliver.ensures.moves in
+    let x = there g (goal.at.deliver_all-requires-clause-owned g c).In-Deliver in
     subst (λ (zs : List ℕ). IsOwned q (c.in-Deliver.chain
     ∷ (zs ++ queued_chains q (from_three c.self.inside.parts.queues))))
     (sym (g.met.R.Reclaim.owned_same p q w x.same)) x.owned
@@ -61,7 +66,7 @@ returns-in-Deliver-clause-input g c =
     let owned : IsOwned p (c.args.chain ∷ (xs ++ queued_chains p s.queues)) =
     subst (λ (v : SocksView). IsOwned p (c.args.chain ∷ (xs ++ queued_chains p v.queues))) (sym c.self.view_is)
     c.requires.owned in
-    let x = reached p q c.args.chain c.in-Deliver.chain xs _ owned socks c.in-Deliver.ensures.moves in
+    let x = there g (goal.at.returns-in-Deliver-clause-input g c).In-Deliver in
     let r = c.deliver_all.new.pool in
     subst (λ (v : SocksView). IsInput
     (seen p v (g.R.Waiting.unfinished p w) xs c.args.counters.now) c.args.chain c.args.head.src c.args.head.dst
