@@ -16,7 +16,7 @@ use Rattle.ip_reass.specs.Table.{TableView, IsReady, held_all, unfinished}
 use Rattle.sock_calls.specs.Sockets.{SocksView, IsSocks, queued_chains, with_net}
 use Rattle.sock_calls.specs.Delivery.{NetView, KeepsParts, held_with, seen}
 use Rattle.sock_calls.proofs.Laws.{Kept, kept}
-use Rattle.net_stack.proofs.Lifted.{ReassKept, reass_kept}
+use Rattle.net_stack.proofs.PartSteps.{ReassKept, reass_kept}
 
 -- the parts that an arrival reads and changes
 abbrev pub net_seen : PoolView → SocksView → TableView → Counters → NetView

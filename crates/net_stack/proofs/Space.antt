@@ -7,8 +7,8 @@ use Rattle.chain_ops.specs.Stored.{Has, IsStoredIn}
 use Rattle.ledger.specs.Reserve.{are_free}
 use Rattle.ledger.proofs.Laws.{enough_clusters, enough_mbufs}
 use Rattle.sock_calls.specs.Whole.{HasOne}
-use Rattle.net_stack.proofs.AtOnce.{two_plain}
-use Rattle.net_stack.proofs.Whole.{has_one}
+use Rattle.net_stack.proofs.StoreFragmentData.{two_plain}
+use Rattle.net_stack.proofs.InPlace.{has_one}
 
 pub free_mbuf : (p : PoolView) (n : ℕ) → IsStoredIn 0 n InMbuf → are_free p 2 0 ≡ true → Has p (wire n)
 free_mbuf p n placed free =

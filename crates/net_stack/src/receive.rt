@@ -1,20 +1,17 @@
 //! A packet from the wire.
-ghost use Rattle.std.specs.Prelude.{◌≡◌, ◌≤◌, ◌∷◌, None, length, true, false, is_some, IfSome};
+ghost use Rattle.std.specs.Prelude.{◌≡◌, ◌≤◌, [], ◌∷◌, None, length, true, false, is_some, IfSome};
 ghost use Rattle.flat_model.specs.Amounts.Layout.{need_of, wire};
 ghost use Rattle.flat_model.specs.Machine.Arrival as flat;
 ghost use Rattle.flat_model.specs.Packets.Header.{head_fault};
 ghost use Rattle.mbuf_chain.specs.Chain.{chain_of, string};
-ghost use Rattle.mbuf_chain.specs.Owners.{IsOwned};
 ghost use Rattle.chain_ops.specs.Stored.{Has};
 ghost use Rattle.ip_out.specs.Headings.{head_in};
 ghost use Rattle.ip_reass.specs.Arrivals.{flat_head};
 ghost use Rattle.ip_reass.specs.AtOnce.{fits_at_once};
 ghost use Rattle.ip_reass.specs.Table.{IsReady};
-ghost use Rattle.sock_calls.specs.Sockets.{IsSocks};
-ghost use Rattle.sock_calls.specs.Delivery.{chains_at};
 ghost use Rattle.sock_calls.specs.Whole.{HasSpace};
-ghost use Rattle.net_stack.specs.Inside.Arrivals.{EndsFor, HasCome, IsArrived, IsAsked, IsPacketStored, IsWholeForUs, is_ours_or_all};
-ghost use Rattle.net_stack.specs.Inside.Hosts.{KeepsOutput, arrival_view};
+ghost use Rattle.net_stack.specs.Inside.Arrivals.{IsPacketStored, IsWholeForUs, is_ours_or_all};
+ghost use Rattle.net_stack.specs.Inside.Hosts.{CanStore, HasAsked, ArrivesInChain, PacketArrives, PartsFit, IsProcessed};
 
 use crate::host::Host;
 use chain_ops::theorems::stored_layout;
@@ -77,15 +74,11 @@ impl Host {
     /// address; `InMore` is any packet whose buffers are free.
     #[inline(always)]
     fn make_space(&mut self, len: u32) -> Option<Space>
-        requires reass { IsReady self.old.pool self.old.reass }
+        requires ready { IsReady self.old.pool self.old.reass }
         requires most { len ≤ IP_MAX_PACKET }
-        ensures asked { IsAsked self.old.pool self.old.reass self.old.net.counters (need_of (wire len))
-            (is_some result) self.new.pool self.new.reass self.new.net.counters }
+        ensures asked { HasAsked self.old (need_of (wire len)) (is_some result) self.new }
         ensures space { IfSome result (λ space. HasSpace self.new.pool len space) }
         ensures free { IfSome result (λ space. Has self.new.pool (wire len)) }
-        ensures reass { IsReady self.new.pool self.new.reass }
-        ensures socks { self.new.socks ≡ self.old.socks }
-        ensures output { KeepsOutput self.old.net self.new.net }
     {
         let pool = &self.pool;
         match space_for(0, len) {
@@ -106,14 +99,10 @@ impl Host {
     /// The same test for a packet of any length. Returns whether the buffers are free.
     #[inline(never)]
     fn reserve_buffers(&mut self, len: u32) -> bool
-        requires reass { IsReady self.old.pool self.old.reass }
+        requires ready { IsReady self.old.pool self.old.reass }
         requires most { len ≤ IP_MAX_PACKET }
-        ensures asked { IsAsked self.old.pool self.old.reass self.old.net.counters (need_of (wire len)) result
-            self.new.pool self.new.reass self.new.net.counters }
+        ensures asked { HasAsked self.old (need_of (wire len)) result self.new }
         ensures free { result ≡ true → Has self.new.pool (wire len) }
-        ensures reass { IsReady self.new.pool self.new.reass }
-        ensures socks { self.new.socks ≡ self.old.socks }
-        ensures output { KeepsOutput self.old.net self.new.net }
     {
         let need = wire_need(len);
         reserve(
@@ -132,160 +121,97 @@ impl Host {
     // Looped packets and reassembled datagrams are in chains already. They go through `arrive` and `Socks::input`,
     // which read a chain wherever it's split: that's why there are two paths.
     pub(crate) fn receive(&mut self, packet: &[u8])
-        requires socks { IsSocks self.old.pool self.old.socks }
-        requires reass { IsReady self.old.pool self.old.reass }
-        requires owned { IsOwned self.old.pool (chains_at (arrival_view self.old)) }
+        requires fit { PartsFit self.old [] }
         requires most { length packet.now ≤ IP_MAX_PACKET }
-        ensures came { HasCome (arrival_view self.old) packet.now (arrival_view self.new) }
-        ensures reass { IsReady self.new.pool self.new.reass }
-        ensures output { KeepsOutput self.old.net self.new.net }
+        ensures { PacketArrives self.old packet.now self.new }
     {
         let Some(space) = self.make_space(packet.len() as u32) else {
             self.net.counters.count_ended(Why::NoBufs);
             return;
         };
-        self.process(space, packet);
+        if let Err(why) = self.process(space, packet) {
+            self.net.counters.count(Counter::IpTotal);
+            self.net.counters.count_ended(why);
+        }
     }
 
-    /// Drops a packet for this cause and counts it.
+    /// IsProcessed a packet that has this space in the pool: a fragment goes to the reassembly, and a whole datagram to
+    /// its sockets. `Err`: nothing has changed, and the packet is to be dropped for this cause.
     #[inline(always)]
-    fn drop_packet(&mut self, packet: &[u8], why: Why)
-        requires socks { IsSocks self.old.pool self.old.socks }
-        requires reass { IsReady self.old.pool self.old.reass }
-        requires owned { IsOwned self.old.pool (chains_at (arrival_view self.old)) }
-        requires free { Has self.old.pool (wire (length packet.now)) }
-        requires ends { EndsFor (arrival_view self.old) packet.now why }
-        ensures came { HasCome (arrival_view self.old) packet.now (arrival_view self.new) }
-        ensures reass { IsReady self.new.pool self.new.reass }
-        ensures output { KeepsOutput self.old.net self.new.net }
-    {
-        let _packet = packet;
-        self.net.counters.count(Counter::IpTotal);
-        self.net.counters.count_ended(why);
-    }
-
-    /// Processes a packet that has this space in the pool: a packet whose header has a fault, or for another machine,
-    /// is dropped; a fragment goes to the reassembly, and a whole datagram to its sockets.
-    #[inline(always)]
-    fn process(&mut self, space: Space, packet: &[u8])
-        requires socks { IsSocks self.old.pool self.old.socks }
-        requires reass { IsReady self.old.pool self.old.reass }
-        requires owned { IsOwned self.old.pool (chains_at (arrival_view self.old)) }
-        requires most { length packet.now ≤ IP_MAX_PACKET }
+    fn process(&mut self, space: Space, packet: &[u8]) -> Result<(), Why>
+        requires can { CanStore self.old packet.now }
         requires space { HasSpace self.old.pool (length packet.now) space }
-        requires free { Has self.old.pool (wire (length packet.now)) }
-        ensures came { HasCome (arrival_view self.old) packet.now (arrival_view self.new) }
-        ensures reass { IsReady self.new.pool self.new.reass }
-        ensures output { KeepsOutput self.old.net self.new.net }
+        ensures { IsProcessed self.old packet.now self.new result }
     {
-        let headed = match read_packet(packet) {
-            Ok(headed) => headed,
-            Err(why) => {
-                self.drop_packet(packet, why);
-                return;
-            }
-        };
+        let headed = read_packet(packet)?;
         let head = headed.head();
         if !is_for_us(&self.socks, head.dst) {
-            self.drop_packet(packet, Why::CantForward);
-            return;
+            return Err(Why::CantForward);
         }
         if !is_fragment(&head) {
-            self.receive_datagram(space, packet, headed);
-            return;
+            return self.receive_datagram(space, headed);
         }
         if can_store_data(&self.pool, space, &head, packet) {
             self.store_fragment_data(packet, head);
         } else {
-            self.store_fragment(packet, headed);
+            self.store_fragment(headed);
         }
+        Ok(())
     }
 
-    /// Receives a whole datagram for this machine: stores it in the queue of the socket that matches it, or drops it.
-    /// If it takes several mbufs or is a broadcast, `deliver` does that.
+    /// Receives a whole datagram for this machine: stores it in the queue of the socket that matches it. If it takes
+    /// several mbufs or is a broadcast, `deliver` does that. `Err` is as for `process`.
     #[inline(always)]
-    fn receive_datagram(&mut self, space: Space, packet: &[u8], headed: Headed<'_>)
-        requires socks { IsSocks self.old.pool self.old.socks }
-        requires reass { IsReady self.old.pool self.old.reass }
-        requires owned { IsOwned self.old.pool (chains_at (arrival_view self.old)) }
-        requires most { length packet.now ≤ IP_MAX_PACKET }
-        requires space { HasSpace self.old.pool (length packet.now) space }
-        requires free { Has self.old.pool (wire (length packet.now)) }
-        requires same { headed.packet.now ≡ packet.now }
-        requires whole { IsWholeForUs self.old.socks.pcbs packet.now }
-        ensures came { HasCome (arrival_view self.old) packet.now (arrival_view self.new) }
-        ensures reass { IsReady self.new.pool self.new.reass }
-        ensures output { KeepsOutput self.old.net self.new.net }
+    fn receive_datagram(&mut self, space: Space, headed: Headed<'_>) -> Result<(), Why>
+        requires can { CanStore self.old headed.packet.now }
+        requires space { HasSpace self.old.pool (length headed.packet.now) space }
+        requires whole { IsWholeForUs self.old.socks.pcbs headed.packet.now }
+        ensures { IsProcessed self.old headed.entry.packet.now self.new result }
     {
         let is_large = match space {
             Space::InMbuf => false,
             Space::InCluster => true,
-            Space::InMore => {
-                self.deliver(packet, headed);
-                return;
-            }
+            Space::InMore => return self.deliver(headed),
         };
         let head = headed.head();
         if self.socks.is_broadcast(head.dst) {
-            self.deliver(packet, headed);
-            return;
+            return self.deliver(headed);
         }
-        let datagram = match read(headed) {
-            Ok(datagram) => datagram,
-            Err(why) => {
-                self.drop_packet(packet, why);
-                return;
-            }
-        };
-        match self.socks.take(&mut self.pool, is_large, &datagram) {
-            Ok(()) => self.net.counters.count(Counter::IpTotal),
-            Err(why) => self.drop_packet(packet, why),
-        }
+        let datagram = read(headed)?;
+        self.socks.take(&mut self.pool, is_large, &datagram)?;
+        self.net.counters.count(Counter::IpTotal);
+        Ok(())
     }
 
     /// Receives a whole datagram for this machine that takes several mbufs or is a broadcast: its data are stored in a
-    /// chain of their own. Its buffers must be free.
+    /// chain of their own. Its buffers must be free. `Err` is as for `process`.
     #[inline(never)]
-    fn deliver(&mut self, packet: &[u8], headed: Headed<'_>)
-        requires socks { IsSocks self.old.pool self.old.socks }
-        requires reass { IsReady self.old.pool self.old.reass }
-        requires owned { IsOwned self.old.pool (chains_at (arrival_view self.old)) }
-        requires most { length packet.now ≤ IP_MAX_PACKET }
-        requires free { Has self.old.pool (wire (length packet.now)) }
-        requires same { headed.packet.now ≡ packet.now }
-        requires whole { IsWholeForUs self.old.socks.pcbs packet.now }
-        ensures came { HasCome (arrival_view self.old) packet.now (arrival_view self.new) }
-        ensures reass { IsReady self.new.pool self.new.reass }
-        ensures output { KeepsOutput self.old.net self.new.net }
+    fn deliver(&mut self, headed: Headed<'_>) -> Result<(), Why>
+        requires can { CanStore self.old headed.packet.now }
+        requires whole { IsWholeForUs self.old.socks.pcbs headed.packet.now }
+        ensures { IsProcessed self.old headed.entry.packet.now self.new result }
     {
-        match read(headed) {
-            Err(why) => self.drop_packet(packet, why),
-            Ok(datagram) => {
-                self.net.counters.count(Counter::IpTotal);
-                self.socks.deliver(
-                    &mut self.pool,
-                    &mut self.reass,
-                    &mut self.net.counters,
-                    &datagram,
-                );
-            }
-        }
+        let datagram = read(headed)?;
+        self.net.counters.count(Counter::IpTotal);
+        self.socks.deliver(
+            &mut self.pool,
+            &mut self.reass,
+            &mut self.net.counters,
+            &datagram,
+        );
+        Ok(())
     }
 
     /// Receives a fragment for this machine for which `fits_at_once` is true: stores it without its header. If it
     /// completes its datagram, that arrives.
     fn store_fragment_data(&mut self, packet: &[u8], head: IpHead)
-        requires socks { IsSocks self.old.pool self.old.socks }
-        requires reass { IsReady self.old.pool self.old.reass }
-        requires owned { IsOwned self.old.pool (chains_at (arrival_view self.old)) }
+        requires fit { PartsFit self.old [] }
         requires faultless { head_fault packet.now ≡ None }
         requires says { head ≡ head_in packet.now }
         requires fragment { flat.is_fragment (flat_head head) ≡ true }
         requires ours { is_ours_or_all self.old.socks.pcbs.addr self.old.socks.pcbs.bcast head.dst ≡ true }
         requires fits { fits_at_once self.old.pool head packet.now ≡ true }
-        ensures came { HasCome (arrival_view self.old) packet.now (arrival_view self.new) }
-        ensures reass { IsReady self.new.pool self.new.reass }
-        ensures output { KeepsOutput self.old.net self.new.net }
+        ensures { PacketArrives self.old packet.now self.new }
     {
         let counters = &mut self.net.counters;
         counters.count(Counter::IpTotal);
@@ -309,38 +235,27 @@ impl Host {
     /// free.
     #[inline(never)]
     // It reads the header again: if the header were passed on, every packet would store it in memory.
-    fn store_fragment(&mut self, packet: &[u8], headed: Headed<'_>)
-        requires socks { IsSocks self.old.pool self.old.socks }
-        requires reass { IsReady self.old.pool self.old.reass }
-        requires owned { IsOwned self.old.pool (chains_at (arrival_view self.old)) }
-        requires most { length packet.now ≤ IP_MAX_PACKET }
-        requires free { Has self.old.pool (wire (length packet.now)) }
-        requires same { headed.packet.now ≡ packet.now }
-        requires fragment { flat.is_fragment (flat_head (head_in packet.now)) ≡ true }
+    fn store_fragment(&mut self, headed: Headed<'_>)
+        requires can { CanStore self.old headed.packet.now }
+        requires fragment { flat.is_fragment (flat_head (head_in headed.packet.now)) ≡ true }
         requires ours { is_ours_or_all self.old.socks.pcbs.addr self.old.socks.pcbs.bcast
-            (head_in packet.now).dst ≡ true }
-        ensures came { HasCome (arrival_view self.old) packet.now (arrival_view self.new) }
-        ensures reass { IsReady self.new.pool self.new.reass }
-        ensures output { KeepsOutput self.old.net self.new.net }
+            (head_in headed.packet.now).dst ≡ true }
+        ensures { PacketArrives self.old headed.entry.packet.now self.new }
     {
         let head = headed.head();
-        let chain = put_packet(&mut self.pool, packet);
+        let chain = put_packet(&mut self.pool, headed.packet);
         self.arrive_fragment(chain, head);
     }
 
     /// A fragment for this machine, whose header was read already, arrives in a chain: see `arrive`.
     fn arrive_fragment(&mut self, chain: Chain, head: IpHead)
-        requires socks { IsSocks self.old.pool self.old.socks }
-        requires reass { IsReady self.old.pool self.old.reass }
-        requires owned { IsOwned self.old.pool (chain ∷ chains_at (arrival_view self.old)) }
+        requires fit { PartsFit self.old (chain ∷ []) }
         requires headed { (chain_of self.old.pool chain).front.header ≡ true }
         requires faultless { head_fault (string (chain_of self.old.pool chain)) ≡ None }
         requires says { head ≡ head_in (string (chain_of self.old.pool chain)) }
         requires fragment { flat.is_fragment (flat_head head) ≡ true }
         requires ours { is_ours_or_all self.old.socks.pcbs.addr self.old.socks.pcbs.bcast head.dst ≡ true }
-        ensures arrived { IsArrived (arrival_view self.old) chain (arrival_view self.new) }
-        ensures reass { IsReady self.new.pool self.new.reass }
-        ensures output { KeepsOutput self.old.net self.new.net }
+        ensures { ArrivesInChain self.old chain self.new }
     {
         self.net.counters.count(Counter::IpTotal);
         trim_back(&mut self.pool, &chain, u32::from(head.total));

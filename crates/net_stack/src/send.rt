@@ -1,9 +1,6 @@
 //! A send, with the datagrams that it may free and the packets that come back.
 ghost use Rattle.std.specs.Prelude.{◌≡◌};
-ghost use Rattle.mbuf_chain.specs.Owners.{IsOwned};
-ghost use Rattle.ip_reass.specs.Table.{IsReady};
-ghost use Rattle.sock_calls.specs.Outgoing.{CanSend};
-ghost use Rattle.net_stack.specs.Inside.Hosts.{all_chains, send_view};
+ghost use Rattle.net_stack.specs.Inside.Hosts.{MaySend, send_view};
 ghost use Rattle.net_stack.specs.Inside.Sending.{HasSent, IsTried, lacks_pool};
 
 use crate::host::Host;
@@ -21,9 +18,7 @@ fn lacks_pool(sent: &Result<usize, Errno>) -> bool
 impl Host {
     /// Sends. If the pool has too few free buffers, frees all unfinished datagrams and sends again.
     fn try_send(&mut self, fd: u32, to: Option<Addr>, bytes: &[u8]) -> Result<usize, Errno>
-        requires send { CanSend (send_view self.old) }
-        requires reass { IsReady self.old.pool self.old.reass }
-        requires owned { IsOwned self.old.pool (all_chains self.old) }
+        requires { MaySend self.old }
         ensures { IsTried fd to bytes.now (send_view self.old) self.old.reass result
             (send_view self.new) self.new.reass }
     {
@@ -43,9 +38,7 @@ impl Host {
 
     /// Sends, and then lets the packets that come back arrive, one after another.
     pub(crate) fn send(&mut self, fd: u32, to: Option<Addr>, bytes: &[u8]) -> Result<usize, Errno>
-        requires send { CanSend (send_view self.old) }
-        requires reass { IsReady self.old.pool self.old.reass }
-        requires owned { IsOwned self.old.pool (all_chains self.old) }
+        requires { MaySend self.old }
         ensures { HasSent fd to bytes.now (send_view self.old) self.old.reass result
             (send_view self.new) self.new.reass }
     {

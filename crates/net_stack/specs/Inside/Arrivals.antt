@@ -1,10 +1,10 @@
 -- Packets that arrive, for every rest of the machine (`ipintr` of volume 2, chapter 8; the form with a pool's view is
 -- this project's own).
-use Rattle.std.specs.Prelude.{◌≡◌, ℕ, List, [], ◌∷◌, length, count_by, Bool, true, false, ◌==◌, ◌||◌}
+use Rattle.std.specs.Prelude.{◌≡◌, ℕ, List, [], ◌∷◌, length, count_by, Bool, true, false, None, ◌==◌, ◌||◌}
 use Rattle.flat_model.specs.Amounts.Weight.{Weight, ◌⊕◌, nothing}
-use Rattle.flat_model.specs.Machine.State.{State, ends, limited_broadcast, loopback}
+use Rattle.flat_model.specs.Machine.State.{State, Unfinished, ends, limited_broadcast, loopback}
 use Rattle.flat_model.specs.Machine.Ledger.{exact_ledger}
-use Rattle.flat_model.specs.Packets.Header.{head_of}
+use Rattle.flat_model.specs.Packets.Header.{head_fault, head_of}
 use Rattle.flat_model.specs.Machine.Arrival.{Origin, By_wire, FragmentArrives, Arrives, AllArrive, counts_packet, is_fragment}
 use Rattle.pcb_table.specs.Table.{Table}
 use Rattle.flat_model.specs.declared.counters.Counters.{Counters}
@@ -19,15 +19,29 @@ use Rattle.mbuf_chain.specs.Owners.{Moves}
 use Rattle.mbuf_chain.specs.Train.{TrainView, numbers}
 use Rattle.ledger.specs.Accounts.{IsAccounted, item_at, weight_at, weight_owned}
 use Rattle.ledger.specs.Reserve.{Reserves}
+use Rattle.ip_out.specs.Headings.{head_in}
 use Rattle.ip_out.specs.Packets.{train_packets}
 use Rattle.ip_out.specs.declared.head.IpHead.{IpHead}
 use Rattle.ip_reass.specs.Arrivals.{CameBy, carried_at, flat_head}
 use Rattle.ip_reass.specs.Table.{TableView, held_all, unfinished}
+use Rattle.sock_calls.specs.Sockets.{SocksView, with_net}
 use Rattle.sock_calls.specs.Delivery.{NetView, IsAccountedAt, KeepsParts, state_at}
 
 -- an address for which a machine with these two addresses accepts packets
 abbrev pub is_ours_or_all : ℕ → ℕ → ℕ → Bool
 is_ours_or_all addr bcast ip = (((ip == addr) || (ip == bcast)) || (ip == loopback)) || (ip == limited_broadcast)
+
+-- the header of a packet for this machine, in which no test finds a fault
+pub record IsHeadForUs (s : SocksView) (packet : List ℕ) (head : IpHead) : Type 0 where
+  pub faultless : head_fault packet ≡ None
+  pub says : head ≡ head_in packet
+  pub ours : is_ours_or_all s.pcbs.addr s.pcbs.bcast head.dst ≡ true
+
+-- chain c, a packet, ends for this cause, whatever else the machine has
+abbrev pub EndsInChain : PoolView → SocksView → ℕ → Why → Type 0
+EndsInChain p s c why = (us : List Unfinished) (a : Counters) (rest : State) (held : Weight) (origin : Origin)
+    → Arrives exact_ledger origin held (item_at p c) (with_net p s us a rest)
+    (ends why (counts_packet (with_net p s us a rest)))
 
 -- chain c arrived: a fragment with the header `head` and the length in that header
 pub record IsFragmentTaken (v : NetView) (c : ℕ) (head : IpHead) (u : NetView) : Type 0 where

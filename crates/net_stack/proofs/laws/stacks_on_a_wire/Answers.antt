@@ -1,5 +1,5 @@
 -- The laws of two machines, of the machines that the stacks show.
-use Rattle.net_stack.proofs.Wired.{wired}
+use Rattle.net_stack.proofs.OneWire.{wired}
 use Rattle.net_stack.specs.Stack.{state_of}
 use Rattle.net_stack.proofs.laws.stacks_on_a_wire.Goals as goal
 

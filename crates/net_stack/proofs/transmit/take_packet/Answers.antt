@@ -2,7 +2,7 @@ use Rattle.std.proofs.Common.{◌≡◌, ◌∙◌, ℕ, List, ap, sym, drop, le
 use Rattle.std.proofs.lemmas.List.{length-take}
 use Rattle.std.proofs.lemmas.Slice.{drop-append-drop}
 use Rattle.mbuf_chain.specs.Chain.{chain_of, string}
-use Rattle.net_stack.proofs.Given.{all_copied, first_within, in_front, packet_given}
+use Rattle.net_stack.proofs.Tx.{all_copied, first_within, in_front, packet_given}
 use Rattle.net_stack.proofs.transmit.take_packet.Goals as goal
 
 -- the packet's bytes, all of them

@@ -1,4 +1,4 @@
-use Rattle.net_stack.proofs.Started.{none_table}
+use Rattle.net_stack.proofs.Boot.{none_table}
 use Rattle.net_stack.proofs.host.Host.end_new.Goals as goal
 
 pub end-requires : goal.end-requires

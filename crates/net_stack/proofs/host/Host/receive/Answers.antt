@@ -1,38 +1,81 @@
-use Rattle.std.proofs.Common.{refl, ◌++◌, sym, subst}
+use Rattle.std.proofs.Common.{◌≡◌, [], ◌++◌, refl, sym, ap, subst, ◌∙◌}
+use Rattle.flat_model.specs.Machine.Count.{counts_more}
+use Rattle.flat_model.specs.declared.counter.Counter.TheVariants.{IpTotal}
 use Rattle.mbuf_chain.specs.Owners.{IsOwned}
 use Rattle.mbuf_chain.proofs.Laws.Owners.{owned_after}
 use Rattle.ip_reass.specs.Table.{held_all}
+use Rattle.sock_calls.specs.declared.net.Net.{Net}
 use Rattle.sock_calls.specs.Sockets.{SocksView, IsSocks, queued_chains}
 use Rattle.net_stack.specs.Inside.Arrivals.{HasCome}
-use Rattle.net_stack.specs.Inside.Hosts.{arrival_view}
+use Rattle.net_stack.specs.declared.host.Host.{Host}
+use Rattle.net_stack.specs.Inside.Hosts.{PacketArrives, PartsFit, arrival_view}
 use Rattle.net_stack.proofs.Aside.{net_seen}
-use Rattle.net_stack.proofs.Coming.{asked_socks, lost}
-use Rattle.net_stack.proofs.Whole.{again}
+use Rattle.net_stack.proofs.ReceiveLemmas.{asked_socks, lost}
+use Rattle.net_stack.proofs.InPlace.{again, ended}
 use Rattle.net_stack.proofs.host.Host.receive.Goals as goal
+use Rattle.net_stack.proofs.host.Host.receive.Goals.{In-Some}
 
-pub returns-in_default-clause-came : goal.returns-in_default-clause-came
-returns-in_default-clause-came c =
+pub returns-in_default : goal.returns-in_default
+returns-in_default c =
     let u = c.make_space.new.self in
-    subst (λ (s : SocksView). HasCome (arrival_view c.args.self.now) c.args.packet.now
-    (net_seen u.pool s u.reass c.count_ended.new.self)) (sym c.in_default.ensures.socks)
-    (lost c.args.packet.now c.requires.socks c.requires.owned c.in_default.ensures.asked refl refl
-    c.count_ended.ensures)
+    record {
+      does = subst (λ (s : SocksView). HasCome (arrival_view c.args.self.now) c.args.packet.now
+          (net_seen u.pool s u.reass c.count_ended.new.self)) (sym c.in_default.ensures.asked.socks)
+          (lost c.args.packet.now c.requires.fit.socks c.requires.fit.owned c.in_default.ensures.asked.asked refl refl
+          c.count_ended.ensures);
+      reass = c.in_default.ensures.asked.ready;
+      output = ap (λ (n : Net). record n { counters = c.count_ended.new.self }) c.in_default.ensures.asked.output;
+    }
 
-pub process-requires-clause-socks : goal.process-requires-clause-socks
-process-requires-clause-socks c =
-    subst (λ (s : SocksView). IsSocks c.make_space.new.self.pool s) (sym c.in-Some.ensures.socks)
-    (asked_socks c.requires.socks c.requires.owned c.in-Some.ensures.asked).socks.ready
-
-pub process-requires-clause-owned : goal.process-requires-clause-owned
-process-requires-clause-owned c =
+-- ---- the pool has room: the parts still fit
+fit : (c : In-Some) → PartsFit c.make_space.new.self []
+fit c =
     let u = c.make_space.new.self in
-    subst (λ (s : SocksView). IsOwned u.pool (held_all u.pool u.reass.datagrams ++ queued_chains u.pool s.queues))
-    (sym c.in-Some.ensures.socks)
-    (owned_after (asked_socks c.requires.socks c.requires.owned c.in-Some.ensures.asked).moves c.requires.owned)
+    let asked = asked_socks c.requires.fit.socks c.requires.fit.owned c.in-Some.ensures.asked.asked in
+    record {
+      socks = subst (λ (s : SocksView). IsSocks u.pool s) (sym c.in-Some.ensures.asked.socks) asked.socks.ready;
+      reass = c.in-Some.ensures.asked.ready;
+      owned = subst (λ (s : SocksView).
+          IsOwned u.pool (held_all u.pool u.reass.datagrams ++ queued_chains u.pool s.queues))
+          (sym c.in-Some.ensures.asked.socks) (owned_after asked.moves c.requires.fit.owned);
+    }
 
-pub returns-clause-came : goal.returns-clause-came
-returns-clause-came c =
+-- what then leaves the host so is what leaves it so from before
+comes : (c : In-Some) (k : Host) → PacketArrives c.make_space.new.self c.args.packet.now k
+    → PacketArrives c.args.self.now c.args.packet.now k
+comes c k came =
     let u = c.make_space.new.self in
-    again c.requires.socks c.requires.owned c.in-Some.ensures.asked c.in-Some.ensures.free
-    (subst (λ (s : SocksView). HasCome (net_seen u.pool s u.reass u.net.counters) c.args.packet.now
-    (arrival_view c.process.new.self)) c.in-Some.ensures.socks c.process.ensures.came)
+    record {
+      does = again c.requires.fit.socks c.requires.fit.owned c.in-Some.ensures.asked.asked c.in-Some.ensures.free
+          (subst (λ (s : SocksView). HasCome (net_seen u.pool s u.reass u.net.counters) c.args.packet.now
+          (arrival_view k)) c.in-Some.ensures.asked.socks came.does);
+      reass = came.reass;
+      output = came.output ∙ ap (λ (n : Net). record n { counters = k.net.counters }) c.in-Some.ensures.asked.output;
+    }
+
+pub process-requires-clause-can : goal.process-requires-clause-can
+process-requires-clause-can c = record {
+  fit = fit (goal.at.process-requires-clause-can c).In-Some;
+  most = c.requires.most;
+  free = c.in-Some.ensures.free;
+}
+
+pub returns-in_default-process : goal.returns-in_default-process
+returns-in_default-process c =
+    comes (goal.at.returns-in_default-process c).In-Some c.process.new.self c.in_default-process.ensures
+
+pub returns-in-Err : goal.returns-in-Err
+returns-in-Err c =
+    let at = (goal.at.returns-in-Err c).In-Some in
+    let u = c.make_space.new.self in
+    let after : Host → Host =
+    λ (k : Host). record k { net = record (k.net) { counters = c.count_ended-in-Err.new.self } } in
+    let same : c.process.new.self ≡ u = c.in-Err.ensures.0 in
+    comes at (after c.process.new.self)
+    (subst (λ (k : Host). PacketArrives u c.args.packet.now (after k)) (sym same) (record {
+      does = ended {a = u.net.counters} c.args.packet.now c.in-Err.why (fit at).socks (fit at).reass (fit at).owned
+          c.in-Some.ensures.free c.in-Err.ensures.1
+          (c.count.ensures ∙ ap (λ (k : Host). counts_more IpTotal 1 k.net.counters) same) c.count_ended-in-Err.ensures;
+      reass = (fit at).reass;
+      output = refl;
+    }))

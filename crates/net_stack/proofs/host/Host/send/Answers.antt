@@ -8,7 +8,7 @@ use Rattle.net_stack.specs.declared.host.Host.{Host}
 use Rattle.net_stack.specs.Inside.Arrivals.{HaveArrived}
 use Rattle.net_stack.specs.Inside.Hosts.{arrival_view, send_view}
 use Rattle.net_stack.specs.Inside.Sending.{HasSent}
-use Rattle.net_stack.proofs.Sent.{net_chains, looped_owned, has_sent}
+use Rattle.net_stack.proofs.SendLemmas.{net_chains, looped_owned, has_sent}
 use Rattle.net_stack.proofs.host.Host.send.Goals as goal
 
 pub arrive_all-requires-clause-held : goal.arrive_all-requires-clause-held
@@ -21,11 +21,15 @@ arrive_all-requires-clause-plain c =
     subst (BeginPlain c.try_send-sent.new.self.pool) (sym c.replace-looped.ensures.value)
     c.try_send-sent.ensures.parts.plain
 
-pub arrive_all-requires-clause-owned : goal.arrive_all-requires-clause-owned
-arrive_all-requires-clause-owned c =
+pub arrive_all-requires-clause-fit : goal.arrive_all-requires-clause-fit
+arrive_all-requires-clause-fit c =
     let u : Host = c.try_send-sent.new.self in
-    subst (λ (t : TrainView). IsOwned u.pool (numbers u.pool t ++ net_chains (send_view u) u.reass))
-    (sym c.replace-looped.ensures.value) (looped_owned c.try_send-sent.ensures.parts c.requires.owned)
+    record {
+      socks = c.try_send-sent.ensures.parts.socks;
+      reass = c.try_send-sent.ensures.parts.reass;
+      owned = subst (λ (t : TrainView). IsOwned u.pool (numbers u.pool t ++ net_chains (send_view u) u.reass))
+          (sym c.replace-looped.ensures.value) (looped_owned c.try_send-sent.ensures.parts c.requires.owned);
+    }
 
 pub returns : goal.returns
 returns c =
@@ -38,5 +42,5 @@ returns c =
     ∙ (λ i. record (u.net) { looped = (c.replace-looped.ensures.after ∙ c.new.ensures) i; counters = w.net.counters })))
     (has_sent {t = u.reass} {t2 = w.reass} c.requires.owned c.try_send-sent.ensures
     (subst (λ (t : TrainView). HaveArrived (arrival_view u) t (arrival_view w))
-    c.replace-looped.ensures.value c.arrive_all.ensures.arrived)
+    c.replace-looped.ensures.value c.arrive_all.ensures.does)
     c.arrive_all.ensures.reass)

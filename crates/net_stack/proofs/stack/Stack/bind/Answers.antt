@@ -1,7 +1,7 @@
 use Rattle.std.proofs.Common.{arith}
 use Rattle.flat_model.specs.Machine.Event.{Bind}
 use Rattle.flat_model.specs.Machine.Replies.{done_reply}
-use Rattle.net_stack.proofs.Called.{Called, blocks_called, with_socks, lent, lent_inside, lent_shows}
+use Rattle.net_stack.proofs.CallLemmas.{Called, blocks_called, with_socks, lent, lent_inside, lent_shows}
 use Rattle.net_stack.proofs.stack.Stack.bind.Goals.{After-bind}
 use Rattle.net_stack.proofs.stack.Stack.bind.Goals as goal
 

@@ -4,7 +4,7 @@ use Rattle.ip_reass.specs.Table.{unfinished}
 use Rattle.sock_calls.specs.Questions.{bytes_queued_at}
 use Rattle.net_stack.specs.Inside.Fields.{stack_of}
 use Rattle.net_stack.specs.Stack.{StackView, rest_of_stack, state_of}
-use Rattle.net_stack.proofs.Called.{lent, lent_inside, lent_shows}
+use Rattle.net_stack.proofs.CallLemmas.{lent, lent_inside, lent_shows}
 use Rattle.net_stack.proofs.stack.Stack.bytes_queued.Goals as goal
 
 pub returns : goal.returns

@@ -1,6 +1,6 @@
 use Rattle.flat_model.specs.Machine.Event.{Close}
 use Rattle.flat_model.specs.Machine.Replies.{done_reply}
-use Rattle.net_stack.proofs.Called.{Called, socks_called, with_socks, lent, lent_inside, lent_shows}
+use Rattle.net_stack.proofs.CallLemmas.{Called, socks_called, with_socks, lent, lent_inside, lent_shows}
 use Rattle.net_stack.proofs.stack.Stack.close.Goals.{After-close}
 use Rattle.net_stack.proofs.stack.Stack.close.Goals as goal
 

@@ -1,7 +1,7 @@
 use Rattle.std.proofs.Common.{arith}
 use Rattle.flat_model.specs.Machine.Event.{Connect}
 use Rattle.flat_model.specs.Machine.Replies.{done_reply}
-use Rattle.net_stack.proofs.Called.{Called, blocks_called, with_socks, lent, lent_inside, lent_shows}
+use Rattle.net_stack.proofs.CallLemmas.{Called, blocks_called, with_socks, lent, lent_inside, lent_shows}
 use Rattle.net_stack.proofs.stack.Stack.connect.Goals.{After-connect}
 use Rattle.net_stack.proofs.stack.Stack.connect.Goals as goal
 

@@ -8,8 +8,8 @@ use Rattle.net_stack.specs.Boots.{free_pool}
 use Rattle.net_stack.specs.Inside.Fields.{Fields, IsStackInside}
 use Rattle.net_stack.specs.Stack.{StackView}
 use Rattle.net_stack.specs.declared.host.Host.{Host}
-use Rattle.net_stack.proofs.Called.{lent, lent_inside, lent_shows}
-use Rattle.net_stack.proofs.Started.{socks_gone, reass_gone, all_gone}
+use Rattle.net_stack.proofs.CallLemmas.{lent, lent_inside, lent_shows}
+use Rattle.net_stack.proofs.Boot.{socks_gone, reass_gone, all_gone}
 use Rattle.net_stack.proofs.stack.Stack.end.Goals as goal
 
 pub flush-requires : goal.flush-requires

@@ -1,4 +1,4 @@
-use Rattle.net_stack.proofs.Called.{lent_inside}
+use Rattle.net_stack.proofs.CallLemmas.{lent_inside}
 use Rattle.net_stack.proofs.stack.Stack.heads.Goals as goal
 
 pub heads-requires : goal.heads-requires

@@ -4,7 +4,7 @@ use Rattle.flat_model.specs.Amounts.Weight.{nothing}
 use Rattle.ledger.specs.Accounts.{IsAccounted}
 use Rattle.net_stack.specs.Inside.Fields.{fields, stack_of}
 use Rattle.net_stack.specs.Stack.{StackView, IsStack, state_of}
-use Rattle.net_stack.proofs.Lifted.{accounts}
+use Rattle.net_stack.proofs.PartSteps.{accounts}
 use Rattle.net_stack.proofs.stack.Stack.laws.Goals as goal
 
 pub returns-clause-stack : goal.returns-clause-stack

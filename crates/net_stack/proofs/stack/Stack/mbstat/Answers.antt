@@ -3,8 +3,8 @@ use Rattle.flat_model.specs.Machine.Ledger.{usage_of}
 use Rattle.flat_model.proofs.Laws.{none_held}
 use Rattle.net_stack.specs.Inside.Fields.{stack_of}
 use Rattle.net_stack.specs.Stack.{StackView, state_of}
-use Rattle.net_stack.proofs.Lifted.{accounts}
-use Rattle.net_stack.proofs.Called.{lent, lent_inside, lent_shows}
+use Rattle.net_stack.proofs.PartSteps.{accounts}
+use Rattle.net_stack.proofs.CallLemmas.{lent, lent_inside, lent_shows}
 use Rattle.net_stack.proofs.stack.Stack.mbstat.Goals as goal
 
 right : (c : goal.After-mbstat) → c.mbstat.result ≡ usage_of (state_of c.args.self.now)

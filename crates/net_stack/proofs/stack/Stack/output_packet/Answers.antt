@@ -3,8 +3,8 @@ use Rattle.std.specs.Prelude.{option_map}
 use Rattle.ip_out.specs.Packets.{train_packets}
 use Rattle.ip_out.specs.Questions.{nth_packet}
 use Rattle.net_stack.specs.Stack.{StackView, state_of}
-use Rattle.net_stack.proofs.Called.{are_within, lent, lent_inside, lent_shows}
-use Rattle.net_stack.proofs.Given.{nth_within}
+use Rattle.net_stack.proofs.CallLemmas.{are_within, lent, lent_inside, lent_shows}
+use Rattle.net_stack.proofs.Tx.{nth_within}
 use Rattle.net_stack.proofs.stack.Stack.output_packet.Goals as goal
 
 pub packet-requires-clause-queue : goal.packet-requires-clause-queue

@@ -1,7 +1,7 @@
 use Rattle.std.proofs.Common.{length}
 use Rattle.flat_model.specs.Machine.Event.{Receive}
 use Rattle.flat_model.specs.Machine.Replies.{received_reply}
-use Rattle.net_stack.proofs.Called.{Called, socks_called, with_socks, lent, lent_inside, lent_shows}
+use Rattle.net_stack.proofs.CallLemmas.{Called, socks_called, with_socks, lent, lent_inside, lent_shows}
 use Rattle.net_stack.proofs.stack.Stack.recvfrom.Goals as goal
 
 all : (c : goal.After-slice_known-2-1) → Called c.args.self.now (Receive c.args.fd (length c.args.buffer.now))

@@ -1,5 +1,5 @@
 use Rattle.std.proofs.Common.{arith}
-use Rattle.net_stack.proofs.Called.{lent_inside}
+use Rattle.net_stack.proofs.CallLemmas.{lent_inside}
 use Rattle.net_stack.proofs.stack.Stack.references.Goals as goal
 
 pub count-requires : goal.count-requires

@@ -1,12 +1,17 @@
 use Rattle.flat_model.specs.Machine.Event.{Comes, Done}
 use Rattle.net_stack.specs.Inside.Fields.{stack_of}
-use Rattle.net_stack.proofs.Called.{Called, lent, lent_inside, lent_shows}
-use Rattle.net_stack.proofs.Exchanged.{are_bytes, come_owned, come_called}
+use Rattle.net_stack.proofs.CallLemmas.{Called, lent, lent_inside, lent_shows}
+use Rattle.net_stack.proofs.TrafficLemmas.{are_bytes, come_owned, come_called}
 use Rattle.net_stack.proofs.stack.Stack.rx.Goals as goal
 
-pub receive-requires-clause-owned : goal.receive-requires-clause-owned
-receive-requires-clause-owned c = come_owned (stack_of (lent c.self.inside c.deref_mut.result.now))
-    (lent_inside c.self.inside c.deref_mut.result.now c.deref_mut.ensures.value c.self.invariant).stack
+pub receive-requires-clause-fit : goal.receive-requires-clause-fit
+receive-requires-clause-fit c =
+    let stack = (lent_inside c.self.inside c.deref_mut.result.now c.deref_mut.ensures.value c.self.invariant).stack in
+    record {
+      socks = stack.socks;
+      reass = stack.reass;
+      owned = come_owned (stack_of (lent c.self.inside c.deref_mut.result.now)) stack;
+    }
 
 all : (c : goal.After-self-1)
     → Called c.args.self.now (Comes c.args.packet.now) Done
@@ -15,7 +20,7 @@ all c =
     come_called (lent c.self.inside c.deref_mut.result.now) c.args.self.now c.receive.new.self c.args.packet.now
     (lent_inside c.self.inside c.deref_mut.result.now c.deref_mut.ensures.value c.self.invariant)
     (lent_shows c.self.inside c.deref_mut.result.now c.args.self.now c.deref_mut.ensures.value c.self.view_is)
-    (are_bytes c.args.packet.now c.type_inv.packet, c.requires) c.receive.ensures.came c.receive.ensures.reass
+    (are_bytes c.args.packet.now c.type_inv.packet, c.requires) c.receive.ensures.does c.receive.ensures.reass
     c.receive.ensures.output
 
 pub invariant_of-self : goal.invariant_of-self

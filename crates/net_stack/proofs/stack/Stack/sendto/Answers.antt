@@ -3,23 +3,19 @@ use Rattle.flat_model.specs.Machine.Event.{Send}
 use Rattle.flat_model.specs.declared.address.Addr.{Addr}
 use Rattle.flat_model.specs.Machine.Replies.{sent_reply}
 use Rattle.net_stack.specs.declared.host.Host.{Host}
-use Rattle.net_stack.proofs.Called.{Called, lent, lent_inside, lent_shows}
-use Rattle.net_stack.proofs.Exchanged.{are_bytes, can_send, send_owned, sent_called}
+use Rattle.net_stack.proofs.CallLemmas.{Called, lent, lent_inside, lent_shows}
+use Rattle.net_stack.proofs.TrafficLemmas.{are_bytes, can_send, send_owned, sent_called}
 use Rattle.net_stack.proofs.stack.Stack.sendto.Goals as goal
 
-pub send-requires-clause-send : goal.send-requires-clause-send
-send-requires-clause-send c =
+pub send-requires : goal.send-requires
+send-requires c =
     let h : Host = c.deref_mut.result.now in
-    can_send c.self.inside.config h.pool h.socks h.reass h.net
-    (lent_inside c.self.inside c.deref_mut.result.now c.deref_mut.ensures.value c.self.invariant).stack
-    (lent_inside c.self.inside c.deref_mut.result.now c.deref_mut.ensures.value c.self.invariant).mtu
-    (lent_inside c.self.inside c.deref_mut.result.now c.deref_mut.ensures.value c.self.invariant).looped
-
-pub send-requires-clause-owned : goal.send-requires-clause-owned
-send-requires-clause-owned c =
-    let h : Host = c.deref_mut.result.now in
-    send_owned c.self.inside.config h.pool h.socks h.reass h.net
-    (lent_inside c.self.inside c.deref_mut.result.now c.deref_mut.ensures.value c.self.invariant).stack
+    let is = lent_inside c.self.inside h c.deref_mut.ensures.value c.self.invariant in
+    record {
+      send = can_send c.self.inside.config h.pool h.socks h.reass h.net is.stack is.mtu is.looped;
+      ready = is.stack.reass;
+      owned = send_owned c.self.inside.config h.pool h.socks h.reass h.net is.stack;
+    }
 
 all : (c : goal.After-self-1) → Called c.args.self.now (Send c.args.fd c.args.to c.args.bytes.now)
     (sent_reply c.send.result) (record (lent c.self.inside c.deref_mut.result.now) { host = c.send.new.self })

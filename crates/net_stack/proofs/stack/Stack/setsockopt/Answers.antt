@@ -1,6 +1,6 @@
 use Rattle.flat_model.specs.Machine.Event.{Set_option}
 use Rattle.flat_model.specs.Machine.Replies.{done_reply}
-use Rattle.net_stack.proofs.Called.{Called, blocks_called, with_socks, lent, lent_inside, lent_shows}
+use Rattle.net_stack.proofs.CallLemmas.{Called, blocks_called, with_socks, lent, lent_inside, lent_shows}
 use Rattle.net_stack.proofs.stack.Stack.setsockopt.Goals.{After-setsockopt}
 use Rattle.net_stack.proofs.stack.Stack.setsockopt.Goals as goal
 

@@ -1,6 +1,6 @@
 use Rattle.flat_model.specs.Machine.Event.{Open}
 use Rattle.flat_model.specs.Machine.Replies.{opened_reply}
-use Rattle.net_stack.proofs.Called.{Called, blocks_called, with_socks, lent, lent_inside, lent_shows}
+use Rattle.net_stack.proofs.CallLemmas.{Called, blocks_called, with_socks, lent, lent_inside, lent_shows}
 use Rattle.net_stack.proofs.stack.Stack.socket.Goals.{After-socket}
 use Rattle.net_stack.proofs.stack.Stack.socket.Goals as goal
 

@@ -1,7 +1,7 @@
 use Rattle.std.proofs.Common.{refl, sym, subst}
 use Rattle.sock_calls.specs.Sockets.{AreEmpty}
 use Rattle.net_stack.specs.declared.host.Host.{Host}
-use Rattle.net_stack.proofs.Started.{Starts, pool_of_store, started, started_state}
+use Rattle.net_stack.proofs.Boot.{Starts, pool_of_store, started, started_state}
 use Rattle.net_stack.proofs.stack.Stack.start.Goals.{In-Ok-new}
 use Rattle.net_stack.proofs.stack.Stack.start.Goals as goal
 

@@ -2,7 +2,7 @@ use Rattle.std.proofs.Common.{ℕ, ap, ◌∙◌}
 use Rattle.flat_model.specs.Machine.Event.{Tick, Done}
 use Rattle.flat_model.specs.Machine.Count.{counts_more}
 use Rattle.flat_model.specs.declared.counter.Counter.TheVariants.{IpFragtimeout}
-use Rattle.net_stack.proofs.Called.{Called, reass_called, with_reass, lent, lent_inside, lent_shows}
+use Rattle.net_stack.proofs.CallLemmas.{Called, reass_called, with_reass, lent, lent_inside, lent_shows}
 use Rattle.net_stack.proofs.stack.Stack.tick.Goals.{After-count_more}
 use Rattle.net_stack.proofs.stack.Stack.tick.Goals as goal
 

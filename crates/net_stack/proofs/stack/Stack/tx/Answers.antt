@@ -2,7 +2,7 @@ use Rattle.flat_model.specs.Machine.Event.{Transmit}
 use Rattle.flat_model.specs.Machine.Replies.{given_reply}
 use Rattle.std.proofs.Common.{◌≤◌, length, subst, sym}
 use Rattle.net_stack.specs.Stack.{StackView}
-use Rattle.net_stack.proofs.Called.{Called, are_within, output_called, with_out, lent, lent_inside, lent_shows}
+use Rattle.net_stack.proofs.CallLemmas.{Called, are_within, output_called, with_out, lent, lent_inside, lent_shows}
 use Rattle.net_stack.proofs.stack.Stack.tx.Goals as goal
 
 all : (c : goal.After-slice_known-2-1) → Called c.args.self.now Transmit

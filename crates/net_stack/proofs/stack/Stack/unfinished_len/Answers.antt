@@ -2,7 +2,7 @@ use Rattle.std.proofs.Common.{◌≡◌, length, ◌∙◌, sym, subst}
 use Rattle.ip_reass.specs.Same.{length-unfinished}
 use Rattle.net_stack.specs.Inside.Fields.{stack_of}
 use Rattle.net_stack.specs.Stack.{StackView, state_of}
-use Rattle.net_stack.proofs.Called.{lent, lent_shows}
+use Rattle.net_stack.proofs.CallLemmas.{lent, lent_shows}
 use Rattle.net_stack.proofs.stack.Stack.unfinished_len.Goals as goal
 
 pub returns : goal.returns

@@ -1,7 +1,7 @@
 use Rattle.std.proofs.Common.{◌≡◌, subst}
 use Rattle.ip_reass.specs.Questions.{nth_range}
 use Rattle.net_stack.specs.Stack.{StackView, state_of}
-use Rattle.net_stack.proofs.Called.{lent_inside, lent_shows}
+use Rattle.net_stack.proofs.CallLemmas.{lent_inside, lent_shows}
 use Rattle.net_stack.proofs.stack.Stack.unfinished_range.Goals as goal
 
 pub range-requires : goal.range-requires

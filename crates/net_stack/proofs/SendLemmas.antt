@@ -20,7 +20,7 @@ use Rattle.sock_calls.specs.Outgoing.{SendView, sending}
 use Rattle.net_stack.proofs.Aside.{net_seen}
 use Rattle.net_stack.specs.Inside.Arrivals.{HaveArrived}
 use Rattle.net_stack.specs.Inside.Sending.{all_in, no_train, out_chains, AreParts, IsTried, HasSent}
-use Rattle.net_stack.proofs.Lifted.{OutputKept, output_kept}
+use Rattle.net_stack.proofs.PartSteps.{OutputKept, output_kept}
 
 -- the chains that an arrival may touch
 abbrev pub net_chains : SendView → TableView → List ℕ

@@ -36,7 +36,7 @@ use Rattle.sock_calls.specs.Delivery.{NetView, IsInput, KeepsParts, state_at}
 use Rattle.sock_calls.proofs.Laws.{free_each, keeps_trans}
 use Rattle.net_stack.specs.Inside.Arrivals.{HasCome}
 use Rattle.net_stack.proofs.Aside.{BesideSocks, as_held, beside_socks, net_seen}
-use Rattle.net_stack.proofs.Arriving.{IsHeaded, passes}
+use Rattle.net_stack.proofs.ArriveLemmas.{IsHeaded, passes}
 
 -- a packet in one cluster, or in two mbufs
 weighs : (k m : ℕ) → flat.weight_of (entries_on (k ∷ []) (Cluster m ∷ [])) ≡ record { mbufs = 1; bag = k ∷ [] }

@@ -22,7 +22,7 @@ use Rattle.ip_reass.specs.Table.{TableView, IsReady, held_all, unfinished}
 use Rattle.sock_calls.specs.Sockets.{SocksView, IsSocks, queued_chains, with_net}
 use Rattle.sock_calls.specs.Delivery.{NetView, IsAccountedAt, KeepsParts, held_with, state_at}
 use Rattle.net_stack.specs.Inside.Arrivals.{IsArrived, AreArriving, HaveArrived}
-use Rattle.net_stack.proofs.Lifted.{output_weighs}
+use Rattle.net_stack.proofs.PartSteps.{output_weighs}
 use Rattle.net_stack.proofs.Aside.{Aside, aside, as_held, as_owned, net_seen}
 
 -- the first packet of a train, after it was removed

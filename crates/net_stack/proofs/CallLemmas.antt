@@ -24,7 +24,7 @@ use Rattle.net_stack.specs.Inside.Transmit.{AreWithin, IsGiven}
 use Rattle.net_stack.specs.Inside.Fields.{Fields, fields, stack_of, IsStackInside}
 use Rattle.net_stack.specs.declared.host.Host.{Host}
 use Rattle.net_stack.specs.declared.stack.Stack.TheInside.{Inside}
-use Rattle.net_stack.proofs.Lifted.{Stepped, socks_step, output_step, reass_step}
+use Rattle.net_stack.proofs.PartSteps.{Stepped, socks_step, output_step, reass_step}
 
 -- the fields with the host that the box lends
 abbrev pub lent : Inside → Host → Fields

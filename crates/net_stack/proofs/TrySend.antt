@@ -33,7 +33,7 @@ use Rattle.sock_calls.specs.Sends.{SendsOnce}
 use Rattle.sock_calls.specs.Outgoing.{SendView, CanSend, IsSent, sending, state_in}
 use Rattle.sock_calls.proofs.Laws.{Kept, kept, sends_at_once, sends_again}
 use Rattle.net_stack.specs.Inside.Sending.{is_pool_lack, lacks_pool, all_in, out_chains, AreParts, IsTried}
-use Rattle.net_stack.proofs.Lifted.{ReassKept, reass_kept, OutputKept, output_kept, output_weighs}
+use Rattle.net_stack.proofs.PartSteps.{ReassKept, reass_kept, OutputKept, output_kept, output_weighs}
 
 -- ---- one test
 

@@ -27,8 +27,8 @@ use Rattle.net_stack.specs.Inside.Hosts.{KeepsOutput, arrival_view, send_view}
 use Rattle.net_stack.specs.Inside.Sending.{HasSent, no_train, out_chains}
 use Rattle.net_stack.specs.declared.host.Host.{Host}
 use Rattle.net_stack.specs.Inside.Fields.{Fields, stack_of as seen_in, IsStackInside}
-use Rattle.net_stack.proofs.Called.{Called, called}
-use Rattle.net_stack.proofs.Lifted.{Stepped, accounts, stepped, input_step, split}
+use Rattle.net_stack.proofs.CallLemmas.{Called, called}
+use Rattle.net_stack.proofs.PartSteps.{Stepped, accounts, stepped, input_step, split}
 
 -- each value of a byte slice is below 256
 pub are_bytes : (xs : List ℕ) → ((k : ℕ) → Fits w8 (get_or xs k 0)) → IsBytes xs

@@ -15,7 +15,7 @@ use Rattle.ip_out.specs.Packets.{train_packets}
 use Rattle.ip_out.specs.Questions.{nth_packet}
 use Rattle.ip_out.specs.Queues.{IsOutputQueue}
 use Rattle.net_stack.specs.Inside.Transmit.{with_packets, AreWithin, IsGiven}
-use Rattle.net_stack.proofs.Lifted.{OutputKept, output_kept}
+use Rattle.net_stack.proofs.PartSteps.{OutputKept, output_kept}
 
 -- if the bytes were written at the start of the buffer, they are its first n bytes
 pub in_front : (bytes to room : List ℕ) (n : ℕ) → n ≡ length bytes → to ≡ bytes → take n (to ++ room) ≡ bytes

@@ -25,7 +25,7 @@ use Rattle.ip_out.proofs.Laws.{none_wait}
 use Rattle.net_stack.specs.Boots.{free_pool}
 use Rattle.net_stack.specs.Stack.{IsStack, state_of, stack_chains}
 use Rattle.net_stack.specs.Inside.Fields.{Fields, stack_of, IsStackInside}
-use Rattle.net_stack.proofs.Lifted.{ReassKept, reass_kept, OutputKept, output_kept, split}
+use Rattle.net_stack.proofs.PartSteps.{ReassKept, reass_kept, OutputKept, output_kept, split}
 
 free_live : (config : Config) (k : ℕ) → live_at (free_pool config) k ≡ 0
 free_live config k = live_none (free_pool config) k (get-empty nat_cmp k)

@@ -32,9 +32,9 @@ use Rattle.sock_calls.specs.Whole.{ArrivesWhole, DeliversWhole, EndsWhole, HasOn
 use Rattle.sock_calls.proofs.Laws.{keeps_trans}
 use Rattle.net_stack.specs.Inside.Arrivals.{EndsFor, HasCome, IsAsked}
 use Rattle.net_stack.proofs.Aside.{Aside, aside, aside_keeps, counters_accounts, net_seen}
-use Rattle.net_stack.proofs.Arriving.{passes}
-use Rattle.net_stack.proofs.Coming.{asked_keeps, asked_socks}
-use Rattle.net_stack.proofs.Lifted.{ReassKept, reass_kept}
+use Rattle.net_stack.proofs.ArriveLemmas.{passes}
+use Rattle.net_stack.proofs.ReceiveLemmas.{asked_keeps, asked_socks}
+use Rattle.net_stack.proofs.PartSteps.{ReassKept, reass_kept}
 use Rattle.pcb_table.specs.Table.{machine}
 
 -- clusters that are free in one state are free in another with the same reference counts
