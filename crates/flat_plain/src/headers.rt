@@ -88,7 +88,7 @@ pub fn head_fault(bytes: &[u8]) -> Option<Why>
 }
 
 /// Writes a 16-bit number over the bytes from offset `at`.
-fn put_u16(bytes: &mut [u8], at: usize, n: u16)
+pub fn put_u16(bytes: &mut [u8], at: usize, n: u16)
     requires { at + 2 ≤ length bytes.old }
     ensures { bytes.new ≡ take at bytes.old ++ (Header.two_bytes n ++ drop (at + 2) bytes.old) }
 {
@@ -96,7 +96,7 @@ fn put_u16(bytes: &mut [u8], at: usize, n: u16)
 }
 
 /// Writes a 32-bit number over the bytes from offset `at`.
-fn put_u32(bytes: &mut [u8], at: usize, n: u32)
+pub fn put_u32(bytes: &mut [u8], at: usize, n: u32)
     requires { at + 4 ≤ length bytes.old }
     ensures { bytes.new ≡ take at bytes.old ++ (Header.four_bytes n ++ drop (at + 4) bytes.old) }
 {
@@ -166,7 +166,7 @@ fn udp_header(source_port: u16, destination_port: u16, n: u16, sum: u16) -> [u8;
 }
 
 /// A computed checksum of 0 is written as 65,535.
-fn not_zero(sum: u16) -> u16
+pub fn not_zero(sum: u16) -> u16
     ensures { result ≡ Header.not_zero sum }
 {
     if sum == 0 { 65_535 } else { sum }

@@ -18,7 +18,8 @@ mod sums;
 mod weights;
 
 pub use headers::{
-    Head, head_fault, head_of, packet, pseudo_header, u16_at, u32_at, udp, udp_fault,
+    Head, head_fault, head_of, not_zero, packet, pseudo_header, put_u16, put_u32, u16_at, u32_at,
+    udp, udp_fault,
 };
 pub use lookup::{Pcb, best, exact, matches, receivers, score};
 pub use maps::{Cell, Fragment, is_covered, overlay, whole};

@@ -1,5 +1,5 @@
 //! Building the packet that a line describes.
-ghost use Rattle.std.specs.Prelude.{◌≡◌, ◌≤◌, ◌<◌, ◌+◌, ◌-◌, ◌++◌, length, take, drop, Some};
+ghost use Rattle.std.specs.Prelude.{◌≡◌, ◌≤◌, ◌<◌, ◌+◌, ◌-◌, length, take, Some};
 ghost use Rattle.params.specs.declared.TheConstants.{IP_MAX_DATA, UDP_HEADER};
 ghost use Rattle.flat_model.specs.Packets.Checksum.{checksum as checksum_of};
 ghost use Rattle.flat_model.specs.Packets.Header as header;
@@ -11,8 +11,8 @@ use crate::form::{Form, Sum};
 use crate::mark::Payload;
 use crate::numbers::bytes_in;
 use crate::places::{Misfit, NumberAt, refuse};
-use byteorder::{BigEndian, ByteOrder};
 use flat_model::fold;
+use flat_plain::{not_zero, put_u16, put_u32};
 use params::{IP_DEFAULT_TTL, IP_HEADER, IP_MAX_DATA, IP_MAX_PACKET, PROTOCOL_UDP, UDP_HEADER};
 use play_line::Fault;
 use script_loop::{Buffer, LineBuffers};
@@ -43,22 +43,6 @@ pub(crate) struct Builder {
     datagram: Buffer<ROOM>,
 }
 
-/// Writes a 16-bit number over the bytes from offset `at`.
-fn put_u16(bytes: &mut [u8], at: usize, n: u16)
-    requires { at + 2 ≤ length bytes.old }
-    ensures { bytes.new ≡ take at bytes.old ++ (header.two_bytes n ++ drop (at + 2) bytes.old) }
-{
-    BigEndian::write_u16(&mut bytes[at..at + 2], n);
-}
-
-/// Writes a 32-bit number over the bytes from offset `at`.
-fn put_u32(bytes: &mut [u8], at: usize, n: u32)
-    requires { at + 4 ≤ length bytes.old }
-    ensures { bytes.new ≡ take at bytes.old ++ (header.four_bytes n ++ drop (at + 4) bytes.old) }
-{
-    BigEndian::write_u32(&mut bytes[at..at + 4], n);
-}
-
 /// Returns a 16-bit number as bytes.
 fn two_bytes(n: u16) -> [u8; 2]
     ensures { result ≡ header.two_bytes n }
@@ -83,13 +67,6 @@ fn checksum(bytes: &[u8]) -> u16
     ensures { result ≡ checksum_of bytes.now }
 {
     65_535 - fold(bytes)
-}
-
-/// A computed checksum of 0 is written as 65,535.
-fn not_zero(sum: u16) -> u16
-    ensures { result ≡ header.not_zero sum }
-{
-    if sum == 0 { 65_535 } else { sum }
 }
 
 /// Returns a checksum that differs from the right one.
