@@ -21,38 +21,19 @@ def lists() -> dict[str, list[str]]:
     return {
         "crates.txt": list(crates.uses()),
         "crates/README.md": re.findall(r"\[(\w+)\]\(\1/README\.md\)", read("crates/README.md")),
-        ARCHITECTURE: [name for row in layers() for name in in_code(row.cells[0])],
     }
 
 
-def layers() -> list:
-    return table(ARCHITECTURE, "What each layer shows", "Crate", "Uses", "What its contract shows")[1]
-
-
-@pytest.mark.parametrize("path", ["crates.txt", "crates/README.md", ARCHITECTURE])
+@pytest.mark.parametrize("path", ["crates.txt", "crates/README.md"])
 def test_each_crate_has_a_line(path):
-    """Each crate is listed once. In the first two files it's after the crates that it uses."""
+    """Each crate is listed once, after the crates that it uses."""
     used, names = crates.uses(), lists()[path]
     there = sorted(it.parent.name for it in TOP.glob("crates/*/src"))
     faults = [Fault(f"{path}:1", "this crate is missing", it) for it in there if it not in names]
     odd = dict.fromkeys(it for it in names if names.count(it) > 1 or it not in there)
     faults += [Fault(f"{path}:1", f"the crate {it} is listed twice, or there is no such crate") for it in odd]
-    if path != ARCHITECTURE:
-        below = [(it, low) for it in names for low in used.get(it, []) if low in names[names.index(it) :]]
-        faults += [Fault(f"{path}:1", f"{it} uses {low}, so it has to follow it") for it, low in below]
-    none_of(faults)
-
-
-def test_layers_name_what_they_use():
-    """The architecture lists under "Uses" only what a crate uses."""
-    used = crates.uses()
-    none_of(
-        Fault(row.place, f"{name} doesn't use {it}")
-        for row in layers()
-        for name in in_code(row.cells[0])
-        for it in in_code(row.cells[1])
-        if it in used and it not in used.get(name, [])
-    )
+    below = [(it, low) for it in names for low in used.get(it, []) if low in names[names.index(it) :]]
+    none_of([*faults, *(Fault(f"{path}:1", f"{it} uses {low}, so it has to follow it") for it, low in below)])
 
 
 def test_libraries_that_are_trusted():

@@ -6,7 +6,7 @@ from typing import Iterator
 
 import pytest
 
-from tests.docs.pages import OF_THE_PAST, TOP, Fault, documents, in_code, lines, none_of, read, sources_of
+from tests.docs.pages import OF_THE_PAST, TOP, Fault, documents, in_code, lines, none_of, read, sources_of, table
 from tools import crates
 
 FOLDERS = [".ci", "bench", "capi", "conform", "crates", "dist", "examples", "page", "portable", "python", "simulators"]
@@ -26,6 +26,9 @@ ITEMS_OF_OTHERS |= {"Config::Connect", "Config::SetDefault", "Packet::Print"}
 OF_OTHERS = {*OF_THE_PAST, *(f"docs/{it}.md" for it in ("maintain/decisions", "behaviour", "book"))}
 IMPORT = re.compile(r"\s*(?:ghost |pub )?(?:use|open) ")
 DEFINED = re.compile(r"(?:(?:abbrev|unfoldable) pub|pub (?:record|data)|pub)\s+([^\s:(){}]+)\s")
+CLAUSE = re.compile(r" *(?:requires|ensures) (\w+) \{ ([A-Z]\w+)\b")
+# How many labels a crate has that aren't in the table of words.md.
+OTHER_LABELS = {"chain_ops": 1, "sock_calls": 7}
 NAMES_TWICE = 60
 WIDEST = 120
 
@@ -171,6 +174,21 @@ def test_definitions_share_few_names():
             Fault(f"{paths[1]}:1", f"{paths[0]} defines `{name}`, too: {len(twice)} names do, and {NAMES_TWICE} may")
             for name, paths in twice.items()
         )
+
+
+@pytest.mark.parametrize("name", crates.uses())
+def test_a_fact_has_one_label(name):
+    """A clause that states a fact of the table in words.md has one of its labels. OTHER_LABELS only shrinks."""
+    rows = table("docs/maintain/words.md", "Labels of clauses", "Fact", "Label")[1]
+    labels = {fact: in_code(row.cells[1]) for row in rows for fact in in_code(row.cells[0])}
+    faults = [
+        Fault(f"{path}:{number}", f"the label of `{it[2]}` isn't '{it[1]}'", " or ".join(labels[it[2]]), it[1])
+        for path in sources_of(name)
+        for number, line in enumerate(read(path).split("\n"), 1)
+        if (it := CLAUSE.match(line)) and it[1] not in labels.get(it[2], [it[1]])
+    ]
+    if len(faults) != OTHER_LABELS.get(name, 0):
+        none_of([*faults, Fault(__file__, f"{name} has {len(faults)} other labels, not OTHER_LABELS")])
 
 
 def wide_lines(folder: str, kind: str) -> list[Fault]:
