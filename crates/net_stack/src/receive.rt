@@ -135,7 +135,7 @@ impl Host {
         }
     }
 
-    /// IsProcessed a packet that has this space in the pool: a fragment goes to the reassembly, and a whole datagram to
+    /// Processes a packet that has this space in the pool: a fragment goes to the reassembly, and a whole datagram to
     /// its sockets. `Err`: nothing has changed, and the packet is to be dropped for this cause.
     #[inline(always)]
     fn process(&mut self, space: Space, packet: &[u8]) -> Result<(), Why>
