@@ -15,11 +15,11 @@
  *
  * Rules that the caller must follow, for every call:
  *   - Set all bytes of a `struct bsdudp` to 0 before its first boot (BSDUDP_NONE). After that, do not copy it, and do
- *     not access its members.
+ *     not access its members: a copy of the handle leads to memory that bsdudp_end has given back.
  *   - Make one call at a time on a stack. Other threads may make calls on other stacks meanwhile, including boot and
  *     end. Make no call from a signal handler or an interrupt handler.
- *   - Pass no null pointer. Each pointer must point to the number of bytes that the description gives, and no two
- *     arguments of a call may overlap.
+ *   - Pass no null pointer, except where a description allows it. Each pointer must point to the number of bytes that
+ *     the description gives, and no two arguments of a call may overlap.
  * Everything else is checked and returns an error: a handle without a stack, a wrong descriptor, a wrong length. A
  * damaged packet is dropped and counted.
  *
@@ -58,7 +58,8 @@ struct bsdudp {
 /* The parameters of boot. */
 struct bsdudp_config {
     uint32_t addr;     /* the address of the interface: 1.0.0.0 to 223.255.255.255, not in 127/8 */
-    uint32_t bcast;    /* the broadcast address of its network: in the same range, and not `addr` */
+    uint32_t bcast;    /* the broadcast address of its network: in the same range, and not `addr`; a host on an Ethernet
+                          may have 0 here, for the last address of the network of its mask */
     uint32_t mbufs;    /* the number of mbufs in the pool, of 128 bytes each: 1 to 65535 */
     uint32_t clusters; /* the number of clusters in the pool, of 2,048 bytes each: 0 to 4096 */
     uint16_t mtu;      /* the longest packet that the stack sends to the link: 68 to 4352 bytes */
@@ -116,8 +117,8 @@ struct bsdudp_range {
 
 /* The link of a host on an Ethernet: bsdudp_ether_boot_in. */
 struct bsdudp_link {
-    uint8_t mac[6];   /* its hardware address, as in a frame; not a group address, so mac[0] is even */
-    uint32_t mask;    /* the network mask: 0xffffff00 for 10.0.0.1/24 */
+    uint8_t mac[6];   /* its hardware address, as in a frame; not 0, nor a group address, so mac[0] is even */
+    uint32_t mask;    /* the network mask, ones and then zeros: 0xffffff00 for 10.0.0.1/24 */
     uint32_t gateway; /* the neighbour to which packets for other networks are sent; 0: such packets are dropped */
     uint8_t probe;    /* 0: the host uses its address at once; otherwise it probes for it first (RFC 5227) */
 };
@@ -152,22 +153,25 @@ struct bsdudp_neighbour {
 enum {
     BSDUDP_ENXIO = 6,           /* the handle holds no stack; boot: it holds one already */
     BSDUDP_EBADF = 9,           /* the descriptor is not open */
-    BSDUDP_ENOMEM = 12,         /* too little memory for the stack */
+    BSDUDP_ENOMEM = 12,         /* boot: too little memory for the stack */
     BSDUDP_EACCES = 13,         /* the destination is the broadcast address, and the socket is not allowed to send to
                                    it; SO_BROADCAST allows it */
-    BSDUDP_EINVAL = 22,         /* the socket is already bound; an invalid configuration; a query: no such number */
+    BSDUDP_EINVAL = 22,         /* boot: a wrong setting, which bsdudp_boot_strerror names; bind: the socket is
+                                   already bound; a query: no such number */
     BSDUDP_EMFILE = 24,         /* all descriptors are open; at most 64 */
-    BSDUDP_EDOM = 33,           /* numbers of mbufs or clusters that a pool cannot have */
+    BSDUDP_EDOM = 33,           /* boot: numbers of mbufs or clusters that a pool cannot have */
     BSDUDP_EWOULDBLOCK = 35,    /* no datagram is queued, and the call does not wait */
     BSDUDP_EDESTADDRREQ = 39,   /* the socket is not connected, and the call has no destination */
-    BSDUDP_EMSGSIZE = 40,       /* the datagram is too long; a packet is too long; a buffer is too short */
+    BSDUDP_EMSGSIZE = 40,       /* send: the datagram is too long; rx: the packet is too long; tx: the buffer is too
+                                   short */
     BSDUDP_ENOPROTOOPT = 42,    /* no such option */
     BSDUDP_EOPNOTSUPP = 45,     /* a call for packets on a host, or a call for frames on a bare stack */
     BSDUDP_EADDRINUSE = 48,     /* another socket has the address and port; another host uses the address */
     BSDUDP_EADDRNOTAVAIL = 49,  /* the address is not an address of this host, or the port to connect to is 0 */
     BSDUDP_ENOBUFS = 55,        /* the pool has too few buffers; nothing was sent */
     BSDUDP_EISCONN = 56,        /* the socket is connected, and the call has a destination */
-    BSDUDP_ECONNREFUSED = 61,   /* no socket has the port at the peer; only a report of bsdudp_ether_last_error */
+    BSDUDP_ECONNREFUSED = 61,   /* the peer refused a datagram: it has no socket with the port; only
+                                   bsdudp_ether_last_error reports it */
     BSDUDP_EHOSTUNREACH = 65,   /* no interface leads to the destination */
     BSDUDP_EQUEUE = 155         /* the interface's output queue is full; the packets that fit are queued (ENOBUFS in
                                    4.4BSD) */
@@ -188,6 +192,7 @@ enum {
     BSDUDP_DATAGRAM = 9216, /* the longest datagram that can be sent, in bytes of data */
     BSDUDP_PACKET = 65535,  /* the longest packet that bsdudp_rx accepts, in bytes */
     BSDUDP_ALIGNMENT = 16,  /* the alignment of a stack's memory, in bytes */
+    BSDUDP_TICK = 500,      /* the time between two ticks, in milliseconds */
     BSDUDP_ETHER_ROOM = 1514,   /* the buffer size in bytes for bsdudp_ether_transmit: a frame of 14 and 1,500 bytes */
     BSDUDP_ETHER_FRAME = 65549, /* the longest frame that bsdudp_ether_receive accepts, in bytes */
     BSDUDP_NEIGHBOURS = 32, /* the most neighbours in a host's table */
@@ -225,6 +230,11 @@ int bsdudp_boot_in(struct bsdudp *stack, const struct bsdudp_config *config, voi
    Errors: those of bsdudp_boot_in, and
    -BSDUDP_ENOMEM if malloc fails. */
 int bsdudp_boot(struct bsdudp *stack, const struct bsdudp_config *config);
+
+/* Returns why boot failed, with the name of the setting that is wrong, for example "mtu is not 68 to 4352". `result` is
+   what boot returned. `config` and `link` are those that were passed to it; `link` is NULL for a bare stack. If several
+   settings are wrong, it names the first one that boot checks. For 0 it is "ok". */
+const char *bsdudp_boot_strerror(int result, const struct bsdudp_config *config, const struct bsdudp_link *link);
 
 /* Ends a stack, with its sockets, queues and unfinished datagrams. The handle can then be used for another boot.
 
@@ -268,6 +278,16 @@ int bsdudp_tx(struct bsdudp *stack, void *buffer, size_t len);
    -BSDUDP_ENXIO if the handle holds no stack. */
 int bsdudp_tick(struct bsdudp *stack);
 
+/* Makes the ticks that are due at `now`, a time of a clock that never goes back, in milliseconds. `*due` is the time of
+   the next tick, which this call updates: set it to 0 before the first call. After the first call, a tick is due every
+   BSDUDP_TICK milliseconds. If the clock was set back, the next tick is due BSDUDP_TICK milliseconds later.
+
+   Returns the number of milliseconds until the next tick is due, 1 to BSDUDP_TICK: the timeout for poll.
+
+   Errors:
+   -BSDUDP_ENXIO if the handle holds no stack and a tick is due. */
+int bsdudp_tick_until(struct bsdudp *stack, uint64_t now, uint64_t *due);
+
 /* ---- a host on an Ethernet: a stack with frames (RFC 894), ARP (RFC 826), replies to ping and "port unreachable" (RFC
    792). All other calls work as for a bare stack, except bsdudp_rx and bsdudp_tx. */
 
@@ -282,8 +302,9 @@ int bsdudp_tick(struct bsdudp *stack);
 
    Errors:
    -BSDUDP_ENXIO if the handle already holds a stack, which continues to run.
-   -BSDUDP_EINVAL if the MTU is above 1500, the hardware address is a group address, or the gateway is not a neighbour:
-   it is not on the network of `link->mask`, or it is this host's address or the broadcast address.
+   -BSDUDP_EINVAL if the MTU is above 1500; the hardware address is 0 or a group address; the mask is not ones followed
+   by zeros; the broadcast address is neither 0 nor the last address of the network of `link->mask`; or the gateway is
+   not a neighbour: it is not on that network, or it is this host's address or the broadcast address.
    Then -BSDUDP_EDOM, -BSDUDP_EINVAL and -BSDUDP_ENOMEM, as bsdudp_boot_in returns them. */
 int bsdudp_ether_boot_in(struct bsdudp *stack, const struct bsdudp_config *config, const struct bsdudp_link *link,
                          void *memory, size_t len);
@@ -411,10 +432,22 @@ int bsdudp_bind(struct bsdudp *stack, uint32_t fd, const struct bsdudp_addr *loc
    -BSDUDP_EADDRINUSE if another socket has the same local and foreign address and port. */
 int bsdudp_connect(struct bsdudp *stack, uint32_t fd, const struct bsdudp_addr *to);
 
+/* Disconnects a socket: it then receives from all peers again, and bsdudp_sendto can send. It keeps its local port; its
+   local address is cleared. A socket that is not connected is unchanged. Source: the book, chapters 15 (soconnect) and
+   22 (in_pcbdisconnect).
+
+   Returns 0.
+
+   Errors:
+   -BSDUDP_ENXIO if the handle holds no stack.
+   -BSDUDP_EBADF if no open socket has the descriptor `fd`. */
+int bsdudp_disconnect(struct bsdudp *stack, uint32_t fd);
+
 /* Sends `len` bytes as one datagram to an address. Its packets are queued for bsdudp_tx or bsdudp_ether_transmit. A
    datagram to this host has arrived when the call returns. A missing local port is chosen. Address 0 means the host
-   itself, and 255.255.255.255 its broadcast address. Source: the book, chapters 16 (sosend), 23 (udp_output), 8 and 10
-   (ip_output).
+   itself, and 255.255.255.255 its broadcast address. On an Ethernet, packets to another network are dropped later if
+   the host has no gateway: `no_route` of bsdudp_ether_tallies counts them. Source: the book, chapters 16 (sosend), 23
+   (udp_output), 8 and 10 (ip_output).
 
    Returns `len`.
 
@@ -445,8 +478,8 @@ int bsdudp_sendto(struct bsdudp *stack, uint32_t fd, const struct bsdudp_addr *t
 int bsdudp_send(struct bsdudp *stack, uint32_t fd, const void *bytes, size_t len);
 
 /* Removes the oldest datagram from a socket's receive queue, copies up to `len` bytes of it to `buffer`, and stores its
-   sender in `*from`. The rest of the datagram is lost. The call does not block. Source: the book, chapter 16
-   (soreceive).
+   sender in `*from`, if `from` is not NULL. The rest of the datagram is lost: bsdudp_recvfrom_trunc shows that. The
+   call does not block. Source: the book, chapter 16 (soreceive).
 
    Returns the number of bytes copied.
 
@@ -455,6 +488,13 @@ int bsdudp_send(struct bsdudp *stack, uint32_t fd, const void *bytes, size_t len
    -BSDUDP_EBADF if no open socket has the descriptor `fd`.
    -BSDUDP_EWOULDBLOCK if the receive queue is empty. */
 int bsdudp_recvfrom(struct bsdudp *stack, uint32_t fd, void *buffer, size_t len, struct bsdudp_addr *from);
+
+/* Receives as bsdudp_recvfrom does, and returns the length of the whole datagram, as Linux does with MSG_TRUNC.
+
+   Returns the length of the datagram in bytes. If it is above `len`, only `len` bytes were copied.
+
+   Errors: those of bsdudp_recvfrom. */
+int bsdudp_recvfrom_trunc(struct bsdudp *stack, uint32_t fd, void *buffer, size_t len, struct bsdudp_addr *from);
 
 /* Closes a socket. The datagrams in its receive queue are lost. Source: the book, chapter 15 (soclose).
 

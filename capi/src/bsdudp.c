@@ -87,7 +87,8 @@ int bsdudp_send(struct bsdudp *s, uint32_t fd, const void *bytes, size_t len)
 
 int bsdudp_recvfrom(struct bsdudp *s, uint32_t fd, void *buffer, size_t len, struct bsdudp_addr *from)
 {
-    return bsdudp_core_recvfrom(&s->core, fd, buffer, len, from);
+    struct bsdudp_addr ignored = {0, 0};
+    return bsdudp_core_recvfrom(&s->core, fd, buffer, len, from != NULL ? from : &ignored);
 }
 
 int bsdudp_setsockopt(struct bsdudp *s, uint32_t fd, int option, int on)

@@ -2,9 +2,10 @@
    its own. */
 #include "bsdudp.h"
 
-/* Of memory.c: the memory that boot may use, and the end of boot. */
+/* Of memory.c: the memory that boot may use, and the end of boot. Of composed.c: a wrong setting. */
 void bsdudp_lend(void *memory, size_t len);
 int bsdudp_lent(const void *memory, int answer);
+int bsdudp_link_fault(const struct bsdudp_config *config, const struct bsdudp_link *link);
 
 /* The core's exports, and its structs: a hardware address is two numbers, of its first two bytes and of its last
    four. */
@@ -36,15 +37,20 @@ static int end_link(struct bsdudp *stack) { return bsdudp_core_ether_end(&stack-
 
 /* An error in the link comes before the errors of the stack: the first call has no memory, so a valid link gives
    ENOMEM. */
-int bsdudp_ether_boot_in(struct bsdudp *stack, const struct bsdudp_config *config, const struct bsdudp_link *link,
+int bsdudp_ether_boot_in(struct bsdudp *stack, const struct bsdudp_config *given, const struct bsdudp_link *link,
                          void *memory, size_t len)
 {
+    struct bsdudp_config told_config = *given;
+    const struct bsdudp_config *config = &told_config;
     const uint8_t *mac = link->mac;
     const struct core_link told = {(uint16_t)(mac[0] << 8 | mac[1]), BSDUDP_IP(mac[2], mac[3], mac[4], mac[5]),
                                    link->mask, link->gateway, link->probe};
     int answer;
     if (bsdudp_core_output_len(&stack->core) >= 0)
         return -BSDUDP_ENXIO;
+    if (bsdudp_link_fault(given, link) != 0)
+        return -BSDUDP_EINVAL;
+    told_config.bcast = given->addr | ~link->mask;
     answer = bsdudp_core_ether_boot(&stack->link, config, &told);
     if (answer != -BSDUDP_ENOMEM)
         return answer;

@@ -52,6 +52,8 @@ static int without_a_stack(struct bsdudp *s)
     WANT(bsdudp_setsockopt(s, 3, BSDUDP_SO_BROADCAST, 1), -BSDUDP_ENXIO);
     WANT(bsdudp_setsockopt(s, 3, 1, 1), -BSDUDP_ENXIO);
     WANT(bsdudp_getsockname(s, 3, &name), -BSDUDP_ENXIO);
+    WANT(bsdudp_recvfrom_trunc(s, 3, buffer, sizeof buffer, &from), -BSDUDP_ENXIO);
+    WANT(bsdudp_disconnect(s, 3), -BSDUDP_ENXIO);
     WANT(bsdudp_next(s, 3, &next), -BSDUDP_ENXIO);
     WANT(bsdudp_readable(s, &number), -BSDUDP_ENXIO);
     WANT(bsdudp_output_len(s), -BSDUDP_ENXIO);
@@ -79,6 +81,37 @@ static int misaligned(void)
         WANT(memory[k], 0);
     c.clusters = 4097;
     WANT(bsdudp_boot_in(&near_, &c, memory + 1, sizeof memory - 1), -BSDUDP_EDOM);
+    return 0;
+}
+
+/* What boot says of a wrong setting: the name of the member, and nothing about sockets. */
+static int texts(void)
+{
+    static const struct bsdudp_config wrong[] = {
+        {0x0a000001, 0x0a0000ff, 0, 16, 1500, 1},       {0x0a000001, 0x0a0000ff, 65536, 16, 1500, 1},
+        {0x0a000001, 0x0a0000ff, 64, 4097, 1500, 1},    {0x0a000001, 0x0a0000ff, 64, 16, 67, 1},
+        {0x0a000001, 0x0a0000ff, 64, 16, 4353, 1},      {0, 0x0a0000ff, 64, 16, 1500, 1},
+        {0x0a000001, 0, 64, 16, 1500, 1},               {0x0a000001, 0xffffffff, 64, 16, 1500, 1},
+        {0xe0000001, 0x0a0000ff, 64, 16, 1500, 1},      {0x7f000001, 0x0a0000ff, 64, 16, 1500, 1},
+        {0x0a000001, 0x0a000001, 64, 16, 1500, 1},
+    };
+    static const char *const names[] = {"mbufs is", "mbufs is", "clusters is", "mtu is", "mtu is", "addr is",
+                                        "bcast is", "bcast is", "addr is", "addr is", "addr and bcast are equal"};
+    const struct bsdudp_config right = config();
+    size_t i;
+    for (i = 0; i < sizeof wrong / sizeof wrong[0]; i++) {
+        int answer = bsdudp_boot_in(&near_, &wrong[i], memory, sizeof memory);
+        const char *text = bsdudp_boot_strerror(answer, &wrong[i], NULL);
+        WANT(answer, i < 3 ? -BSDUDP_EDOM : -BSDUDP_EINVAL);
+        WANT(strncmp(text, names[i], strlen(names[i])), 0);
+        WANT(strstr(text, "socket") == NULL, 1);
+    }
+    i = (size_t)-bsdudp_boot_in(&near_, &right, memory + 1, sizeof memory - 1);
+    WANT(strncmp(bsdudp_boot_strerror(-(int)i, &right, NULL), "memory is not aligned", 21), 0);
+    i = (size_t)-bsdudp_boot_in(&near_, &right, memory, 1000);
+    WANT(strncmp(bsdudp_boot_strerror(-(int)i, &right, NULL), "len is too small", 16), 0);
+    WANT(strcmp(bsdudp_boot_strerror(0, &right, NULL), "ok"), 0);
+    WANT(strstr(bsdudp_boot_strerror(-BSDUDP_ENXIO, &right, NULL), "already") != NULL, 1);
     return 0;
 }
 
@@ -194,6 +227,17 @@ static int traffic(void)
     WANT(bsdudp_next(&far_, 5, &next), -BSDUDP_EBADF);
     WANT(bsdudp_send(&near_, 3, bytes, 0), 0);
     WANT(bsdudp_tx(&near_, packet, sizeof packet), 28);
+    WANT(bsdudp_rx(&far_, packet, 28), 0);
+    WANT(bsdudp_recvfrom(&far_, 3, buffer, 0, NULL), 0);
+    for (i = 0; i < 3; i++) {
+        WANT(bsdudp_send(&near_, 3, bytes, 8), 8);
+        WANT(bsdudp_rx(&far_, packet, (size_t)bsdudp_tx(&near_, packet, sizeof packet)), 0);
+    }
+    WANT(bsdudp_recvfrom_trunc(&far_, 5, buffer, 4, &from), -BSDUDP_EBADF);
+    WANT(bsdudp_recvfrom_trunc(&far_, 3, buffer, 4, &from), 8);
+    WANT(bsdudp_recvfrom_trunc(&far_, 3, buffer, 8, NULL), 8);
+    WANT(bsdudp_recvfrom(&far_, 3, buffer, 4, NULL), 4);
+    WANT(bsdudp_recvfrom_trunc(&far_, 3, buffer, 4, &from), -BSDUDP_EWOULDBLOCK);
     WANT(bsdudp_rx(&near_, packet, BSDUDP_PACKET + 1), -BSDUDP_EMSGSIZE);
     WANT(bsdudp_rx(&near_, packet, 0), 0);
     WANT(bsdudp_tick(&near_), 0);
@@ -284,6 +328,51 @@ static int limits(void)
     return 0;
 }
 
+/* A socket that is disconnected keeps its port, and can send to any address. */
+static int disconnects(void)
+{
+    struct bsdudp_name name;
+    WANT(bsdudp_disconnect(&near_, 9), -BSDUDP_EBADF);
+    WANT(bsdudp_disconnect(&near_, 3), 0);
+    WANT(bsdudp_getsockname(&near_, 3, &name), 0);
+    WANT(name.peer_ip == 0 && name.peer_port == 0 && name.local_ip == 0 && name.local_port == 1024, 1);
+    WANT(bsdudp_send(&near_, 3, bytes, 1), -BSDUDP_EDESTADDRREQ);
+    WANT(bsdudp_disconnect(&near_, 3), 0);
+    WANT(bsdudp_getsockname(&near_, 3, &name), 0);
+    WANT(name.local_port, 1024);
+    return 0;
+}
+
+/* Ticks by a clock: a fragment expires after 60 of them, and a clock that is set back does no harm. */
+static int ticks(void)
+{
+    static const struct bsdudp none = BSDUDP_NONE;
+    struct bsdudp dead = none;
+    uint64_t due = 0, dead_due = 0;
+    int i;
+    WANT(bsdudp_unfinished_len(&far_), 0);
+    WANT(bsdudp_disconnect(&far_, 3), 0);
+    for (i = 0; i < BSDUDP_QUEUE; i++)
+        WANT(bsdudp_tx(&near_, packet, sizeof packet), 38);
+    WANT(bsdudp_sendto(&near_, 3, &to_far, bytes, 3000), 3000);
+    WANT(bsdudp_rx(&far_, packet, (size_t)bsdudp_tx(&near_, packet, sizeof packet)), 0);
+    WANT(bsdudp_unfinished_len(&far_), 1);
+    WANT(bsdudp_tick_until(&far_, 1000, &due), 500);
+    WANT(due, 1500);
+    WANT(bsdudp_tick_until(&far_, 1001, &due), 499);
+    WANT(bsdudp_tick_until(&far_, 1499, &due), 1);
+    WANT(bsdudp_tick_until(&far_, 1500, &due), 500);
+    WANT(bsdudp_tick_until(&far_, 1500 + 58 * 500 + 499, &due), 1);
+    WANT(bsdudp_unfinished_len(&far_), 1);
+    WANT(bsdudp_tick_until(&far_, 1500 + 59 * 500 + 200, &due), 300);
+    WANT(bsdudp_unfinished_len(&far_), 0);
+    WANT(bsdudp_tick_until(&far_, 7, &due), 500);
+    WANT(due, 507);
+    WANT(bsdudp_tick_until(&dead, 1000, &dead_due), 500);
+    WANT(bsdudp_tick_until(&dead, 1500, &dead_due), -BSDUDP_ENXIO);
+    return 0;
+}
+
 /* A stack ends once, and another may be booted after it. */
 static int ends(void)
 {
@@ -300,6 +389,6 @@ static int ends(void)
 
 int main(void)
 {
-    return without_a_stack(&near_) || misaligned() || boots() || sockets() || traffic() || unfinished() || limits() ||
-           ends();
+    return without_a_stack(&near_) || misaligned() || texts() || boots() || sockets() || traffic() || unfinished() ||
+           limits() || disconnects() || ticks() || ends();
 }

@@ -184,6 +184,62 @@ static int refusals(void)
     return answers(&host, -BSDUDP_ENXIO);
 }
 
+/* A setting of the link that no host can have: boot refuses it, and names the member. */
+struct wrong {
+    struct bsdudp_link link;
+    uint32_t bcast;
+    uint16_t mtu;
+    const char *text;
+};
+
+static int texts(void)
+{
+    static const struct wrong wrong[] = {
+        {{{2, 0, 0, 0, 0, 1}, 0xffffff00, 0, 0}, 0x0a0000ff, 1501, "mtu is above 1500"},
+        {{{3, 0, 0, 0, 0, 1}, 0xffffff00, 0, 0}, 0x0a0000ff, 1500, "mac is a group"},
+        {{{0, 0, 0, 0, 0, 0}, 0xffffff00, 0, 0}, 0x0a0000ff, 1500, "mac is 0"},
+        {{{2, 0, 0, 0, 0, 1}, 0xff00ff00, 0, 0}, 0x0a0000ff, 1500, "mask is not"},
+        {{{2, 0, 0, 0, 0, 1}, 0x00ffffff, 0, 0}, 0x0a0000ff, 1500, "mask is not"},
+        {{{2, 0, 0, 0, 0, 1}, 0xffff0000, 0, 0}, 0x0a0000ff, 1500, "bcast is not the last"},
+        {{{2, 0, 0, 0, 0, 1}, 0xffffff00, 0, 0}, 0x0a00ffff, 1500, "bcast is not the last"},
+        {{{2, 0, 0, 0, 0, 1}, 0xffffff00, 0x0a000102, 0}, 0x0a0000ff, 1500, "gateway is not"},
+        {{{2, 0, 0, 0, 0, 1}, 0xffffff00, 0x0a0000ff, 0}, 0, 1500, "gateway is not"},
+        {{{2, 0, 0, 0, 0, 1}, 0xffffff00, 0, 0}, 0, 67, "mtu is not 68"},
+        {{{2, 0, 0, 0, 0, 1}, 0xffffffff, 0, 0}, 0, 1500, "addr and bcast are equal"},
+        {{{2, 0, 0, 0, 0, 1}, 0, 0, 0}, 0, 1500, "bcast is not in the range"},
+    };
+    static const uint32_t masks[] = {0xffff0000, 0xffffff00, 0xfffffffc};
+    const size_t len = sizeof memory - 2 * GUARD;
+    struct bsdudp_link l = own_link;
+    struct bsdudp_config c;
+    const char *text;
+    size_t i;
+    for (i = 0; i < sizeof wrong / sizeof wrong[0]; i++) {
+        c = config();
+        c.bcast = wrong[i].bcast;
+        c.mtu = wrong[i].mtu;
+        text = bsdudp_boot_strerror(boot(&c, &wrong[i].link, len), &c, &wrong[i].link);
+        WANT(boot(&c, &wrong[i].link, len), -BSDUDP_EINVAL);
+        WANT(strncmp(text, wrong[i].text, strlen(wrong[i].text)), 0);
+    }
+    l.gateway = 0;
+    for (i = 0; i < sizeof masks / sizeof masks[0]; i++) { /* 0 is the last address of the network */
+        struct bsdudp_addr any = {0, 7}, last = {0, 8};
+        c = config();
+        c.bcast = 0;
+        l.mask = masks[i];
+        last.ip = c.addr | ~l.mask;
+        WANT(boot(&c, &l, len), 0);
+        WANT(bsdudp_socket(&host), 3);
+        WANT(bsdudp_bind(&host, 3, &any), 0);
+        WANT(bsdudp_sendto(&host, 3, &last, bytes, 1), -BSDUDP_EACCES);
+        last.ip--;
+        WANT(bsdudp_sendto(&host, 3, &last, bytes, 1), 1);
+        WANT(bsdudp_end(&host), 0);
+    }
+    return 0;
+}
+
 /* Boot with more and more memory: each of its allocations fails in turn, until all fit. No byte outside is changed. */
 static int grows(void)
 {
@@ -414,6 +470,6 @@ static int ends(void)
 
 int main(void)
 {
-    return answers(&host, -BSDUDP_ENXIO) || refusals() || grows() || one_or_the_other() || frames() || tallied() ||
-           reports() || probes() || ends();
+    return answers(&host, -BSDUDP_ENXIO) || refusals() || texts() || grows() || one_or_the_other() || frames() ||
+           tallied() || reports() || probes() || ends();
 }

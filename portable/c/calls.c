@@ -166,13 +166,20 @@ static int end_link(struct bsdudp *stack)
     return answer_of(core_ether_end(&it, LINK));
 }
 
-static int boot_host_at(struct bsdudp *stack, const struct bsdudp_config *config, const struct bsdudp_link *link,
+int bsdudp_link_fault(const struct bsdudp_config *config, const struct bsdudp_link *link); /* of composed.c */
+
+static int boot_host_at(struct bsdudp *stack, const struct bsdudp_config *given, const struct bsdudp_link *link,
                         u8 *memory, size_t len)
 {
     const struct bsdudp none = BSDUDP_NONE;
+    struct bsdudp_config told = *given;
+    const struct bsdudp_config *config = &told;
     int answer;
     if (stack->core.at != 0)
         return -BSDUDP_ENXIO;
+    if (bsdudp_link_fault(given, link) != 0)
+        return -BSDUDP_EINVAL;
+    told.bcast = given->addr | ~link->mask;
     answer = boot_link(stack, config, link); /* a valid one fails without memory */
     if (answer != -BSDUDP_ENOMEM)
         return answer;
@@ -385,9 +392,10 @@ int bsdudp_recvfrom(struct bsdudp *stack, uint32_t fd, void *buffer, size_t len,
 {
     int answer;
     BEGIN(recvfrom, stack);
-    put_addr(plain, from);
+    put_u32(plain, 0);
+    put_u32(plain + 4, 0);
     answer = answer_of(core_recvfrom(&it, handle_of(&it), fd, give(&it, buffer, len), heard(len), argument));
-    if (answer >= 0) {
+    if (answer >= 0 && from != NULL) {
         from->ip = get_u32(plain);
         from->port = get_u16(plain + 4);
     }

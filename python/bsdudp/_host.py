@@ -77,7 +77,7 @@ class Host(Stack):
     mac      its hardware address, such as "02:00:00:00:00:01" or six bytes; not a group address
     mask     the network mask; the default is "255.255.255.0"
     gateway  the neighbour to which packets for other networks are sent; None: such packets are dropped and counted
-    bcast    the broadcast address of its network; None means `addr` with 255 as its last byte
+    bcast    the broadcast address of its network; None means the last address of the network of `mask`
     probe    whether it first probes for its address (RFC 5227), which takes 5.0 to 5.5 seconds of ticks
     addr, mbufs, clusters and first_id are those of a `Stack`. The MTU is 68 to 1500.
 
@@ -106,11 +106,17 @@ class Host(Stack):
         hardware, self._mask = mac_bytes(mac), number_of(mask)
         if hardware[0] & 1:
             raise ValueError(f"mac is the hardware address of one card, and {mac_text(hardware)} is a group's")
+        if not any(hardware):
+            raise ValueError("mac is the hardware address of a card, and no card has 0")
+        hosts = ~self._mask & 0xFFFFFFFF
+        if hosts & (hosts + 1):
+            raise ValueError(f"mask is ones and then zeros, and {text_of(self._mask)} isn't")
         in_range("mtu", mtu, 68, 1500)
         to = 0 if gateway is None else number_of(gateway)
         self._link = Link((ctypes.c_uint8 * 6)(*hardware), self._mask, to, bool(probe))
         self._has_gateway = gateway is not None
-        super().__init__(addr, bcast, mtu, mbufs, clusters, first_id)
+        self._last = number_of(addr) | hosts
+        super().__init__(addr, text_of(self._last) if bcast is None else bcast, mtu, mbufs, clusters, first_id)
 
     def _memory_size(self) -> int:
         return LIBRARY.ether_memory(self._config)
@@ -119,6 +125,9 @@ class Host(Stack):
         own, to = self._config.addr, self._link.gateway
         if self._has_gateway and ((to ^ own) & self._mask or to in (0, own, self._config.bcast)):
             raise ValueError(f"gateway is a neighbour, on the network of {text_of(own)}: {text_of(to)} isn't")
+        if self._config.bcast != self._last:
+            why = f"bcast is {text_of(self._last)}, the last address of the network of mask"
+            raise ValueError(f"{why}, and {text_of(self._config.bcast)} isn't")
         config, link = ctypes.byref(self._config), ctypes.byref(self._link)
         self._frame_room = ctypes.create_string_buffer(ETHER_ROOM)
         return LIBRARY.call("ether_boot_in", self._handle, config, link, at, size)

@@ -13,7 +13,7 @@ CALL = r"/\*((?:(?!\*/).)*)\*/\n((?:int|size_t|const char \*)\s?\*?(bsdudp_\w+)\
 CALLS = {name: (comment, call) for comment, call, name in re.findall(CALL, HEADER, re.S)}
 # Boot needs no stack in the handle; the others take no handle.
 WITHOUT_STACK = ["bsdudp_memory", "bsdudp_counter_name", "bsdudp_counter_cause"]
-WITHOUT_STACK += ["bsdudp_error_name", "bsdudp_strerror", "bsdudp_version"]
+WITHOUT_STACK += ["bsdudp_error_name", "bsdudp_strerror", "bsdudp_boot_strerror", "bsdudp_version"]
 SECTIONS = ["NAME", "SYNOPSIS", "DESCRIPTION", "CALLS", "RETURN VALUE", "ERRORS", "EXAMPLES"]
 
 
