@@ -11,7 +11,6 @@ use Rattle.udp.proofs.Reading.{carried_length, data_are, fault_of_packet}
 use Rattle.udp.proofs.checked.read.Goals as goal
 use Rattle.udp.proofs.checked.read.Goals.{then-carried-header-via-then-carried-header, then-carried-header-via-else-carried-header+then-header-lt-UDP_HEADER}
 
-
 pub returns-in_default : goal.returns-in_default
 returns-in_default c =
     let few : length c.carried-carried.result.now < 8 = omega (arith, c.in_default.ensures.cases) in
@@ -38,7 +37,6 @@ returns-then-carried-header c =
       packet = tt;
       err = fault_of_packet c.args.packet.packet.now _ c.head-head.result _ c.head-head.ensures c.if-head-ne-PROTOCOL_UDP.false c.carried-carried.ensures e;
     }
-
 
 pub invariant_of-result : goal.invariant_of-result
 invariant_of-result c =
