@@ -21,7 +21,7 @@ PORTABLE = TOP / "portable/out/bsdudp_portable.c"
 TARGETS = TOP / "portable/out/core"
 DOCUMENTS = "share/doc/bsdudp"
 # Pages for developers, which the archive doesn't contain.
-OF_THE_SOURCES = "docs/maintain/"
+OF_THE_SOURCES = ("docs/maintain/", "docs/DECISIONS.md")
 
 # The bytes of a file, and whether it's executable.
 File = Tuple[bytes, bool]

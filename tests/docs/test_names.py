@@ -23,7 +23,7 @@ NAMES_OF_OTHERS = {
 ITEMS_OF_OTHERS = {f"bsdudp::{it}" for it in ("bsdudp", "static", "shared")}
 ITEMS_OF_OTHERS |= {"Config::Connect", "Config::SetDefault", "Packet::Print"}
 # These pages also name functions of volume 2, or rejected designs.
-OF_OTHERS = {*OF_THE_PAST, *(f"docs/{it}.md" for it in ("maintain/decisions", "behaviour", "book"))}
+OF_OTHERS = {*OF_THE_PAST, *(f"docs/{it}.md" for it in ("DECISIONS", "behaviour", "book"))}
 IMPORT = re.compile(r"\s*(?:ghost |pub )?(?:use|open) ")
 DEFINED = re.compile(r"(?:(?:abbrev|unfoldable) pub|pub (?:record|data)|pub)\s+([^\s:(){}]+)\s")
 CLAUSE = re.compile(r" *(?:requires|ensures) (\w+) \{ ([A-Z]\w+)\b")
