@@ -32,6 +32,8 @@ ROWS = {
     "PYTHONPATH=out/python python3 python/examples/first.py": Row("fresh", "test_readme_without_a_proof"),
     # what is installed
     "dist/deb FOLDER": Row("deb", "dist/deb"),
+    "dist/deb --judge FOLDER": Row("judge", '"--judge"'),
+    "pip install ./conform": Row("judge", "pip install"),
     "apt install ./bsdudp_*.deb ./libbsdudp*.deb ./python3-bsdudp_*.deb": Row("deb", "dpkg -i"),
     "man bsdudp": Row("made_pages", "bsdudp.1"),
     "man bsdplay": Row("made_pages", "bsdplay.1"),

@@ -13,6 +13,7 @@ PLACES = {
     "CITATION.cff": rf"^version: {NUMBER}$",
     "capi/include/bsdudp.h": rf'^#define BSDUDP_VERSION "{NUMBER}"$',
     "crates/bsdplay/src/main.rt": rf'\.version\("{NUMBER}"\)',
+    "conform/pyproject.toml": rf'^version = "{NUMBER}"$',
     "dist/tag.txt": rf"^bsdudp {NUMBER}$",
     "docs/c.md": r"find_package\(bsdudp (\d+\.\d+) ",
     "python/bsdudp/__init__.py": rf'^__version__ = "{NUMBER}"$',
