@@ -6,6 +6,7 @@ import os
 import selectors
 import signal
 import subprocess
+import threading
 import time
 from typing import FrozenSet, List, Optional, Sequence
 
@@ -16,28 +17,53 @@ from .kit import bytes_of
 TIMEOUT_S = 30.0
 MOST_BYTES = 64 << 20
 READ = 1 << 16
-# After this many consecutive cases with a fault, the remaining cases aren't run.
+# After this many consecutive cases with a fault or a crash, the remaining cases aren't run.
 MOST_FAULTS = 20
-NOT_ASKED = f"it isn't asked any more, after a fault in {MOST_FAULTS} cases one after the other"
+POLL_S = 0.2
 
 
 class Fault(Exception):
     """What is wrong with an adapter, as one line."""
 
 
-class Adapter:
-    """A running adapter."""
+class Stopped(Exception):
+    """The run is stopped before this case has a result."""
 
-    def __init__(self, command: Sequence[str], timeout: float = TIMEOUT_S) -> None:
+
+class Limit:
+    """When the adapters of a run are asked no more: after too many faults in a row, or if the user stops the run by a
+    signal. `why` says it."""
+
+    def __init__(self) -> None:
+        self.why = ""
+        self.faults, self.signals = 0, 0
+        self.lock = threading.Lock()
+
+    def count(self, is_fault: bool) -> None:
+        """Counts a case of any adapter of the run."""
+        with self.lock:
+            self.faults = self.faults + 1 if is_fault else 0
+            if self.faults >= MOST_FAULTS:
+                self.why = f"{MOST_FAULTS} crashes or faults in a row"
+
+    def check(self) -> None:
+        if self.why:
+            raise Stopped
+
+
+class Adapter:
+    """A running adapter. limit: that of all adapters of a run."""
+
+    def __init__(self, command: Sequence[str], timeout: float = TIMEOUT_S, limit: Optional[Limit] = None) -> None:
         self.command, self.timeout = list(command), timeout
         self.name, self.abilities = "", frozenset()  # type: str, FrozenSet[str]
         self.running: Optional["subprocess.Popen[bytes]"] = None
-        self.faults = 0
+        self.limit = limit or Limit()
 
     def __enter__(self) -> "Adapter":
         try:
             self.start()
-        except Fault:
+        except (Fault, Stopped):
             self.stop()
             raise
         return self
@@ -84,9 +110,8 @@ class Adapter:
             self.running = None
 
     def ask(self, case: Case) -> Answer:
-        """The result of a case."""
-        if self.faults >= MOST_FAULTS:
-            return Answer(fault=NOT_ASKED)
+        """The result of a case. Raises Stopped if the run is stopped."""
+        self.limit.check()
         try:
             if self.running is None:
                 self.start()
@@ -94,9 +119,8 @@ class Adapter:
             answer = read_answer(case, self.exchange(case.lines(), self.timeout + waits * 1.5 / 1000))
         except Fault as fault:
             self.stop()
-            self.faults += 1
-            return Answer(fault=str(fault))
-        self.faults = 0
+            answer = Answer(fault=str(fault))
+        self.limit.count(answer.fault is not None)
         return answer
 
     def exchange(self, lines: List[str], seconds: float) -> List[str]:
@@ -112,7 +136,8 @@ class Adapter:
                 left = until - time.monotonic()
                 if left <= 0:
                     raise Fault(f"it hangs: no end of the answer in {seconds:.0f} s")
-                for key, _ in ready.select(left):
+                self.limit.check()
+                for key, _ in ready.select(min(left, POLL_S)):
                     if key.fileobj is running.stdin:
                         text = self.write(text)
                         if not text:

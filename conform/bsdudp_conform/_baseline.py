@@ -5,7 +5,7 @@ from __future__ import annotations
 import pathlib
 from typing import List, Set, Tuple
 
-from ._judge import Deviation, Judged
+from ._judge import Deviation, Judged, title
 from ._verdict import LEVELS
 
 Known = Set[Tuple[str, str]]
@@ -52,7 +52,6 @@ def baseline_of(judged: Judged) -> str:
     """The file that knows all deviations of a stack."""
     lines = [f"# Known deviations of {judged.name}"]
     for kind in judged.kinds():
-        breach = kind[0].breach
-        lines.append(f"\n# {breach.rule}: {kind[0].breach.what}")
+        lines.append(f"\n# {title(kind)}")
         lines += sorted({" ".join(entry(it)) for it in kind}, key=lambda line: (len(line), line))
     return "\n".join(lines) + "\n"

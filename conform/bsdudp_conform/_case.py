@@ -1,6 +1,7 @@
 """A case: what happens to a stack, step by step."""
 from __future__ import annotations
 
+import itertools
 from dataclasses import dataclass
 from functools import cached_property
 from typing import Dict, FrozenSet, List, Optional, Tuple, Union
@@ -78,7 +79,30 @@ class Send:
         return f"send {self.socket} {text_of(self.address)} {self.port} {hex_of(self.data)}"
 
 
-Step = Union[Receive, Wait, Open, Connect, Send]
+@dataclass(frozen=True)
+class Hold:
+    """From now on, a socket is read only by the step ReadHeld."""
+
+    socket: int
+
+    @property
+    def line(self) -> str:
+        return f"hold {self.socket}"
+
+
+@dataclass(frozen=True)
+class ReadHeld:
+    """Up to this many of the datagrams that wait in a held socket are read."""
+
+    socket: int
+    count: int
+
+    @property
+    def line(self) -> str:
+        return f"read {self.socket} {self.count}"
+
+
+Step = Union[Receive, Wait, Open, Connect, Send, Hold, ReadHeld]
 
 # What an adapter may have in addition to `rx` and `wait`, in its line `has`.
 ABILITIES: Dict[str, str] = {
@@ -88,6 +112,9 @@ ABILITIES: Dict[str, str] = {
     "sockets": "`socket`: further sockets, also two on a port",
     "connect": "`connect`: connected sockets",
     "ping": "it answers echo requests",
+    "hold": "`hold` and `read`: reads can be held back",
+    "offload": "the link checks the sums, and the stack doesn't",
+    "reassembly": "it puts fragments together, and the adapter is the host around it",
     "gateway": "it translates addresses, and is no host of its own",
     "echo": "what users get is known by an echo alone",
 }
@@ -95,27 +122,35 @@ ABILITIES: Dict[str, str] = {
 
 @dataclass(frozen=True)
 class Case:
-    """A numbered case of a rule. `mtu` is the link's."""
+    """A numbered case of a rule. `mtu` is the link's. `parts` are the cases of a run, with their numbers of steps."""
 
     rule: str
     number: int
     title: str
     steps: Tuple[Step, ...]
     mtu: int = 1500
+    parts: Tuple[Tuple[str, int], ...] = ()
 
     @property
     def name(self) -> str:
         """The name by which a case is selected: `frag.key:14`."""
         return f"{self.rule}:{self.number}"
 
+    def part(self, step: Optional[int]) -> Optional[str]:
+        """The case of a run to which a step belongs."""
+        if step is None or sum(count for _, count in self.parts) != len(self.steps):
+            return None
+        ends = itertools.accumulate(count for _, count in self.parts)
+        return next((name for (name, _), end in zip(self.parts, ends) if step < end), None)
+
     @cached_property
     def needs(self) -> FrozenSet[str]:
         """The abilities that an adapter needs for it."""
-        kinds = {Open: "sockets", Connect: "connect", Send: "send"}
+        kinds = {Open: "sockets", Connect: "connect", Send: "send", Hold: "hold"}
         found = {kinds[type(step)] for step in self.steps if type(step) in kinds}
         if self.mtu != 1500:
             found.add("mtu")
-        if self.rule == "icmp.echo":
+        if self.rule.startswith("icmp.echo"):
             found |= {"ping", "out"}
         return frozenset(found | ({"out"} if "send" in found else set()))
 

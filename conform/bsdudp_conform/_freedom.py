@@ -47,10 +47,20 @@ KEPT.update({("refuse", n): f"up to {n}; then newcomers are refused" for n in BO
 KEPT.update({("oldest", n): f"up to {n}; then the oldest is dropped" for n in BOUNDS})
 KEPT.update({("flush", n): f"up to {n}; then all are dropped" for n in BOUNDS})
 
+# The greatest numbers of datagrams that wait: 4.4BSD's and others.
+WAIT_BOUNDS = (3, 7, 15, 31, 63, 127, 255, 511, 1023)
+WAITING: Dict[Value, str] = {
+    ("all", 0): "all are kept",
+    ("bsd", 0): "41,600 bytes, with 16 for each address, and 256 in bsdudp's default pool: as 4.4BSD",
+}
+WAITING.update({("refuse", n): f"up to {n}; then newcomers are dropped" for n in (1, *WAIT_BOUNDS)})
+WAITING.update({("oldest", n): f"up to {n}; then the oldest is dropped" for n in (1, *WAIT_BOUNDS)})
+WAITING_FINER: Values = tuple(key for key in WAITING if isinstance(key, tuple) and key[1] != 1 and key != ("all", 0))
+
 SETTINGS: Dict[str, Setting] = {
     "overlap": Setting(
         "overlaps",
-        ("bsd", "last", "first", "drop new", "drop all but repeats"),
+        ("bsd", "last", "first", "drop new", "drop all but repeats", "drop all but exact repeats"),
         ("drop all",),
         words={
             "bsd": "the piece that begins first keeps its bytes, as 4.4BSD",
@@ -58,6 +68,7 @@ SETTINGS: Dict[str, Setting] = {
             "first": "the bytes that came first",
             "drop new": "the newcomer is dropped, as lwIP",
             "drop all but repeats": "the datagram is dropped, but for a repeated piece, as Linux",
+            "drop all but exact repeats": "the datagram is dropped, but for an exact repeat, as in RFC 8200",
             "drop all": "the datagram is dropped",
         },
     ),
@@ -146,6 +157,18 @@ SETTINGS: Dict[str, Setting] = {
             "drop mixed": "Not-ECT with others is dropped",
         },
     ),
+    "waiting": Setting(
+        "datagrams that wait for a reader",
+        (("all", 0), ("refuse", 1), ("oldest", 1)),
+        finer=WAITING_FINER,
+        words=WAITING,
+    ),
+    "waiting without data": Setting(
+        "datagrams without data that wait for a reader",
+        (("all", 0), ("refuse", 1), ("oldest", 1)),
+        finer=WAITING_FINER,
+        words=WAITING,
+    ),
     "several": Setting(
         "a datagram that several sockets could take",
         ("best, youngest", "best, oldest", "best, all", "all"),
@@ -211,6 +234,8 @@ BSD: Settings = {
     "zero broadcast": "drop",
     "loop destination": "take 127.0.0.1",
     "ecn": "take",
+    "waiting": ("bsd", 0),
+    "waiting without data": ("bsd", 0),
     "several": "best, youngest",
     "several, broadcast": "all",
     "connected broadcast": "drop",

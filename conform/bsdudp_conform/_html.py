@@ -5,9 +5,21 @@ from html import escape
 from typing import Dict, List, Sequence
 
 from ._baseline import Known, is_known
-from ._judge import Deviation, Judged, cases_of
+from ._judge import Deviation, Judged, cases_of, title
 from ._policy import Explained
-from ._report import MEANING, WORDS, cell, policy_text, rules_of, steps_of, summary
+from ._report import (
+    MEANING,
+    WORDS,
+    causes_text,
+    cell,
+    levels_of,
+    policy_text,
+    rules_of,
+    rules_of_kind,
+    shortest_of,
+    steps_of,
+    summary,
+)
 from ._rules import RULES
 from ._verdict import LEVELS
 
@@ -73,22 +85,29 @@ def kind_of(kind: List[Deviation], known: Known, captures: Dict[str, str]) -> st
     file = captures.get(first.case.name)
     capture = f"<dt>capture</dt><dd><a href='{escape(file)}'>{escape(file)}</a></dd>" if file else ""
     rows = {
-        "the rule": f"{escape(rule.sentence)} ({escape(rule.source)})",
+        "the rule": escape(rules_of_kind(kind)),
         "expected": escape(breach.expected or rule.sentence),
         "seen": escape(breach.what),
-        "shortest case": f"<code>{first.case.name}</code>, {escape(first.case.title)}",
+        "shortest case": escape(shortest_of(kind)),
     }
     facts = "".join(f"<dt>{name}</dt><dd>{words}</dd>" for name, words in rows.items())
     names = cases_of(kind)
     others = ", ".join(names[1:13]) + (", .." if len(names) > 13 else "")
     more = f"<dt>also</dt><dd class=soft>{others}</dd>" if others else ""
-    steps = escape("\n".join(steps_of(first.case)))
+    steps = escape("\n".join(steps_of(first.case, breach.step)))
     return (
-        f'<details><summary><span class="level {shade(level)}">{level}</span> <b>{breach.rule}</b>: '
-        f"{escape(breach.what)} <span class=soft>({len(names)} case{'s' * (len(names) > 1)})</span>{old}</summary>"
+        f'<details><summary><span class="level {shade(level)}">{levels_of(kind)}</span> <b>{escape(title(kind))}</b> '
+        f"<span class=soft>({len(names)} case{'s' * (len(names) > 1)})</span>{old}</summary>"
         f"<dl>{facts}{capture}{more}</dl>"
         f"<pre tabindex=0>{steps}</pre></details>"
     )
+
+
+def causes_part(judged: Judged, known: Known) -> str:
+    """A stack's summary, with a line for each cause."""
+    head, *lines = causes_text(judged, known).splitlines()
+    items = "".join(f"<li>{escape(line.strip())}</li>" for line in lines)
+    return f"<p><b>{escape(head)}</b></p><ul>{items}</ul>"
 
 
 def stack_part(judged: Judged, explained: List[Explained], known: Known, captures: Dict[str, str]) -> str:
@@ -109,12 +128,13 @@ def html(
     legend = "".join(
         f'<li><span class="level {shade(WORDS[level])}">{WORDS[level]}</span> {MEANING[level]}</li>' for level in LEVELS
     )
+    causes = "".join(causes_part(it, known) for it in stacks)
     parts = "".join(stack_part(it, policies.get(it.name, []), known, captures.get(it.name, {})) for it in stacks)
     names = escape(", ".join(it.name for it in stacks))
     return (
         "<!doctype html><html lang=en><meta charset=utf-8>"
         "<meta name=viewport content='width=device-width, initial-scale=1'>"
-        f"<title>UDP/IPv4: {names}</title><style>{STYLE}</style><h1>UDP over IPv4: {names}</h1>"
+        f"<title>UDP/IPv4: {names}</title><style>{STYLE}</style><h1>UDP over IPv4: {names}</h1>{causes}"
         "<p>Each case is a sequence of packets. Two laws hold in every case; beyond them, the stack is compared with "
         "all machines that the RFCs permit. A cell counts the cases that deviate; a case may break another rule than "
         f"its own.</p><ul>{legend}</ul>{table(stacks)}{parts}</html>\n"

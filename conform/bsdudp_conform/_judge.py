@@ -2,13 +2,15 @@
 from __future__ import annotations
 
 import concurrent.futures
+import contextlib
+import signal
 import sys
 import threading
 from collections import Counter
 from dataclasses import dataclass, field
-from typing import Dict, FrozenSet, Iterable, List, Optional, Sequence, Tuple
+from typing import Dict, FrozenSet, Iterable, Iterator, List, Optional, Sequence, Tuple
 
-from ._adapter import TIMEOUT_S, Adapter
+from ._adapter import TIMEOUT_S, Adapter, Limit, Stopped
 from ._case import Answer, Case
 from ._rules import RULES
 from ._verdict import LEVELS, applies, verdict
@@ -24,10 +26,16 @@ class Deviation:
     answer: Answer
 
     @property
-    def kind(self) -> Tuple[int, str, str]:
-        """The key by which deviations are grouped: level, rule, and the text without its numbers."""
+    def cause(self) -> str:
+        """The name by which deviations are grouped: what the law names, or the rule and the text without its
+        numbers."""
         words = " ".join("N" if any(it.isdigit() for it in word) else word for word in self.breach.what.split())
-        return LEVELS.index(self.breach.level), self.breach.rule, words
+        return self.breach.cause or f"{self.breach.rule}: {words}"
+
+    @property
+    def kind(self) -> Tuple[int, str, str]:
+        """What a shorter case must have too: level, rule and cause."""
+        return LEVELS.index(self.breach.level), self.breach.rule, self.cause
 
 
 @dataclass
@@ -39,6 +47,8 @@ class Judged:
     answers: Dict[str, Answer] = field(default_factory=dict)
     cases: List[Case] = field(default_factory=list)
     left_out: "Counter[str]" = field(default_factory=Counter)
+    not_run: int = 0
+    why_not: str = ""  # why these weren't run
     deviations: List[Deviation] = field(default_factory=list)
 
     def cell(self, rule: str) -> "Counter[str]":
@@ -52,13 +62,34 @@ class Judged:
         return found
 
     def kinds(self) -> List[List[Deviation]]:
-        """The deviations by kind, the most serious first, each with its shortest case first."""
-        groups: Dict[Tuple[int, str, str], List[Deviation]] = {}
+        """The deviations by cause, the most serious first. Of each the most serious ones are first, and among these
+        the shortest case that isn't a run."""
+        sizes = Counter(it.cause for it in self.deviations)
+        if self.not_run:  # a stack that always crashes does it by one cause
+            sizes.update(it.breach.what for it in self.deviations if it.breach.level == LEVELS[0])
+
+        def group_of(it: Deviation) -> str:
+            """A wider cause explains it, unless that has few deviations of its own."""
+            return next((wide for wide in it.breach.within if 2 * sizes[wide] >= sizes[it.cause]), it.cause)
+
+        groups: Dict[str, List[Deviation]] = {}
         for it in self.deviations:
-            groups.setdefault(it.kind, []).append(it)
+            groups.setdefault(group_of(it), []).append(it)
         places = {rule: place for place, rule in enumerate(RULES)}
-        order = sorted(groups, key=lambda kind: (kind[0], places[kind[1]], kind[2]))
-        return [sorted(groups[kind], key=lambda it: it.case.size) for kind in order]
+        made = [sorted(group, key=place_in_group) for group in groups.values()]
+        return sorted(made, key=lambda group: (LEVELS.index(group[0].breach.level), places[group[0].breach.rule]))
+
+
+def place_in_group(it: Deviation) -> Tuple[int, bool, Tuple[int, int]]:
+    return LEVELS.index(it.breach.level), it.case.rule in ("run", "mix"), it.case.size
+
+
+def title(kind: Sequence[Deviation]) -> str:
+    """The cause of a kind: the one that explains all of it."""
+    for it in kind:
+        if all(it.cause in (one.cause, *one.breach.within) for one in kind):
+            return it.breach.cause or it.breach.what
+    return kind[0].breach.what
 
 
 def cases_of(kind: Iterable[Deviation]) -> List[str]:
@@ -78,7 +109,7 @@ class Progress:
         with self.lock:
             self.done += 1
             if self.shown and (self.done % 20 == 0 or self.done == self.total):
-                print(f"\r{self.name}: {self.done} of {self.total} cases", end="", file=sys.stderr, flush=True)
+                print(f"\r{self.name}: {self.done} of {self.total}", end="", file=sys.stderr, flush=True)
 
     def end(self) -> None:
         if self.shown and self.done:
@@ -94,7 +125,24 @@ def judge(
     progress: Optional[bool] = None,
 ) -> Judged:
     """Runs all cases that apply to a stack through its adapter. Raises Fault if the adapter can't be started."""
-    with Adapter(command, timeout) as first:
+    limit = Limit()
+    with stopped_by_signals(limit):
+        judged = asked(command, cases, jobs, timeout, name, progress, limit)
+        judge_answers(judged, limit)
+    return judged
+
+
+def asked(
+    command: Sequence[str],
+    cases: Iterable[Case],
+    jobs: int,
+    timeout: float,
+    name: Optional[str],
+    progress: Optional[bool],
+    limit: Limit,
+) -> Judged:
+    """A stack's answers, without verdicts."""
+    with Adapter(command, timeout, limit) as first:
         judged = Judged(name or first.name or command[0], first.abilities)
         for case in cases:
             if applies(case, first.abilities):
@@ -103,15 +151,45 @@ def judge(
                 judged.left_out[case.rule] += 1
         told = Progress(judged.name, len(judged.cases), progress)
         ordered = sorted(judged.cases, key=lambda case: not case.slow)
-        adapters = [first, *(Adapter(command, timeout) for _ in range(min(jobs, len(ordered)) - 1))]
+        adapters = [first, *(Adapter(command, timeout, limit) for _ in range(min(jobs, len(ordered)) - 1))]
         try:
             judged.answers = ask_all(adapters, ordered, told)
         finally:
             told.end()
-    for case in judged.cases:
-        answer = judged.answers[case.name]
-        judged.deviations += [Deviation(case, breach, answer) for breach in verdict(case, answer, judged.abilities)]
     return judged
+
+
+def judge_answers(judged: Judged, limit: Limit) -> None:
+    """The verdicts on all answers, or, if a signal arrives meanwhile, on the first ones."""
+    every, signals = judged.cases, limit.signals
+    judged.cases = []
+    for case in every:
+        answer = judged.answers.get(case.name)
+        if limit.signals > signals:
+            break
+        if answer is not None:
+            judged.cases.append(case)
+            judged.deviations += [Deviation(case, it, answer) for it in verdict(case, answer, judged.abilities)]
+    judged.not_run, judged.why_not = len(every) - len(judged.cases), limit.why
+
+
+@contextlib.contextmanager
+def stopped_by_signals(limit: Limit) -> Iterator[None]:
+    """SIGTERM and SIGINT end the run, so that what was found so far can be reported."""
+    if threading.current_thread() is not threading.main_thread():
+        yield
+        return
+
+    def stop(number: int, _: object) -> None:
+        limit.why = f"stopped by {signal.Signals(number).name}"
+        limit.signals += 1
+
+    kept = {number: signal.signal(number, stop) for number in (signal.SIGTERM, signal.SIGINT)}
+    try:
+        yield
+    finally:
+        for number, handler in kept.items():
+            signal.signal(number, handler)
 
 
 def ask_all(adapters: List[Adapter], cases: List[Case], told: Progress) -> Dict[str, Answer]:
@@ -125,7 +203,10 @@ def ask_all(adapters: List[Adapter], cases: List[Case], told: Progress) -> Dict[
                 case = next(todo, None)
             if case is None:
                 return
-            answers[case.name] = adapter.ask(case)
+            try:
+                answers[case.name] = adapter.ask(case)
+            except Stopped:
+                return
             told.one()
 
     with concurrent.futures.ThreadPoolExecutor(max(1, len(adapters))) as pool:

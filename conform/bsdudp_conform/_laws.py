@@ -15,7 +15,7 @@ from dataclasses import dataclass, field, replace
 from typing import Dict, FrozenSet, Iterator, List, NamedTuple, Optional, Sequence, Set, Tuple
 
 from ._addresses import HOST, OURS, ZERO_BROADCAST, is_host, text_of
-from ._case import Case, Connect, Got, Open, Receive, Wait, user_sockets
+from ._case import Case, Connect, Got, Hold, Open, Receive, Wait, user_sockets
 from ._packets import with_checksum
 from ._read import UDP, Header, fold, read, read_udp, sum_with_pseudo_header
 
@@ -26,10 +26,13 @@ LENGTH, PROTOCOL, END, GREATEST = (
     "the greatest length (65,535)",
 )
 TOTAL, HEADER_SUM, UDP_SUM = "the total length", "the header checksum", "the UDP checksum"
+VERSION, FRAGMENT = "the version", "whether it's a fragment"
 STRANGER, SENDER = "socket.connected", "udp.source"
-CHECKS = (LENGTH, PROTOCOL, END, GREATEST, TOTAL, HEADER_SUM, UDP_SUM)
+CHECKS = (LENGTH, PROTOCOL, FRAGMENT, END, GREATEST, TOTAL, HEADER_SUM, UDP_SUM, VERSION)
 NO_CHECK_OMITTED: FrozenSet[str] = frozenset()
-ANY_HEADER = frozenset({TOTAL, HEADER_SUM})
+# What a stack leaves to a link that checks the sums.
+OFFLOADED = frozenset({HEADER_SUM, UDP_SUM})
+ANY_HEADER = frozenset({TOTAL, HEADER_SUM, VERSION})
 NOTHING_ELSE = "nothing that the packets don't carry"
 LONGEST_LIFE_MS, PROMPT_MS = 255_000, 2_000
 FEW_FRAGMENTS, FEW_DATAGRAMS = 10, 3
@@ -59,19 +62,23 @@ Sender = Tuple[int, int]
 
 class Wrong(NamedTuple):
     """What is wrong with a datagram that reached a user. rule: the rule that it breaks, None for the case's rule.
-    sender: its sender, if another one was reported to the user."""
+    sender: its sender, if another one was reported to the user. cause: the check that the stack omits, if that explains
+    it."""
 
     rule: Optional[str]
     words: str
     expected: str
     sender: Optional[Sender] = None
+    cause: str = ""
 
 
 @dataclass
 class Seen:
-    """The packets that arrived in a case, and its sockets at each step."""
+    """The packets that arrived in a case, and its sockets at each step. omitted: checks that the stack leaves to its
+    link."""
 
     case: Case
+    omitted: FrozenSet[str] = NO_CHECK_OMITTED
     arrivals: List[Arrival] = field(default_factory=list)
     ports: Dict[int, int] = field(default_factory=user_sockets)
     peers: List[Tuple[int, int, Tuple[int, int]]] = field(default_factory=list)
@@ -97,14 +104,15 @@ class Seen:
         """The law `never`: what is wrong with a datagram, or None if it may arrive."""
         peer = self.peer(got.socket, got.step)
         stranger = peer is not None and got.source is not None and peer != (got.source, got.port)
-        if not stranger and self.carries(got, NO_CHECK_OMITTED):
+        if not stranger and self.carries(got, self.omitted):
             return None
         claimed = self.senders(got.step)
         is_claimed = got.source is None or (got.source, got.port) in claimed
         size = len(got.data)
         unchecked = self.unchecked(got) if is_claimed and not stranger else None
         if unchecked:
-            return Wrong(None, f"{size} bytes reach the user, as if {unchecked} weren't looked at", NOTHING_ELSE)
+            words = f"{size} bytes reach the user, as if {unchecked} weren't looked at"
+            return Wrong(None, words, NOTHING_ELSE, cause=not_read(unchecked))
         own = None if is_claimed and stranger else self.sender(got, claimed)
         if own:
             return wrong_sender(got, own)
@@ -117,7 +125,7 @@ class Seen:
         """The smallest set of a receiver's checks without which the datagram could arrive, or None."""
         for count in (1, 2, 3):
             for omitted in itertools.combinations(CHECKS, count):
-                if self.carries(got, frozenset(omitted)):
+                if self.carries(got, self.omitted | frozenset(omitted)):
                     return " and ".join(omitted)
         return None
 
@@ -134,7 +142,7 @@ class Seen:
         """The one of these that sent a datagram, whichever sender was reported, or None."""
         if got.source is None:
             return None
-        sent = (it for it in sorted(claimed) if self.carries(replace(got, source=it[0], port=it[1]), NO_CHECK_OMITTED))
+        sent = (it for it in sorted(claimed) if self.carries(replace(got, source=it[0], port=it[1]), self.omitted))
         return next(sent, None)
 
     def carries(self, got: Got, omitted: FrozenSet[str]) -> bool:
@@ -143,7 +151,7 @@ class Seen:
         for it in self.believed(got, omitted):
             header = it.header
             assert header is not None
-            if header.whole:
+            if header.whole or FRAGMENT in omitted:
                 is_udp = header.protocol == UDP or PROTOCOL in omitted
                 if is_udp and self.fits(header.data, header, got, omitted):
                     return True
@@ -157,10 +165,22 @@ class Seen:
         for it in self.arrivals:
             if it.step > got.step:
                 return
-            if it.header is None and omitted & {TOTAL, HEADER_SUM}:
+            if it.header is None and omitted & ANY_HEADER:
                 it = it._replace(header=read(mended(it.packet, omitted)))
             if it.header is not None and got.source in (None, it.header.source):
                 yield it
+
+    def carriers(self, got: Got) -> List[Arrival]:
+        """The packets that carry a datagram: a whole one, or the fragments of one key."""
+        keys: Dict[Tuple[int, int, int, int], List[Arrival]] = {}
+        for it in self.believed(got, self.omitted):
+            header = it.header
+            assert header is not None
+            if header.protocol == UDP and header.whole and self.fits(header.data, header, got, self.omitted):
+                return [it]
+            if header.protocol == UDP and not header.whole:
+                keys.setdefault(header.key, []).append(it)
+        return next((parts for parts in keys.values() if self.made_of(parts, got, self.omitted)), [])
 
     def made_of(self, parts: List[Arrival], got: Got, omitted: FrozenSet[str]) -> bool:
         """Whether fragments of one key make the datagram, for any choice of overlapping bytes."""
@@ -202,7 +222,7 @@ class Seen:
 
     def promises(self) -> List[Promise]:
         """The law `always`: the datagrams that must arrive at the only socket of a case."""
-        if self.peers or len(self.ports) > 1:
+        if self.peers or len(self.ports) > 1 or any(isinstance(it, Hold) for it in self.case.steps):
             return []
         found = []
         keys: Dict[Tuple[int, int, int, int], List[Arrival]] = {}
@@ -218,6 +238,11 @@ class Seen:
         return sorted(found)
 
 
+def not_read(checks: str) -> str:
+    """The name of a cause: checks that a stack omits."""
+    return f"{checks} {'aren' if ' and ' in checks else 'isn'}'t looked at"
+
+
 def wrong_sender(got: Got, sender: Sender) -> Wrong:
     """A datagram for which a wrong sender was reported."""
     told, size = (got.source or 0, got.port), f"{len(got.data)} bytes"
@@ -227,11 +252,12 @@ def wrong_sender(got: Got, sender: Sender) -> Wrong:
 
 
 def mended(packet: bytes, omitted: FrozenSet[str]) -> bytes:
-    """A packet read without its total length, or without its header checksum."""
-    if len(packet) < 20 or packet[0] != 0x45:
+    """A packet read without its version, its total length or its header checksum."""
+    if len(packet) < 20 or packet[0] & 15 != 5 or packet[0] >> 4 != 4 and VERSION not in omitted:
         return packet
     if HEADER_SUM not in omitted and fold(packet[:20]) != 0xFFFF:
         return packet
+    packet = b"\x45" + packet[1:]
     if TOTAL in omitted:
         packet = packet[:2] + struct.pack(">H", len(packet)) + packet[4:]
     return with_checksum(packet)

@@ -2,18 +2,20 @@
 from __future__ import annotations
 
 import struct
-from dataclasses import dataclass
-from typing import List, NamedTuple, Optional, Tuple
+from dataclasses import dataclass, replace
+from typing import Dict, List, NamedTuple, Optional, Tuple
 
 from ._addresses import BROADCAST, HOST, LOOPBACK, ONES, OURS, ZERO_BROADCAST, is_host, is_multicast
-from ._case import Answer, Case, Connect, Event, Got, Open, Out, Receive, Refused, Send, Wait
+from ._case import Answer, Case, Connect, Event, Got, Hold, Open, Out, ReadHeld, Receive, Refused, Send, Wait
 from ._freedom import Path
 from ._packets import USER_PORT, checksum
-from ._read import UDP, Header, read_udp, sum_with_pseudo_header
+from ._read import UDP, Header, header_sum_is_wrong, read_udp, sum_with_pseudo_header, udp_sum_is_wrong
 from ._reassembly import Reassembly
 
 RECORD_ROUTE, LOOSE_ROUTE, STRICT_ROUTE = 7, 0x83, 0x89
 MOST_SENT, QUEUE = 9216, 50
+# 4.4BSD's receive queue: bytes of data with 16 for each address, and what a pool of 512 mbufs holds.
+MOST_WAITING, ADDRESS_BYTES, MOST_DATAGRAMS = 41600, 16, 256
 
 
 def well_formed(options: bytes) -> bool:
@@ -33,6 +35,12 @@ def well_formed(options: bytes) -> bool:
             return False
         at += options[at + 1]
     return True
+
+
+def fits(line: List[Got], got: Got) -> bool:
+    """Whether a datagram fits 4.4BSD's receive queue with these."""
+    size = sum(len(it.data) + ADDRESS_BYTES for it in (*line, got))
+    return len(line) < MOST_DATAGRAMS and size <= MOST_WAITING
 
 
 def bad_source(source: int, destination: int) -> bool:
@@ -67,7 +75,9 @@ UNKNOWN_PROTOCOLS = (253, 255)
 
 
 class Machine:
-    """One host from boot on. `events` is what it did, `due` the ICMP errors that it would send."""
+    """One host from boot on. `events` is what it did, `due` the ICMP errors that it would send, `arrivals` the
+    datagrams of its sockets in the order in which they came. `sums_hold` is whether all header and UDP checksums that
+    it looked at were right."""
 
     def __init__(self, path: Path, mtu: int = 1500, identification: int = 1) -> None:
         self.choose = path.choose
@@ -77,6 +87,9 @@ class Machine:
         self.sockets: List[Socket] = [Socket(0, USER_PORT)]
         self.events: List[Event] = []
         self.due: List[Due] = []
+        self.arrivals: List[Got] = []
+        self.waiting: Dict[int, List[Got]] = {}  # those of held sockets
+        self.sums_hold = True
 
     def play(self, case: Case) -> None:
         """All steps of a case."""
@@ -85,6 +98,8 @@ class Machine:
                 self.now += 1
                 if step.header is not None:
                     self.receive(step.header)
+                elif header_sum_is_wrong(step.packet):
+                    self.sums_hold = False
             elif isinstance(step, Wait):
                 self.now += step.ms
                 self.drop_expired()
@@ -93,8 +108,29 @@ class Machine:
             elif isinstance(step, Connect):
                 for socket in self.sockets:
                     socket.peer = (step.address, step.port) if socket.number == step.socket else socket.peer
+            elif isinstance(step, Hold):
+                self.waiting.setdefault(step.socket, [])
+            elif isinstance(step, ReadHeld):
+                self.read_held(step)
             else:
                 self.send(step)
+
+    def read_held(self, step: ReadHeld) -> None:
+        """Reads what waits, the oldest first."""
+        line = self.waiting.get(step.socket, [])
+        self.events += [replace(it, step=self.step) for it in line[: step.count]]
+        self.waiting[step.socket] = line[step.count :]
+
+    def enqueue(self, got: Got) -> None:
+        """A datagram for a held socket waits, if there is room."""
+        line = self.waiting[got.socket]
+        if line:
+            what, most = self.choose("waiting" if got.data else "waiting without data")  # type: ignore[misc]
+            if what == "refuse" and len(line) >= int(most) or what == "bsd" and not fits(line, got):
+                return
+            if what == "oldest" and len(line) >= int(most):
+                line.pop(0)
+        line.append(got)
 
     def drop_expired(self) -> None:
         for (source, destination, _, _), old in self.reassembly.expired(self.now):
@@ -158,6 +194,7 @@ class Machine:
         """A datagram that IP carries comes to UDP."""
         it = read_udp(data, header.source, header.destination)
         if it is None:
+            self.sums_hold = self.sums_hold and not udp_sum_is_wrong(data, header.source, header.destination)
             return
         if len(data) > 8 + len(it.payload) and self.choose("surplus") == "drop":
             return
@@ -168,7 +205,12 @@ class Machine:
         sender = (header.source, it.source_port)
         wanted = self.receivers(sender, header.destination, it.destination_port)
         for socket in wanted:
-            self.events.append(Got(self.step, *sender, it.payload, socket.number))
+            got = Got(self.step, *sender, it.payload, socket.number)
+            self.arrivals.append(got)
+            if socket.number in self.waiting:
+                self.enqueue(got)
+            else:
+                self.events.append(got)
         if not wanted and header.destination == HOST and it.destination_port and is_host(header.source):
             self.due.append(Due(self.step, UNREACHABLE, NO_PORT))
 

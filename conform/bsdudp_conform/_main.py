@@ -40,6 +40,7 @@ def parser() -> argparse.ArgumentParser:
     reduce = commands.add_parser("reduce", help="shorten a case in which a stack deviates")
     reduce.add_argument("case", metavar="CASE", help="such as frag.key:14")
     reduce.add_argument("--pcap", metavar="FILE", help="write its packets to a capture")
+    reduce.add_argument("--seeds", metavar="N", help="the case is a mix of this seed, as `run --seeds` names it")
     reduce.add_argument("adapter", nargs="+", metavar="ADAPTER", help="the adapter and its words, after --")
     for it in (run, wire, reduce):
         it.add_argument("--seed", type=int, default=1, metavar="N", help="seed of random bytes and mixes (default: 1)")
@@ -72,7 +73,9 @@ def run_parser(commands: Any) -> argparse.ArgumentParser:
         help="number of adapters at once (default: one for each processor)",
     )
     run.add_argument(
-        "--seeds", metavar="A-B", help="only random mixes, of these seeds, on all cores or on a Dask cluster"
+        "--seeds",
+        metavar="A-B",
+        help="only random mixes, of these seeds, on all cores or on a Dask cluster; of one seed: with a full report",
     )
     run.add_argument(
         "--client", metavar="ADDRESS", help="with --seeds: the scheduler of a Dask cluster, such as tcp://10.0.0.9:8786"
@@ -174,18 +177,20 @@ def template(folder: pathlib.Path) -> int:
 
 
 def run(words: argparse.Namespace) -> int:
-    from . import _output, cases
-    from ._adapter import Fault
+    import signal
+
+    from . import _output
+    from ._adapter import Fault, Stopped
     from ._baseline import BadBaseline, read_baseline
     from ._judge import judge
 
-    if words.what == "run" and words.seeds:
+    if words.what == "run" and words.seeds and "-" in words.seeds:
         return sweep(words)
-    chosen = [
-        it
-        for it in cases.make(words.seed, words.mixes)
-        if wanted(it.name, words.only) and not (words.no_waits and it.slow)
-    ]
+    try:
+        made = made_cases(words)
+    except ValueError as fault:
+        return fault_line(str(fault), USAGE)
+    chosen = [it for it in made if wanted(it.name, words.only) and not (words.no_waits and it.slow)]
     every = len(chosen)
     if words.what == "wire":
         chosen = for_one_device(chosen)
@@ -194,6 +199,7 @@ def run(words: argparse.Namespace) -> int:
             print(f"{it.name:24} {it.title}")
         return OK if chosen else fault_line(f"there is no case of {' '.join(words.only)}", USAGE)
     judged = []
+    signal.signal(signal.SIGTERM, signal.default_int_handler)  # in the judge itself, both print what was found so far
     try:
         known = read_baseline(pathlib.Path(words.baseline)) if words.baseline else set()
         for command in commands_of(words):
@@ -204,12 +210,30 @@ def run(words: argparse.Namespace) -> int:
             judged.append(judge(command, chosen, 1 if words.what == "wire" else words.jobs, words.timeout))
             if every > len(chosen):
                 judged[-1].left_out["one device"] = every - len(chosen)
+            if judged[-1].why_not.startswith("stopped"):
+                break
+    except Stopped:
+        return fault_line("stopped before a case was run", DEVIATES)
     except BadBaseline as fault:
         return fault_line(str(fault), USAGE)
     except Fault as fault:
         return fault_line(f"{shlex.join(command)}: {fault}", NO_ADAPTER)
     _output.write(judged, known, words)
-    return OK if not any(_output.new(it, known) for it in judged) else DEVIATES
+    return OK if not any(it.not_run or _output.new(it, known) for it in judged) else DEVIATES
+
+
+def made_cases(words: argparse.Namespace) -> "List[Case]":
+    """All cases of --seed, or the mixes of a seed of --seeds, which a sweep plays by themselves. Raises ValueError if
+    that isn't one seed."""
+    from . import cases
+    from ._sweep import MIXES_A_SEED
+
+    seeds = getattr(words, "seeds", None)
+    if seeds:
+        if not seeds.isdigit():
+            raise ValueError(f"--seeds takes one seed here, such as 15, and not {seeds!r}")
+        return cases.make_mixes(int(seeds), MIXES_A_SEED)
+    return cases.make(words.seed, words.mixes)
 
 
 def for_one_device(chosen: "List[Case]") -> "List[Case]":
@@ -251,7 +275,8 @@ def fault_line(text: str, status: int) -> int:
 
 
 def sweep(words: argparse.Namespace) -> int:
-    from ._sweep import CORES, NoSweep, sweep_seeds
+    from ._adapter import Fault
+    from ._sweep import Found, sweep_seeds
 
     try:
         seeds = span(words.seeds)
@@ -260,27 +285,30 @@ def sweep(words: argparse.Namespace) -> int:
     status = OK
     for command in commands_of(words):
         try:
-            found = sweep_seeds(command, seeds, words.client or CORES, words.timeout)
-        except (NoSweep, ImportError, OSError) as fault:
-            return fault_line(str(fault), USAGE)
-        kinds: Dict[Tuple[str, str], List[str]] = {}
+            found = sweep_seeds(command, seeds, words.client, words.timeout)
+        except (Fault, ImportError, OSError) as fault:
+            return fault_line(f"{shlex.join(command)}: {fault}", NO_ADAPTER if isinstance(fault, Fault) else USAGE)
+        causes: Dict[Tuple[str, str], List[Found]] = {}
         for it in found:
-            kinds.setdefault((it.level, re.sub(r"\d+", "N", it.what)), []).append(f"seed {it.seed} {it.case}")
-        print(f"{shlex.join(command)}: {len(seeds)} seeds, {len(found)} deviations of {len(kinds)} kinds")
-        for (level, what), where in sorted(kinds.items()):
-            print(f"  {level} {what}: {len(where)}, first {where[0]}")
+            causes.setdefault((it.level, it.cause), []).append(it)
+        print(f"{shlex.join(command)}: {len(seeds)} seeds, {len(found)} deviations, by {len(causes)} causes")
+        for (level, cause), where in sorted(causes.items()):
+            again = f"bsdudp-conform run --seeds {where[0].seed} --only {where[0].case} -- {shlex.join(command)}"
+            print(f"  {level} {cause}: {len(where)}; to play the first again:\n    {again}")
         status = DEVIATES if found else status
     return status
 
 
 def reduce(words: argparse.Namespace) -> int:
-    from . import cases
     from ._adapter import Adapter, Fault
     from ._packets import write_capture
     from ._reduce import reduce_case
     from ._report import steps_of
 
-    found = {it.name: it for it in cases.make(words.seed, words.mixes)}.get(words.case)
+    try:
+        found = {it.name: it for it in made_cases(words)}.get(words.case)
+    except ValueError as fault:
+        return fault_line(str(fault), USAGE)
     if found is None:
         return fault_line(f"there is no case {words.case}: bsdudp-conform run --list has all", USAGE)
     try:
@@ -292,7 +320,8 @@ def reduce(words: argparse.Namespace) -> int:
         print(f"{found.name} breaks nothing")
         return OK
     case, breach = shorter.case, shorter.breach
-    print(f"{found.name}, {found.title}: {len(case.steps)} steps of {len(found.steps)} break {breach.rule}: {breach.what}")
+    steps = f"{len(case.steps)} steps of {len(found.steps)}"
+    print(f"{found.name}, {found.title}: {steps} break {breach.rule}: {breach.what}")
     print("\n".join(f"  {line}" for line in steps_of(case)))
     if words.pcap:
         write_capture(pathlib.Path(words.pcap), case.packets())

@@ -26,7 +26,10 @@ def write(stacks: Sequence[Judged], known: Known, words: argparse.Namespace) -> 
     if not words.no_policy and not words.quiet:
         if sys.stderr.isatty():
             print("looking for each stack's policy ..", file=sys.stderr)
-        policies = {it.name: settings_of(it)[1] for it in stacks}
+        try:
+            policies = {it.name: settings_of(it)[1] for it in stacks if not it.why_not.startswith("stopped")}
+        except KeyboardInterrupt:
+            print("stopped: the stack's policy isn't determined", file=sys.stderr)
     whole = text(stacks, policies, known)
     if words.quiet:
         for it in stacks:

@@ -1,7 +1,6 @@
 """A stack's policy by name: the settings of the reference machine that explain most of its behaviour."""
 from __future__ import annotations
 
-from collections import Counter
 from typing import Dict, List, Mapping, NamedTuple, Tuple
 
 from ._case import Answer, Case
@@ -14,15 +13,20 @@ ROUNDS = 3
 # A setting isn't reported if this many of its values explain the same.
 MANY_VALUES = 4
 MOST_CASES, MOST_BYTES = 40, 60_000
+# The settings that only long cases tell apart.
+LIMITS = ("kept", "largest", "expire", "waiting", "waiting without data")
+# So many cases that a policy doesn't explain are listed.
+MOST_NAMED = 4
 
 
 class Explained(NamedTuple):
-    """One setting: the values that explain most, and how many of the cases that depend on it."""
+    """One setting: the values that explain most, how many of the cases that depend on it, and the others by name."""
 
     setting: str
     values: Tuple[Value, ...]
     explained: int
     cases: int
+    others: Tuple[str, ...] = ()
 
     @property
     def title(self) -> str:
@@ -37,7 +41,14 @@ class Explained(NamedTuple):
     def words(self) -> str:
         told = ", or ".join(SETTINGS[self.setting].told(it) for it in self.values)
         apart = ", which these cases don't tell apart" if len(self.values) > 1 else ""
-        return f"{self.title}: {told}{apart} ({self.explained} of {self.cases} cases)"
+        return f"{self.title}: {told}{apart} ({self.cases_told})"
+
+    @property
+    def cases_told(self) -> str:
+        """How many cases are explained, and which aren't."""
+        shown = ", ".join(self.others[:MOST_NAMED])
+        more = f" and {len(self.others) - MOST_NAMED} more" if len(self.others) > MOST_NAMED else ""
+        return f"{self.explained} of {self.cases} cases{f'; not {shown}{more}' if shown else ''}"
 
 
 def asking(cases: List[Case], settings: Mapping[str, Value]) -> Dict[str, List[Case]]:
@@ -66,7 +77,7 @@ class Noting(Path):
 
 def chosen(cases: List[Case], name: str) -> List[Case]:
     """Enough cases for a setting: those that depend on few others first, with few floods."""
-    fit = [case for case in cases if case.size[1] < MOST_BYTES or name in ("kept", "largest", "expire")]
+    fit = [case for case in cases if case.size[1] < MOST_BYTES or name in LIMITS]
     own = sorted((case for case in fit if case.rule not in ("run", "mix")), key=lambda case: case.size)
     mixed = [case for case in fit if case.rule == "mix"]
     return own[:: max(1, len(own) // MOST_CASES)][: 2 * MOST_CASES] + mixed[:MOST_CASES]
@@ -93,13 +104,10 @@ def settings_of(judged: Judged) -> Tuple[Settings, List[Explained]]:
 
 def best_value(cases: List[Case], answers: Mapping[str, Answer], settings: Settings, name: str) -> Explained:
     """The values with which most cases are explained. The machine takes the first."""
-    scores: "Counter[Value]" = Counter()
+    left: Dict[Value, Tuple[str, ...]] = {}
     for value in SETTINGS[name].all:
-        scores[value] = sum(explains(case, answers[case.name], {**settings, name: value}) for case in cases)
-    most = max(scores.values())
-    return Explained(name, tuple(it for it in SETTINGS[name].all if scores[it] == most), most, len(cases))
-
-
-def unexplained(judged: Judged, settings: Settings) -> List[Case]:
-    """The cases whose results no machine with these settings has."""
-    return [case for case in judged.cases if not explains(case, judged.answers[case.name], settings)]
+        fixed = {**settings, name: value}
+        left[value] = tuple(case.name for case in cases if not explains(case, answers[case.name], fixed))
+    least = min(map(len, left.values()))
+    best = tuple(it for it in SETTINGS[name].all if len(left[it]) == least)
+    return Explained(name, best, len(cases) - least, len(cases), left[best[0]])

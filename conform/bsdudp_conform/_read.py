@@ -69,6 +69,18 @@ def sum_with_pseudo_header(data: bytes, source: int, destination: int, length: i
     return fold(struct.pack(">IIBBH", source, destination, 0, UDP, length) + data)
 
 
+def header_sum_is_wrong(packet: bytes) -> bool:
+    """Whether a packet has an IPv4 header, and only its checksum is wrong."""
+    size = (packet[0] & 15) * 4 if len(packet) >= 20 and packet[0] >> 4 == 4 else 0
+    return 20 <= size <= len(packet) and fold(packet[:size]) != 0xFFFF
+
+
+def udp_sum_is_wrong(data: bytes, source: int, destination: int) -> bool:
+    """Whether a UDP datagram has a length that holds, and a checksum that doesn't."""
+    length = int.from_bytes(data[4:6], "big")
+    return 8 <= length <= len(data) and read_udp(data, source, destination) is None
+
+
 @dataclass(frozen=True)
 class Udp:
     """A UDP datagram with a right length and a right checksum."""

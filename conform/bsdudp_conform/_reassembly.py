@@ -182,7 +182,9 @@ class Reassembly:
                 it.end = piece.end  # a repeat's bytes are dropped, but its end counts
             if overlap == "drop new" or overlap == "drop all but repeats" and repeat:
                 return False
-            if overlap in ("drop all", "drop all but repeats"):
+            if overlap == "drop all but exact repeats" and piece in it.pieces:
+                return False
+            if str(overlap).startswith("drop all"):
                 del self.open[key]
                 return False
             wins = self.won(it, piece, str(overlap))

@@ -5,16 +5,16 @@ import sys
 import textwrap
 import xml.etree.ElementTree as ElementTree
 from collections import Counter
-from typing import Dict, List, Sequence
+from typing import Dict, List, Optional, Sequence, Set
 
 from ._baseline import Known, is_known
 from ._case import Case, Receive
-from ._judge import Deviation, Judged, cases_of
-from ._packets import show
+from ._judge import Deviation, Judged, cases_of, title
 from ._policy import Explained
 from ._rules import RULES
 from ._verdict import FAULT, LEVELS, NEVER
 from ._wire_laws import MUST, SHOULD
+from ._words import described
 
 WORDS = {FAULT: "crash", NEVER: "never", MUST: "must", SHOULD: "should"}
 MEANING = {
@@ -23,7 +23,7 @@ MEANING = {
     MUST: "against a MUST: all hosts that the RFCs permit reply alike, and this stack differently",
     SHOULD: "against a SHOULD: all hosts that keep the SHOULDs reply alike, and this stack differently",
 }
-SHOWN = 8
+SHOWN, MOST_RULES = 8, 6
 
 
 def cell(count: "Counter[str]") -> str:
@@ -58,43 +58,85 @@ def total(judged: Judged) -> str:
     return cell(Counter(cases=len(judged.cases), **levels))
 
 
-def steps_of(case: Case) -> List[str]:
-    """The steps of a case in words. If there are many, only the first and the last ones."""
-    told = [show(it.packet) if isinstance(it, Receive) and len(it.packet) >= 20 else it.line[:80] for it in case.steps]
+def steps_of(case: Case, at: Optional[int] = None) -> List[str]:
+    """The steps of a case in words, with what is unusual about each packet. If there are many, only those before step
+    `at`, or the first and the last ones."""
+    told = [described(it.packet) if isinstance(it, Receive) else it.line[:80] for it in case.steps]
     lines = [f"{number}. {words}" for number, words in enumerate(told)]
-    if len(lines) > SHOWN:
-        lines = [*lines[: SHOWN - 2], f".. {len(lines) - SHOWN + 1} more ..", lines[-1]]
-    return lines
+    if len(lines) <= SHOWN:
+        return lines
+    end = len(lines) if at is None else min(len(lines), max(at + 1, SHOWN))
+    begin = end - SHOWN + 1
+    before = [*lines[: SHOWN - 2], f".. {begin - SHOWN + 3} more .."] if at is None else [f".. {begin} more .."]
+    shown = lines[end - 1 : end] if at is None else lines[begin:end]
+    after = [f".. {len(lines) - end} more .."] if end < len(lines) else []
+    return [*(before if begin else []), *shown, *after]
+
+
+def levels_of(kind: Sequence[Deviation]) -> str:
+    """How many cases of a kind deviate at each level."""
+    counts = {level: len({it.case.name for it in kind if it.breach.level == level}) for level in LEVELS}
+    return ", ".join(f"{WORDS[level]} {count}" for level, count in counts.items() if count)
+
+
+def rules_of_kind(kind: Sequence[Deviation]) -> str:
+    """The rules that a kind breaks: the first one in words, the others by name, with the numbers of cases."""
+    names: Dict[str, Set[str]] = {kind[0].breach.rule: set()}
+    for it in kind:
+        names.setdefault(it.breach.rule, set()).add(it.case.name)
+    (first, _), *others = names.items()
+    also = ", ".join(f"{rule} {len(there)}" for rule, there in others[:MOST_RULES])
+    also += f" and {len(others) - MOST_RULES} more rules" if len(others) > MOST_RULES else ""
+    said = RULES[first]
+    return f"{first}: {said.sentence} ({said.source}){f'; also {also}' if also else ''}"
+
+
+def shortest_of(kind: Sequence[Deviation]) -> str:
+    """The shortest case of a kind, and which case of a run it was."""
+    first = kind[0]
+    part = first.case.part(first.breach.step)
+    return f"{first.case.name}, {first.case.title}{f'; step {first.breach.step} is of {part}' if part else ''}"
 
 
 def kind_text(kind: List[Deviation], known: Known) -> str:
     """One kind of deviation, by its shortest case."""
     first = kind[0]
-    breach, rule = first.breach, RULES[first.breach.rule]
+    breach = first.breach
     old = ", known" if all(is_known(it, known) for it in kind) else ""
     count = len(cases_of(kind))
     lines = [
-        f"{WORDS[breach.level].upper()} {breach.rule}: {rule.sentence} ({rule.source}); "
-        f"{count} case{'s' * (count > 1)}{old}",
+        f"{levels_of(kind).upper()}: {title(kind)}; {count} case{'s' * (count > 1)}{old}",
+        f"    rule: {rules_of_kind(kind)}",
         f"    seen: {breach.what}",
-        f"    expected: {breach.expected or rule.sentence}",
-        f"    shortest: {first.case.name}, {first.case.title}",
+        f"    expected: {breach.expected or RULES[breach.rule].sentence}",
+        f"    shortest: {shortest_of(kind)}",
     ]
-    lines += [f"      {line}" for line in steps_of(first.case)]
+    lines += [f"      {line}" for line in steps_of(first.case, breach.step)]
     return "\n".join(lines)
+
+
+def causes_text(judged: Judged, known: Known) -> str:
+    """A stack's summary, with a line for each cause."""
+    lines = [summary(judged, known)]
+    for kind in judged.kinds():
+        names = cases_of(kind)
+        more = f" and {len(names) - 1} more" if len(names) > 1 else ""
+        lines.append(textwrap.shorten(f"  {levels_of(kind)}: {title(kind)} ({names[0]}{more})", 118))
+    return "\n  ".join(lines)
 
 
 def policy_text(explained: Sequence[Explained]) -> List[str]:
     """A stack's policy in words: the settings that explain nine of ten cases, and then what they don't explain."""
     well = [it for it in explained if it.explained * 10 >= it.cases * 9]
     lines = [it.words for it in well if it.told_apart]
-    others = "; ".join(f"{it.title} ({it.explained} of {it.cases} cases at best)" for it in explained if it not in well)
+    others = "; ".join(f"{it.title} (at best {it.cases_told})" for it in explained if it not in well)
     return lines + ([f"no policy that the judge knows explains: {others}"] if others else [])
 
 
 def text(stacks: Sequence[Judged], policies: Dict[str, List[Explained]], known: Known) -> str:
     """The whole report."""
     parts = [
+        *(causes_text(it, known) for it in stacks),
         matrix(stacks),
         "A cell counts the cases that deviate:\n"
         + "\n".join(f"  {WORDS[level]:7} {MEANING[level]}" for level in LEVELS),
@@ -120,8 +162,10 @@ def summary(judged: Judged, known: Known) -> str:
     cases = len({it.case.name for it in judged.deviations})
     new = len({it.case.name for it in judged.deviations if not is_known(it, known)})
     kinds = len(judged.kinds())
-    told = f"{judged.name}: {len(judged.cases)} cases, {cases} deviate in {kinds} kind{'s' * (kinds != 1)}"
-    return f"{told}, {new} of them new" if known else told
+    every = len(judged.cases)
+    told = f"{judged.name}: {every} case{'s' * (every != 1)}, {cases} deviate, by {kinds} cause{'s' * (kinds != 1)}"
+    told = f"{told}, {new} of them new" if known else told
+    return f"{told}; {judged.not_run} weren't run: {judged.why_not}" if judged.not_run else told
 
 
 def junit(stacks: Sequence[Judged], known: Known) -> str:

@@ -57,6 +57,10 @@ RULES: Dict[str, Rule] = {
     "icmp.echo": Rule(
         "an Echo Request is answered once, with its identifier, number and data", "RFC 1122 3.2.2.6, RFC 792"
     ),
+    "icmp.echo.options": Rule(
+        "a record route or timestamp of an Echo Request comes back in the reply, with the host's own address",
+        "RFC 1122 3.2.2.6",
+    ),
     "icmp.silent": Rule(
         "ICMP of unknown type, errors, replies, and requests that no host may have sent aren't answered",
         "RFC 1122 3.2.2, 3.2.1.3",
@@ -105,6 +109,9 @@ RULES: Dict[str, Rule] = {
     "socket.ports": Rule("each socket gets its own port's datagrams", "RFC 768"),
     "socket.connected": Rule("a connected socket receives only from its peer", "POSIX connect; RFC 1122 4.1.4"),
     "socket.several": Rule("two sockets on a port", POLICY),
+    "hold.order": Rule("datagrams that wait are read in the order in which they came, each once", "POSIX 2.10.11"),
+    "hold.lost": Rule("a datagram that waits is there when it's read", "RFC 768; POSIX 2.10.11"),
+    "hold.many": Rule("how many datagrams wait, and which are dropped", "policy (POSIX 2.10.11)"),
     "send.bytes": Rule("what leaves is the datagram that was given", "RFC 768, RFC 791 3.2"),
     "send.cut": Rule(
         "a cut send: packets within the MTU, offsets in eights, one identification, right sums",

@@ -7,16 +7,21 @@ from dataclasses import dataclass, replace
 from typing import FrozenSet, Iterable, List, Mapping, Tuple
 
 from ._addresses import BROADCAST, HOST, ZERO_BROADCAST, is_host, text_of
-from ._case import Answer, Case, Got, Receive
+from ._case import Answer, Case, Connect, Got, Receive
+from ._cause import extra as extra_cause
+from ._cause import missing as missing_cause
 from ._echoes import pings
 from ._freedom import Path, Value, runs
-from ._laws import STRANGER, Seen
+from ._laws import NO_CHECK_OMITTED, OFFLOADED, STRANGER, Seen
 from ._machine import Delivered, Due, Machine, answer_of, delivered, play
+from ._queue_laws import held_reads
 from ._read import ICMP, UDP, read
 from ._wire_laws import MUST, SHOULD, Breach, leaving
 
 FAULT, NEVER, POLICY = "FAULT", "NEVER", "policy"
 LEVELS = (FAULT, NEVER, MUST, SHOULD)
+# So many wrong datagrams of a case are reported: to explain one takes the longer, the more packets came.
+MOST_WRONG = 3
 
 
 @dataclass(frozen=True)
@@ -27,7 +32,8 @@ class Expected:
     level: str
     answer: Delivered
     due: Tuple[Due, ...]
-    asked: FrozenSet[str]
+    arrivals: Tuple[Got, ...]
+    sums_hold: bool
 
 
 def play_delivered(case: Case, path: Path) -> Delivered:
@@ -37,13 +43,12 @@ def play_delivered(case: Case, path: Path) -> Delivered:
 @functools.lru_cache(maxsize=None)
 def expected(case: Case) -> Expected:
     """MUST if all permitted machines agree, SHOULD if those that keep the SHOULDs agree, otherwise policy."""
-    path = Path({})
-    machine: Machine = play(case, path)
+    machine: Machine = play(case, Path({}))
     answer = delivered(answer_of(machine).got)
     level = POLICY
     if alike(case, True):
         level = MUST if alike(case, False) else SHOULD
-    return Expected(level, answer, tuple(machine.due), frozenset(path.asked))
+    return Expected(level, answer, tuple(machine.due), tuple(machine.arrivals), machine.sums_hold)
 
 
 def alike(case: Case, strict: bool) -> bool:
@@ -75,11 +80,17 @@ def matched(
 def verdict(case: Case, answer: Answer, abilities: FrozenSet[str]) -> List[Breach]:
     """All rules that a stack's behaviour in a case breaks."""
     if answer.fault is not None:
-        return [Breach(FAULT, case.rule, answer.fault, None, "an answer to the end of the case")]
-    seen = Seen(case)
+        told_whole = "an answer to the end of the case"
+        return [Breach(FAULT, case.rule, answer.fault, None, told_whole, within=(answer.fault,))]
+    refused = [number for number, it in enumerate(case.steps) if isinstance(it, Connect) and answer.refused(number)]
+    if refused:
+        return [Breach(MUST, "socket.connected", "the stack refuses to connect", refused[0], "a connected socket")]
+    seen = Seen(case, OFFLOADED if "offload" in abilities else NO_CHECK_OMITTED)
     found = by_laws(case, seen, answer)
+    if "hold" in case.needs:
+        found += held_reads(case, expected(case).arrivals, answer)
     if not found:
-        found = by_machines(case, answer)
+        found = by_machines(case, seen, answer)
     if "out" in abilities:
         found += leaving(seen, answer, "echo" in abilities)
         if "gateway" not in abilities:
@@ -90,12 +101,13 @@ def verdict(case: Case, answer: Answer, abilities: FrozenSet[str]) -> List[Breac
 
 
 def by_laws(case: Case, seen: Seen, answer: Answer) -> List[Breach]:
-    found, left = [], []
+    found: List[Breach] = []
+    left: List[Got] = []
     for got in answer.got:
-        wrong = seen.fault(got)
+        wrong = seen.fault(got) if len(found) < MOST_WRONG else None
         if wrong:
             level = MUST if wrong.rule == STRANGER else NEVER
-            found.append(Breach(level, wrong.rule or case.rule, wrong.words, got.step, wrong.expected))
+            found.append(Breach(level, wrong.rule or case.rule, wrong.words, got.step, wrong.expected, wrong.cause))
         if wrong and wrong.sender:  # it arrived, and its fault is already reported
             got = replace(got, source=wrong.sender[0], port=wrong.sender[1])
         left.append(got)
@@ -105,15 +117,15 @@ def by_laws(case: Case, seen: Seen, answer: Answer) -> List[Breach]:
         if hit is None:
             words = f"a datagram of {len(promise.data)} bytes doesn't come"
             sender = f"{text_of(promise.source)} port {promise.port}"
-            found.append(
-                Breach(promise.level, case.rule, words, promise.step, f"{len(promise.data)} bytes from {sender}")
-            )
+            why = missing_cause(seen, Got(promise.step, promise.source, promise.port, promise.data))
+            expect = f"{len(promise.data)} bytes from {sender}"
+            found.append(Breach(promise.level, case.rule, words, promise.step, expect, why.cause, why.within))
         else:
             left.remove(hit)
     return found
 
 
-def by_machines(case: Case, answer: Answer) -> List[Breach]:
+def by_machines(case: Case, seen: Seen, answer: Answer) -> List[Breach]:
     """If all machines agree, a stack must do the same."""
     want = expected(case)
     if want.level == POLICY:
@@ -126,10 +138,13 @@ def by_machines(case: Case, answer: Answer) -> List[Breach]:
             if len(want.answer) == 1
             else f"{len(missing)} of {len(want.answer)} datagrams don't come"
         )
-        found.append(Breach(want.level, case.rule, words, None, told(want.answer)))
+        socket, source, port, data = missing[0]
+        why = missing_cause(seen, Got(0, source, port, data, socket))
+        found.append(Breach(want.level, case.rule, words, why.step, told(want.answer), why.cause, why.within))
     if extra:
         words = "a datagram comes that shouldn't" if len(extra) == 1 else f"{len(extra)} datagrams come that shouldn't"
-        found.append(Breach(want.level, case.rule, words, extra[0].step, told(want.answer)))
+        cause = extra_cause(seen, extra[0])
+        found.append(Breach(want.level, case.rule, words, extra[0].step, told(want.answer), cause))
     return found
 
 
@@ -171,6 +186,10 @@ def applies(case: Case, abilities: FrozenSet[str]) -> bool:
     """Whether a case applies to a stack. Cases about a host's addresses don't apply to a gateway that translates
     them."""
     if not case.needs <= abilities:
+        return False
+    if "reassembly" in abilities and not case.rule.startswith("frag."):
+        return False
+    if "offload" in abilities and not expected(case).sums_hold:
         return False
     if "echo" in abilities:
         return all(echoed(step.packet) for step in case.steps if isinstance(step, Receive))

@@ -1,12 +1,13 @@
 """The laws of packets sent: RFC 1122's rules for ICMP errors, and the law of sends."""
 from __future__ import annotations
 
-from typing import Iterator, List, NamedTuple, Optional
+from typing import Iterator, List, NamedTuple, Optional, Tuple
 
 from ._addresses import BROADCAST, HOST, ONES, OURS, is_host, is_multicast, text_of
 from ._case import Answer, Out, Send
 from ._laws import Arrival, Seen, in_sequence
-from ._read import ICMP, UDP, Header, fold, read, read_udp
+from ._words import kind_of_source
+from ._read import ICMP, UDP, Header, fold, read, read_udp, udp_sum_is_wrong
 
 ERRORS = (3, 4, 5, 11, 12)
 # RFC 792, 950 and 1256
@@ -17,13 +18,16 @@ MOST_PACKETS = 50
 
 
 class Breach(NamedTuple):
-    """A deviation: the level of its rule, the rule, and a text."""
+    """A deviation: the level of its rule, the rule, and a text. cause: the name by which deviations of all rules are
+    grouped; empty: the text without its numbers. within: causes that explain this one too, if the stack has them."""
 
     level: str
     rule: str
     what: str
     step: Optional[int] = None
     expected: str = ""
+    cause: str = ""
+    within: Tuple[str, ...] = ()
 
 
 def leaving(seen: Seen, answer: Answer, shared: bool) -> List[Breach]:
@@ -43,7 +47,7 @@ def leaving(seen: Seen, answer: Answer, shared: bool) -> List[Breach]:
         if is_error(header):
             about_this = about(seen, it.step, header.data[8:])
             if about_this is not None or not shared:
-                found += errors(about_this, it, header)
+                found += errors(seen, about_this, it, header)
     return found + sends(seen, answer)
 
 
@@ -61,7 +65,8 @@ def headers_that_leave(it: Out, header: Header) -> Iterator[Breach]:
 
 
 def about(seen: Seen, step: int, quote: bytes) -> Optional[Arrival]:
-    """The packet that an error quotes. If several have its addresses and identification, the one with its bytes."""
+    """The packet that an error quotes. If several have its addresses and identification, the one with its protocol and
+    its bytes."""
     same = [
         it
         for it in seen.arrivals
@@ -70,11 +75,18 @@ def about(seen: Seen, step: int, quote: bytes) -> Optional[Arrival]:
         and it.packet[12:20] == quote[12:20]
         and quote[4:6] in (it.packet[4:6], it.packet[5:3:-1])
     ]
-    same.sort(key=lambda it: (it.packet[:28] != quote[:28], it.header is None, bool(it.header and it.header.offset)))
+    same.sort(
+        key=lambda it: (
+            it.packet[9] != quote[9],
+            it.packet[:28] != quote[:28],
+            it.header is None,
+            bool(it.header and it.header.offset),
+        )
+    )
     return same[0] if same else None
 
 
-def errors(packet: Optional[Arrival], it: Out, header: Header) -> Iterator[Breach]:
+def errors(seen: Seen, packet: Optional[Arrival], it: Out, header: Header) -> Iterator[Breach]:
     """The deviations from RFC 1122 3.2.2 of one ICMP error about a packet."""
     quote = header.data[8:]
     if fold(header.data) != 0xFFFF:
@@ -97,18 +109,31 @@ def errors(packet: Optional[Arrival], it: Out, header: Header) -> Iterator[Breac
         (cause.destination in (BROADCAST, ONES) or is_multicast(cause.destination), "for a broadcast or multicast"),
         (not is_host(cause.source), f"for the source {text_of(cause.source)}"),
         (cause.offset > 0, "for a fragment that isn't the first"),
-        (cause.whole and cause.protocol == UDP and sum_is_wrong(cause), "for a datagram whose checksum is wrong"),
+        (
+            cause.whole
+            and cause.protocol == UDP
+            and udp_sum_is_wrong(cause.data, cause.source, cause.destination),
+            "for a datagram whose checksum is wrong",
+        ),
         (is_error(cause), "for an ICMP error"),
         (is_unknown(cause), "for ICMP of unknown type"),
     ):
         if wrong:
-            yield Breach(MUST, "icmp.never", f"an error {words}", it.step, silent)
+            why = error_to(cause.source) if words.startswith("for the source") else f"an ICMP error {words}"
+            yield Breach(MUST, "icmp.never", f"an error {words}", it.step, silent, why)
     if header.destination != cause.source:
         yield Breach(
             MUST, "icmp.quote", f"an error goes to {text_of(header.destination)}", it.step, text_of(cause.source)
         )
     if cause.whole:
         yield from quoted(it, packet, cause, quote)
+    elif cause.offset == 0:
+        yield from quoted_datagram(seen, it, packet, cause, quote)
+
+
+def error_to(source: int) -> str:
+    """The name of a cause: an error goes where none may go."""
+    return f"an ICMP error goes to {kind_of_source(source) or 'an address that no host has'}"
 
 
 def is_error(header: Header) -> bool:
@@ -122,20 +147,50 @@ def is_unknown(header: Header) -> bool:
     return begins and header.data[0] not in KNOWN_TYPES
 
 
-def sum_is_wrong(header: Header) -> bool:
-    """Whether a UDP datagram has a length that holds, and a checksum that doesn't."""
-    length = int.from_bytes(header.data[4:6], "big")
-    return 8 <= length <= len(header.data) and read_udp(header.data, header.source, header.destination) is None
-
-
 def quoted(it: Out, packet: Arrival, cause: Header, quote: bytes) -> Iterator[Breach]:
-    """Whether an error quotes its packet unchanged."""
-    length = min(cause.length, 20 + len(cause.options) + 8)
-    if quote[:length] != packet.packet[:length]:
-        first = next(at for at in range(length) if quote[at : at + 1] != packet.packet[at : at + 1])
-        yield Breach(
-            MUST, "icmp.quote", f"the quoted packet differs from byte {first} on", it.step, "the packet as it came"
-        )
+    """Whether an error quotes its packet unchanged: the header with its options, and 8 bytes."""
+    header = 20 + len(cause.options)
+    length = min(cause.length, header + 8)
+    wanted = packet.packet[:length]
+    if quote[:length] == wanted:
+        return
+    expected = f"{length} bytes as they came"
+    if wanted.startswith(quote):
+        yield Breach(MUST, "icmp.quote", f"the quote ends after {len(quote)} bytes", it.step, expected)
+        return
+    first = next(at for at in range(length) if quote[at : at + 1] != wanted[at : at + 1])
+    part = "header" if first < 20 else "options" if first < header else "data"
+    yield Breach(MUST, "icmp.quote", f"the quote changes the packet's {part}, from byte {first} on", it.step, expected)
+
+
+# What may differ in the header of a reassembled datagram from that of its first fragment: bytes of the total length, of
+# flags and offset, and of the checksum.
+REASSEMBLED = (2, 3, 6, 7, 10, 11)
+
+
+def quoted_datagram(seen: Seen, it: Out, packet: Arrival, cause: Header, quote: bytes) -> Iterator[Breach]:
+    """Whether an error about a datagram in fragments quotes a first fragment unchanged, or the datagram's own header
+    with a right checksum, and 8 bytes."""
+    firsts = [
+        one.packet
+        for one in seen.arrivals
+        if one.step <= it.step and one.header is not None and one.header.key == cause.key and not one.header.offset
+    ]
+    header = 20 + len(cause.options)
+    length = min(cause.length, header + 8)
+    if any(quote[:length] == one[:length] for one in firsts):
+        return
+    wanted, expected = packet.packet[:length], "the first fragment's header, or the datagram's with a right checksum"
+    same = [at for at in range(header) if at not in REASSEMBLED]
+    for breaks, words in (
+        (len(quote) < length, f"the quote ends after {len(quote)} bytes"),
+        (fold(quote[:header]) != 0xFFFF, "the header checksum in the quote of a reassembled datagram is wrong"),
+        ([quote[at : at + 1] for at in same] != [wanted[at : at + 1] for at in same], "the quote changes the header"),
+        (quote[header:length] != wanted[header:], "the quote changes the data"),
+    ):
+        if breaks:
+            yield Breach(MUST, "icmp.quote", words, it.step, expected)
+            return
 
 
 def sends(seen: Seen, answer: Answer) -> List[Breach]:

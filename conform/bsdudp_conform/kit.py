@@ -17,14 +17,15 @@ from __future__ import annotations
 import os
 import signal
 import sys
-from typing import Callable, Iterable, List, Sequence
+from typing import Callable, Iterable, List, Optional, Sequence
 
 
 class Adapter:
     """One stack, from boot to the end of a case."""
 
     name = "a stack"
-    # What it has in addition to `rx` and `wait`: out, ping, send, mtu, sockets, connect, gateway (docs/judge.md).
+    # What it has in addition to `rx` and `wait`: out, ping, send, mtu, sockets, connect, hold, offload,
+    # reassembly, gateway (docs/judge.md).
     has: Sequence[str] = ()
     # Whether each case is played in its own process, so that a crash affects only one case.
     forks = True
@@ -45,12 +46,20 @@ class Adapter:
     def open(self, socket: int, port: int) -> None:
         """A further socket is bound to a port, which another may have."""
 
-    def connect(self, socket: int, address: str, port: int) -> None:
-        """A socket is connected."""
+    def connect(self, socket: int, address: str, port: int) -> Optional[bool]:
+        """A socket is connected; False if the stack refuses."""
+        return None
 
     def send(self, socket: int, address: str, port: int, data: bytes) -> bool:
-        """A socket sends; False if the stack refuses."""
+        """A socket sends; False if the stack refuses. If it's connected, this is its peer's address: send without one,
+        because many stacks refuse it (EISCONN)."""
         return False
+
+    def hold(self, socket: int) -> None:
+        """From now on, this socket is read only by `read`."""
+
+    def read(self, socket: int, count: int) -> object:
+        """Up to this many of the datagrams that wait in a held socket are read, and reported."""
 
     def end(self) -> None:
         """The case is over."""
@@ -76,7 +85,12 @@ class Adapter:
             elif kind == "socket":
                 self.open(int(words[0]), int(words[1]))
             elif kind == "connect":
-                self.connect(int(words[0]), words[1], int(words[2]))
+                if self.connect(int(words[0]), words[1], int(words[2])) is False:
+                    print(f"refused {self.step}")
+            elif kind == "hold":
+                self.hold(int(words[0]))
+            elif kind == "read":
+                self.read(int(words[0]), int(words[1]))
             elif not self.send(int(words[0]), words[1], int(words[2]), bytes_of(words[3])):
                 print(f"refused {self.step}")
         self.end()

@@ -116,6 +116,11 @@ class SmallStack(Adapter):
             data = self.reassembled((source, destination, id, protocol), Piece(begin, more, packet[size:total]))
         if data is not None and protocol == UDP:
             self.datagram(source, destination, data, bool(begin or more))
+        elif data is not None:
+            self.other(protocol, source, destination, data)
+
+    def other(self, protocol: int, source: int, destination: int, data: bytes) -> None:
+        """Data of another protocol than UDP, which this stack ignores."""
 
     def reassembled(self, key: tuple[int, int, int, int], new: Piece) -> bytes | None:
         if not new.data or new.more and len(new.data) % 8 or new.end > 65515:

@@ -1,5 +1,5 @@
-"""The program, the host on an Ethernet, lwIP, libslirp, and Linux over a TUN device and on a wire have exactly the
-deviations in conform/known."""
+"""The program, the host on an Ethernet, lwIP, gVisor, libslirp, passt, DPDK, and Linux over a TUN device and on a wire
+have exactly the deviations in conform/known."""
 import os
 import re
 import subprocess
@@ -14,6 +14,13 @@ pytestmark = [pytest.mark.slow, pytest.mark.needs("scapy")]
 KNOWN = TOP / "conform/known"
 ADAPTER = [sys.executable, "-m"]
 ON_LINUX = pytest.mark.needs("netns", "tun", "ip")
+# Adapters that are built, with what each needs.
+PEERS = {
+    "lwip": ["apt-get"],
+    "libslirp": ["apt-get", "glib", "pkg-config"],
+    "gvisor": ["go", "gvisor"],
+    "dpdk": ["dpdk"],
+}
 
 
 @pytest.fixture
@@ -45,25 +52,34 @@ def test_host_on_an_ethernet(deviates, library):
 
 @pytest.fixture(scope="session")
 def peers(once):
-    """The folder with the adapters of lwIP and libslirp, built from Debian's sources, and what is missing."""
+    """The folder with the adapters that are built from Debian's sources and packages, and what is missing."""
 
     def make(folder):
         words = [TOP / "conform/adapters/build", folder]
-        done = subprocess.run(words, env={**os.environ, "NO_NS3": "1"}, capture_output=True, text=True, check=False)
+        environment = {**os.environ, "ONLY": " ".join(PEERS)}
+        done = subprocess.run(words, env=environment, capture_output=True, text=True, check=False)
         (folder / "said").write_text(done.stdout + done.stderr, encoding="utf-8")
 
     return once("peers", make)
 
 
 @pytest.mark.xdist_group("peers")
-@pytest.mark.needs("cc", "apt-get")
-@pytest.mark.parametrize("name", ["lwip", pytest.param("libslirp", marks=pytest.mark.needs("glib", "pkg-config"))])
+@pytest.mark.needs("cc")
+@pytest.mark.parametrize("name", [pytest.param(name, marks=pytest.mark.needs(*it)) for name, it in PEERS.items()])
 def test_peer(name, deviates, peers):
     if not (peers / name).exists():
         said = (peers / "said").read_text(encoding="utf-8")
         assert "doesn't compile" not in said, said
         pytest.skip(f"its source isn't available by apt-get here: {said.strip()}")
     deviates(name, "--", peers / name)
+
+
+@ON_LINUX
+@pytest.mark.needs("passt")
+def test_passt(deviates):
+    """Without most rules of fragments, which it takes for datagrams: it opens a socket for each."""
+    rules = [word for it in ("ip.", "udp.", "frag.hole", "frag.key", "frag.udp") for word in ("--only", it)]
+    deviates("passt", *rules, "--", *ADAPTER, "bsdudp_conform.adapters.passt")
 
 
 @pytest.mark.long

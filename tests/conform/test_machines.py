@@ -14,7 +14,7 @@ from bsdudp_conform._freedom import SETTINGS, Path
 from bsdudp_conform._verdict import FAULT, MUST, NEVER, verdict
 
 MODULES = {"read": _read, "reassembly": _reassembly, "machine": _machine}
-ABILITIES = frozenset({"out", "send", "mtu", "sockets", "connect"})
+ABILITIES = frozenset({"out", "send", "mtu", "sockets", "connect", "hold"})
 GRAVE = (FAULT, NEVER, MUST)
 pytestmark = [pytest.mark.slow, pytest.mark.needs("scapy")]
 

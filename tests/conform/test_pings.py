@@ -20,7 +20,9 @@ from bsdudp_conform._read import fold
 from bsdudp_conform._verdict import verdict
 
 ABILITIES = frozenset({"out", "ping", "send", "mtu"})
-RULES = ("icmp.echo", "icmp.silent")
+RULES = ("icmp.echo", "icmp.echo.options", "icmp.silent")
+OWN = HOST.to_bytes(4, "big")
+RECORD_ROUTE, TIMESTAMP, SOURCE_ROUTES = 7, 0x44, (0x83, 0x89)
 pytestmark = pytest.mark.needs("scapy")
 
 
@@ -28,9 +30,31 @@ def is_request(header, data):
     return data[:1] == b"\x08" and len(data) >= 8 and header.destination == HOST and is_host(header.source)
 
 
-def reply(header, data, **fields):
+def updated(options, times=1, own=OWN):
+    """Returns a record route or timestamp as the host returns it, having added itself so many times; other options
+    aren't returned."""
+    found, at = b"", 0
+    while at < len(options) and options[at]:
+        size = 1 if options[at] == 1 else options[at + 1]
+        one = bytearray(options[at : at + size])
+        if one[0] in (RECORD_ROUTE, TIMESTAMP):
+            kind = one[3] & 15 if one[0] == TIMESTAMP else 9
+            for _ in range(times):
+                place = one[2] - 1
+                entry = {9: own, 0: b"\0\0\1\2", 1: own + b"\0\0\1\2", 3: own + b"\0\0\1\2"}[kind]
+                room = place + len(entry) <= len(one)
+                if room and (kind != 3 or one[place : place + 4] == OWN):
+                    one[place : place + len(entry)] = entry
+                    one[2] += len(entry)
+            found += one
+        at += size
+    return found + bytes(-len(found) % 4)
+
+
+def reply(header, data, options=None, **fields):
     """Returns a reply that scapy makes."""
-    ip = IP(src=text_of(HOST), dst=text_of(header.source))
+    options = updated(header.options) if options is None else options
+    ip = IP(src=text_of(HOST), dst=text_of(header.source), options=[Raw(options)] if options else [])
     icmp = ICMP(type=0, code=0, id=int.from_bytes(data[4:6], "big"), seq=int.from_bytes(data[6:8], "big"))
     for name, value in fields.items():
         setattr(ip if name in ("src", "dst") else icmp, name, value)
@@ -46,6 +70,21 @@ def free(header, data):
     asked = data[:1] == b"\x08" and len(data) >= 8 and is_host(header.source)
     ours = header.destination in (HOST, HOST | 0xFF, 0xFFFFFFFF)
     return [reply(header, data)] if asked and ours else []
+
+
+def by_the_route(header, data):
+    """It records its address twice, as Linux does, and returns a source route reversed: the first hop is the last one
+    of the request."""
+    if header.options[:1] and header.options[0] in SOURCE_ROUTES:
+        route = bytes([header.options[0], 7, 4]) + header.source.to_bytes(4, "big") + b"\0"
+        hop = text_of(int.from_bytes(header.options[3:7], "big"))
+        return [reply(header, data, route, dst=hop) for _ in right(header, data)]
+    return [reply(header, data, updated(header.options, 2)) for _ in right(header, data)]
+
+
+def with_options(made):
+    """Right, except for the options of the reply."""
+    return lambda header, data: [reply(header, data, made(header.options)) for _ in right(header, data)]
 
 
 def instead(**fields):
@@ -96,6 +135,19 @@ FAULTS = {
     "an information request is answered": beside((15,), lambda header, data: reply(header, data, type=16)),
     "an unknown type is answered by an error": beside((7, 44), error(3, 2)),
     "an error is answered by an error": beside((3, 11), error(3, 3)),
+    "a request with options gets no reply": lambda header, data: [] if header.options else right(header, data),
+    "options aren't returned": with_options(lambda options: b""),
+    "a record route is returned as it came": with_options(lambda options: options),
+    "a record route has another's address": with_options(lambda options: updated(options, own=b"\x0a\0\0\x09")),
+    "a record route is shortened": with_options(
+        lambda options: b"\7\7" + updated(options)[2:7] + b"\0" if options[:2] == b"\7\x27" else updated(options)
+    ),
+    "a record route begins anew": with_options(
+        lambda options: updated(b"\7\x0f\4" + bytes(13)) if options[:2] == b"\7\x0f" else updated(options)
+    ),
+    "only the first of two options is returned": with_options(
+        lambda options: updated(options[:7]) if options[:1] == b"\7" else updated(options)
+    ),
 }
 
 
@@ -128,7 +180,7 @@ def breaches(replies):
             yield f"{case.name}, {case.title}: {it.what}"
 
 
-@pytest.mark.parametrize("replies", [right, free])
+@pytest.mark.parametrize("replies", [right, free, by_the_route])
 def test_no_false_alarm(replies):
     assert not list(breaches(replies))
 

@@ -84,6 +84,6 @@ def test_the_report_counts_cases_and_not_what_they_break():
         judged.cases.append(case)
         judged.deviations += [Deviation(case, it, answer) for it in verdict(case, answer, frozenset())]
     assert len(judged.deviations) == 6
-    assert re.findall(r"(?m)NEVER udp\.source: .*; (\d+) cases$", text([judged], {}, set())) == ["2"]
+    assert re.findall(r"(?m)NEVER 2: .* wrong source port.*; (\d+) cases$", text([judged], {}, set())) == ["2"]
     page = html([judged], {}, set(), {})
     assert re.findall(r"\((\d+) cases\)", page) == ["2"] and page.count("udp.data:2") == 1

@@ -52,7 +52,7 @@ class Bsdudp(Adapter):
     """4.4BSD's stack, by lines of `bsdudp run`."""
 
     name = "bsdudp"
-    has = ("out", "send", "mtu", "sockets", "connect")
+    has = ("out", "send", "mtu", "sockets", "connect", "hold")
     forks = False
     command = ["bsdudp", "run"]
     programs: Dict[int, Program] = {}
@@ -63,6 +63,7 @@ class Bsdudp(Adapter):
         self.program = self.programs[mtu]
         self.owed, self.count, self.fragments = 0, 0, False
         self.connected: Set[int] = set()
+        self.held: Set[int] = set()
         self.free: List[str] = []
         self.program.later("mbstat", self.free.append)
         self.open(0, 7)
@@ -71,6 +72,14 @@ class Bsdudp(Adapter):
         self.program.later(f"rx {hex_of(packet)}")
         self.fragments = self.fragments or packet[6:8] not in (b"\0\0", b"\x40\0")
         for socket in reversed(range(self.count)):
+            if socket not in self.held:
+                self.read(socket, 1)
+
+    def hold(self, socket: int) -> None:
+        self.held.add(socket)
+
+    def read(self, socket: int, count: int) -> None:
+        for _ in range(count):
             self.program.later(f"recvfrom {FIRST_DESCRIPTOR + socket} 65535", self.received(socket))
 
     def received(self, socket: int) -> Handler:

@@ -44,7 +44,7 @@ class Ethernet(Adapter):
     """The host, by its frames."""
 
     name = "bsdudp on an Ethernet"
-    has = ("out", "ping", "send", "mtu", "sockets", "connect")
+    has = ("out", "ping", "send", "mtu", "sockets", "connect", "hold")
     forks = False
 
     def boot(self, mtu: int) -> None:
@@ -53,6 +53,7 @@ class Ethernet(Adapter):
         self.host = bsdudp.Host(HOST, OWN_MAC, gateway=GATEWAY, mtu=mtu)
         self.sockets: "List[Socket]" = []
         self.connected: Set[int] = set()
+        self.held: Set[int] = set()
         self.owed = 0
         self.open(0, 7)
         self.host.tick(ANNOUNCED_TICKS)
@@ -75,11 +76,23 @@ class Ethernet(Adapter):
     def drain(self) -> None:
         """Reports the datagrams of the sockets, and the packets sent."""
         for number in reversed(range(len(self.sockets))):
-            while self.sockets[number].waiting is not None:
-                data, (address, port) = self.sockets[number].recvfrom()
-                self.got(address, port, data, number)
+            while number not in self.held and self.read(number, 1):
+                pass
         for packet in self.packets():
             self.out(packet)
+
+    def hold(self, socket: int) -> None:
+        self.held.add(socket)
+
+    def read(self, socket: int, count: int) -> bool:
+        """Also returns whether a datagram was there."""
+        it = self.sockets[socket]
+        was_there = it.waiting is not None
+        for _ in range(count):
+            if it.waiting is not None:
+                data, (address, port) = it.recvfrom()
+                self.got(address, port, data, socket)
+        return was_there
 
     def rx(self, packet: bytes) -> None:
         self.host.receive((ALL if is_group(packet[16:20].ljust(4, b"\0")) else OWN_MAC) + PEER_MAC + IPV4 + packet)

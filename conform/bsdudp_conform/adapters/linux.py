@@ -14,7 +14,7 @@ import socket
 import struct
 import subprocess
 import time
-from typing import Dict, List
+from typing import Dict, List, Set
 
 from .._packets import packet, udp
 from ..kit import Adapter, serve
@@ -40,7 +40,7 @@ class Linux(Adapter):
     """The kernel's UDP."""
 
     name = f"Linux {platform.release()}"
-    has = ("out", "ping", "send", "mtu", "sockets", "connect")
+    has = ("out", "ping", "send", "mtu", "sockets", "connect", "hold")
     settings: List[str] = []
     probe = b""
 
@@ -56,6 +56,7 @@ class Linux(Adapter):
             sysctl(f"ipv4/{name}", value)
         subprocess.run(["ip", "-batch", "-"], input=SETUP.format(mtu=mtu), text=True, check=True)
         self.sockets: Dict[int, socket.socket] = {}
+        self.held: Set[int] = set()
         self.open(0, 7)
         self.settled = bound(PROBE_PORT)
         self.read_tun()
@@ -100,17 +101,26 @@ class Linux(Adapter):
         self.drain()
 
     def drain(self) -> None:
-        for number, it in sorted(self.sockets.items(), reverse=True):
-            while True:
-                try:
-                    data, (address, port) = it.recvfrom(65536)
-                    self.got(address, port, data, number)
-                except BlockingIOError:
-                    break
-                except OSError as fault:
-                    print(f"note a socket's error: {fault}")
+        for number in sorted(self.sockets, reverse=True):
+            while number not in self.held and self.read(number, 1):
+                pass
         for packet in self.read_tun():
             self.out(packet)
+
+    def hold(self, socket: int) -> None:
+        self.held.add(socket)
+
+    def read(self, socket: int, count: int) -> bool:
+        """Also returns whether a datagram or an error was there."""
+        for number in range(count):
+            try:
+                data, (address, port) = self.sockets[socket].recvfrom(65536)
+                self.got(address, port, data, socket)
+            except BlockingIOError:
+                return number > 0
+            except OSError as fault:
+                print(f"note a socket's error: {fault}")
+        return True
 
     def read_tun(self) -> List[bytes]:
         found: List[bytes] = []

@@ -7,15 +7,16 @@ from __future__ import annotations
 from typing import List
 
 from .._case import Case
-from ._addresses import add_addresses
+from ._addresses import add_addresses, add_quotes
 from ._builder import Builder
 from ._datagrams import add_datagrams
 from ._fragments import add_fragments, add_keys_of_one_sum
 from ._headers import add_headers
+from ._held import add_held
 from ._limits import add_ages_after_others, add_ends_of_another, add_ends_of_several, add_limits
 from ._mixes import add_mixes, add_runs
 from ._overlaps import add_overlaps, add_overlaps_without_checksum
-from ._pings import add_pings
+from ._pings import add_pings, add_pings_with_options
 from ._users import add_empty_datagrams, add_peers, add_sockets_after_datagrams, add_users
 
 MIXES, RUNS = 400, 300
@@ -37,6 +38,9 @@ def make(seed: int = 1, mixes: int = MIXES) -> List[Case]:
         add_ages_after_others(to)
         add_sockets_after_datagrams(to)
         add_empty_datagrams(to)
+        add_quotes(to)
+        add_pings_with_options(to)
+        add_held(to)
     add_mixes(to, mixes)
     return to.cases
 

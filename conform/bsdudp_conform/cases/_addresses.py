@@ -2,8 +2,9 @@
 from __future__ import annotations
 
 from .._addresses import BROADCAST, HOST, LOOPBACK, ONES, OTHER, PEER, ZERO_BROADCAST, address, text_of
-from .._packets import CLOSED_PORT, DONT_FRAGMENT, packet, udp
-from ._builder import Builder
+from .._packets import CLOSED_PORT, DONT_FRAGMENT, MORE, packet, pieces, udp
+from ._builder import Builder, both_ways
+from ._headers import GOOD_OPTIONS
 
 OTHERS = [OTHER, *map(address, ("10.0.1.1", "10.1.0.1", "8.8.8.8", "10.0.1.255", "192.168.0.1"))]
 LOOPS = [LOOPBACK, address("127.0.0.2"), address("127.255.255.255")]
@@ -57,6 +58,23 @@ def add_errors(to: Builder) -> None:
     to.one("icmp.port", "padded", packet(closed, pad=bytes(20)))
     for protocol in (2, 6, 33, 132, 136, 253, 255):
         to.one("icmp.proto", f"protocol {protocol}", packet(to.data(24), proto=protocol))
+
+
+def add_quotes(to: Builder) -> None:
+    """Errors about datagrams with options, and about datagrams in fragments: what they quote."""
+    closed = udp(to.data(10), dport=CLOSED_PORT)
+    for name, options in GOOD_OPTIONS.items():
+        to.one("icmp.port", f"with options: {name}", packet(closed, options=options))
+    big = udp(to.data(40), dport=CLOSED_PORT)
+    for way, both in both_ways(pieces(big, [24], id=to.id)):
+        to.add("icmp.port", f"in 2 fragments, {way}", both)
+    for name in ("no operation, 4 times", "record route"):
+        made = packet(closed, proto=253, options=GOOD_OPTIONS[name])
+        to.one("icmp.proto", f"protocol 253 with options: {name}", made)
+    for way, both in both_ways(pieces(big, [24], id=to.id, proto=253)):
+        to.add("icmp.proto", f"protocol 253 in 2 fragments, {way}", both)
+    first = packet(big[:24], flags=MORE, id=to.id, options=b"\1\1\1\0")
+    to.add("icmp.reass", "the first of two with options, then 130 s", [first, 130000])
 
 
 def add_silence(to: Builder) -> None:

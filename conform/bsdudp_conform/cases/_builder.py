@@ -42,11 +42,14 @@ class Builder:
         yield
         self.random = kept
 
-    def add(self, rule: str, title: str, steps: Sequence[Given], mtu: int = 1500) -> None:
+    def add(
+        self, rule: str, title: str, steps: Sequence[Given], mtu: int = 1500, parts: Sequence[Case] = ()
+    ) -> None:
         """A case. A step may be given as a packet's bytes, or as milliseconds to wait."""
         assert rule in RULES, rule
         self._numbers[rule] += 1
-        self.cases.append(Case(rule, self._numbers[rule], title, tuple(map(step_of, steps)), mtu))
+        names = tuple((it.name, len(it.steps)) for it in parts)
+        self.cases.append(Case(rule, self._numbers[rule], title, tuple(map(step_of, steps)), mtu, names))
 
     def one(self, rule: str, title: str, made: bytes) -> None:
         """A case of a single packet."""

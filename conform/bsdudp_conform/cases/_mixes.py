@@ -31,6 +31,7 @@ def add_runs(to: Builder, count: int) -> None:
             "run",
             f"{len(chosen)} cases: {', '.join(it.name for it in chosen[:4])}{' ..' if len(chosen) > 4 else ''}",
             steps,
+            parts=chosen,
         )
 
 

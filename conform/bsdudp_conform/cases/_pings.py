@@ -91,6 +91,35 @@ def add_cut_requests(to: Builder) -> None:
         to.add("icmp.silent", f"the {which} half of a request", [half])
 
 
+# Each with whether the request has a source route: then the host may reply by that route, directly, or not at all.
+PING_OPTIONS = {
+    "no operation, 4 times": b"\1\1\1\1",
+    "end of list, 4 times": bytes(4),
+    "40 bytes of no operation": b"\1" * 40,
+    "unknown option 25": b"\x19\4\1\2",
+    "router alert": b"\x94\4\0\0",
+    "record route with room for 1": b"\7\7\4" + bytes(5),
+    "record route with room for 9": b"\7\x27\4" + bytes(37),
+    "record route with 2 of 3 recorded": b"\7\x0f\x0c\x0a\0\1\1\x0a\0\2\1" + bytes(5),
+    "record route, full": b"\7\7\x08\x0a\0\0\2\0",
+    "timestamps, room for 2": b"\x44\x0c\5\0" + bytes(8),
+    "timestamps with addresses, room for 1": b"\x44\x0c\5\1" + bytes(8),
+    "timestamps with addresses, 1 of 2 recorded": b"\x44\x14\x0d\1\x0a\0\1\1\0\0\0\1" + bytes(8),
+    "timestamps, full": b"\x44\x08\x09\0\0\0\0\1",
+    "timestamp asked of this host": b"\x44\x0c\5\3" + HOST.to_bytes(4, "big") + bytes(4),
+    "timestamp asked of another host": b"\x44\x0c\5\3" + OTHER.to_bytes(4, "big") + bytes(4),
+    "record route and timestamps": b"\7\7\4\0\0\0\0\x44\x0c\5\0" + bytes(9),
+    "loose source route at its end: may be answered": b"\x83\7\x08\x0a\0\0\x09\0",
+    "strict source route at its end: may be answered": b"\x89\7\x08\x0a\0\0\x09\0",
+}
+
+
+def add_pings_with_options(to: Builder) -> None:
+    for name, options in PING_OPTIONS.items():
+        rule = "icmp.echo.options" if "record" in name or "timestamp" in name else "icmp.echo"
+        to.one(rule, f"a request with options: {name}", carried(ping(), options=options))
+
+
 def add_unanswered(to: Builder) -> None:
     for it in (0, 5, LOOPBACK, BROADCAST, ONES, address("224.0.0.1")):
         to.one("icmp.silent", f"a request from {text_of(it)}", carried(ping(), it))

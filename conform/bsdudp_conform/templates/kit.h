@@ -17,14 +17,19 @@
 
 struct kit_stack {
     const char *name;                                     /* "lwIP 2.1.3" */
-    const char *has;                                      /* of: out ping send mtu sockets connect gateway; or "" */
+    const char *has;                                      /* of: out ping send mtu sockets connect hold offload
+                                                             reassembly gateway; or "" */
     void (*boot)(int mtu);                                /* 10.0.0.1/24; socket 0 on port 7 of any address */
     void (*rx)(const uint8_t *packet, int length);        /* a packet comes from the wire, from its IPv4 header on */
     void (*wait)(int ms);                                 /* time passes */
     void (*end)(void);                                    /* the case is over; may be NULL */
     void (*socket)(int number, int port);                 /* has sockets: another one, on a port */
-    void (*connect)(int number, uint32_t addr, int port); /* has connect: a socket is connected */
-    int (*send)(int number, uint32_t addr, int port, const uint8_t *bytes, int length); /* has send; 0: refused */
+    void (*connect)(int number, uint32_t addr, int port); /* has connect: a socket is connected. Call kit_refused if
+                                                             the stack refuses */
+    /* has send; 0: refused. If the socket is connected, this is its peer's address: send without one */
+    int (*send)(int number, uint32_t addr, int port, const uint8_t *bytes, int length);
+    void (*hold)(int number);                             /* has hold: from now on, a socket is read only by read */
+    void (*read)(int number, int count);                  /* has hold: reads up to this many, and calls kit_got_at */
 };
 
 static int kit_step; /* the number of the step that is played */
@@ -69,6 +74,12 @@ static inline void kit_out(const uint8_t *packet, int length)
     putchar('\n');
 }
 
+/* Reports that the stack refused to connect a socket. For a send, return 0. */
+static inline void kit_refused(void)
+{
+    printf("refused %d\n", kit_step);
+}
+
 /* Reads hexadecimal bytes into a block of exactly their length, so that a tool detects reads beyond it. */
 static uint8_t *kit_bytes(const char *text, int *length)
 {
@@ -108,9 +119,13 @@ static void kit_play_line(const struct kit_stack *it, char *line)
         it->socket(atoi(word[1]), atoi(word[2]));
     } else if (strcmp(line, "connect") == 0 && it->connect) {
         it->connect(atoi(word[1]), kit_addr(word[2]), atoi(word[3]));
+    } else if (strcmp(line, "hold") == 0 && it->hold) {
+        it->hold(atoi(word[1]));
+    } else if (strcmp(line, "read") == 0 && it->read) {
+        it->read(atoi(word[1]), atoi(word[2]));
     } else if (strcmp(line, "send") == 0 && it->send) {
         uint8_t *block = kit_bytes(word[4], &length);
-        if (!it->send(atoi(word[1]), kit_addr(word[2]), atoi(word[3]), block, length)) printf("refused %d\n", kit_step);
+        if (!it->send(atoi(word[1]), kit_addr(word[2]), atoi(word[3]), block, length)) kit_refused();
         free(block);
     }
 }
