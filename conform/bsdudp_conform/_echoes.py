@@ -151,17 +151,17 @@ def options_of_reply(step: int, asked: Request, header: Header) -> Iterator[Brea
         if name is None:
             continue
         returned = next((it for it in split(header.options) if it[0] == option[0]), None)
-        words = f"is without the request's {name}" if returned is None else what_differs(option, returned, name)
+        words = "isn't returned" if returned is None else what_differs(option, returned)
         if words:
             expected = f"the request's {name} with {text_of(HOST)}"
-            yield Breach(SHOULD, "icmp.echo.options", f"an Echo Reply {words}", step, expected)
+            yield Breach(SHOULD, "icmp.echo.options", f"the {name} of a ping {words}", step, expected)
 
 
-def what_differs(option: bytes, returned: bytes, name: str) -> Optional[str]:
+def what_differs(option: bytes, returned: bytes) -> Optional[str]:
     """What is wrong with a record route or timestamp that came back, or None. The host may have added itself more than
     once."""
     if len(option) != len(returned):
-        return f"has a {name} of another length"
+        return "is returned with another length"
     begin = 3 if option[0] == RECORD_ROUTE else 4
     kind = 0 if option[0] == RECORD_ROUTE else option[3] & 15
     size = 4 if option[0] == RECORD_ROUTE or kind == 0 else 8
@@ -170,10 +170,10 @@ def what_differs(option: bytes, returned: bytes, name: str) -> Optional[str]:
     own = HOST.to_bytes(4, "big")
     named = option[old : old + 4] if kind == PRESPECIFIED else own
     if returned[begin:old] != option[begin:old] or new < old or new > len(option):
-        return f"has another {name} than the request up to the pointer"
+        return "is returned with other entries"
     if old + size <= len(option) and named == own and not entries:
-        return f"has the request's {name}, which isn't brought up to date"
+        return "isn't brought up to date"
     if (option[0] == RECORD_ROUTE or kind in (1, PRESPECIFIED)) and any(it[:4] != own for it in entries):
-        return f"has another address than the host's in its {name}"
+        return "gets another address than the host's"
     return None
 

@@ -46,7 +46,7 @@ FAULTS = [
     (
         "a record route is returned as it came",
         [("found += brought_up_to_date(options[at : at + size])", "found += options[at : at + size]")],
-        "an Echo Reply has the request's record route, which isn't brought up to date",
+        "the record route of a ping isn't brought up to date",
     ),
     (
         "a ping with options gets no reply",
