@@ -85,8 +85,7 @@ function rowOf(step, i) {
     h("span", { class: "of-screen" }, h("code", {}, step.kind === "bad" ? cut(step.line, 24) || "an empty line"
       : step.verb), " ", step.tells), h("code", { class: "of-print" }, groupedDigits(cut(step.line, 400))),
     h("span", { class: "after" },
-      h("code", { class: step.isOk ? "answer" : "answer no" }, step.kind === "bad" ? step.says || step.reply
-        : briefReply(step, step.kind === "ask" ? 60 : 44)),
+      h("code", { class: step.isOk ? "answer" : "answer no" }, replyIn(step)),
       badgesOf(step), markOf(step), h("span", { class: "delta" }, delta))];
   const alone = [isExercise() && note && h("span", { class: "row-note" }, note), askedLine(step),
     h("span", { class: "after" }, h("span", { class: "answer" }, isAsked ? "a question" : "hidden"))];
@@ -96,7 +95,15 @@ function rowOf(step, i) {
     h("span", { class: "what" }, isHidden ? alone : told)));
 }
 
-// A reply in a row. A datagram whose bytes repeat is written as runs.
+// A reply in a row: in print it's whole.
+function replyIn(step) {
+  const said = step.says || step.reply;
+  const brief = step.kind === "bad" ? said : briefReply(step, step.kind === "ask" ? 60 : 44);
+  return brief === said ? said
+    : [h("span", { class: "of-screen" }, brief), h("span", { class: "of-print" }, cut(said, 400))];
+}
+
+// A reply on the screen. A datagram whose bytes repeat is written as runs.
 function briefReply(step, most) {
   const said = step.says || step.reply, runs = step.data && runsOf(step.data, 32);
   return runs ? `${said.split(" ").slice(0, 3).join(" ")} ${runs}` : cut(said, most);

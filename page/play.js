@@ -150,10 +150,10 @@ const answerOf = it => (it.fault ? { says: it.fault, reply: it.fault, below: [],
   : { says: it.reply, below: linesOf(it.below).map(lineBelow), isOk: !it.reply.startsWith("error ") });
 // The fate of a packet is indented below the packet, as in bsdplay's output.
 const lineBelow = line => line.replace(/^ {4}/, "");
-// In a hand-in, an open line expects `?`.
+// In a hand-in, an open line expects `?`. `wanted` has the digits of bytes that are written as a text.
 function wantedOf(it, text) {
   const { wanted } = partsOf(text);
-  return { expected: wanted === "?" ? null : wanted, isMet: it.met };
+  return { expected: wanted === "?" ? null : wanted, wanted: it.expected, isMet: it.met };
 }
 
 // A line without lines of `bsdudp run`.

@@ -65,6 +65,7 @@ def right():
     yield "own_comments.txt", "# by Ben\n\n" + TEXT + "# that's all\n", WHOLE
     yield "numbered_error.txt", TEXT.replace("error EWOULDBLOCK", "error 35 EWOULDBLOCK"), WHOLE
     yield "more_right.txt", TEXT + "socket => ok 4\n#? Was it hard => no\n", WHOLE
+    yield "punctuation.txt", changed({FIRST: KEY[FIRST] + ".", LAST: KEY[LAST] + ","}), WHOLE
     yield "reads_files.txt", TEXT + "rx pcap /etc/hostname => error it can't be opened\n", WHOLE
 
 

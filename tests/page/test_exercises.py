@@ -146,3 +146,23 @@ def test_a_check_without_an_answer_says_so(name, hint, at_width):
     browser.run("document.querySelector('.predict .main').click()")
     seen = "[...document.querySelectorAll('.predict [role=alert]')].filter(it => it.getClientRects().length)"
     assert browser.run(f"{seen}.map(it => it.textContent)") == [hint] and browser.run("questionOf(page.at) !== null")
+
+
+@pytest.mark.parametrize(
+    "guess, said",
+    [
+        ("3 packets ..", "As expected."),
+        ("3 packets the next of 572 bytes.", "As expected."),
+        ("2 packets ..", "Expected: 2 packets ..; “3” is right, not “2”."),
+        ("3 packets", "Expected: 3 packets; “the” is missing."),
+        ("3 packets, the next of 572 bytes each", "“each” is too much."),
+    ],
+)
+def test_a_guess_is_judged_by_its_words(guess, said, at_width):
+    """`show queue` replies `3 packets, the next of 572 bytes`. A mark of punctuation isn't compared."""
+    browser = at_width(1280)
+    browser.run("anew()" if browser.run("isExercise()") else "0")
+    browser.run("open('run', { name: 'exercise_04_fragments_out' })")
+    place = browser.run("page.steps.findIndex(it => it.line === 'show queue')")
+    browser.run(f"expectHere({place}, {json.dumps(guess)}); select({place})")
+    assert said in browser.run("byId('look').querySelector('.lead').textContent")

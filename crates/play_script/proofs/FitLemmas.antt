@@ -39,7 +39,7 @@ pub fits-step : (wanted reply_line more rest : List (List ℕ)) (word got : List
     got ∷ rest
     → outcomes.is_rest wanted ≡ false
     → outcomes.fits_words wanted reply_line
-    ≡ ((bytes_eq word (codes "_") || bytes_eq word got) && outcomes.fits_words more rest)
+    ≡ (outcomes.is_same_word word got && outcomes.fits_words more rest)
 fits-step wanted reply_line more rest word got e f none =
     rw (e, f) (
     let mine : outcomes.is_rest (word ∷ more) ≡ false = rw e at none in rw mine refl
@@ -48,7 +48,7 @@ fits-step wanted reply_line more rest word got e f none =
 -- more words are expected than the reply has, or fewer
 pub fits-longer : (wanted reply_line more : List (List ℕ)) (word got : List ℕ) → wanted ≡ word ∷ more → reply_line ≡ got
     ∷ []
-    → (more ≡ [] → ⊥) → outcomes.is_rest wanted ≡ false → (bytes_eq word (codes "_") || bytes_eq word got) ≡ true
+    → (more ≡ [] → ⊥) → outcomes.is_rest wanted ≡ false → outcomes.is_same_word word got ≡ true
     → outcomes.fits_words wanted reply_line ≡ outcomes.is_rest more
 fits-longer wanted reply_line more word got e f some none same =
     rw (fits-step wanted reply_line more [] word got e f none, same) (fits-end more some)

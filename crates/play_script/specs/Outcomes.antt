@@ -1,5 +1,5 @@
 -- The reply to a line, with the causes for which packets were dropped (this project's own).
-use Rattle.std.specs.Prelude.{ℕ, ◌&&◌, ◌||◌, Bool, true, false, List, [], ◌∷◌, ◌++◌, drop, flat_map, if◌then◌else◌, codes, bytes_eq, Option, Some, None}
+use Rattle.std.specs.Prelude.{ℕ, ◌==◌, ◌-◌, ◌&&◌, ◌||◌, Bool, true, false, List, [], ◌∷◌, ◌++◌, length, get_or, drop, take, flat_map, if◌then◌else◌, codes, bytes_eq, Option, Some, None}
 use Rattle.flat_model.specs.Machine.Count.{counter_of}
 use Rattle.flat_model.specs.Machine.Event.{Reply}
 use Rattle.flat_model.specs.Scripts.Grammar.{words}
@@ -41,11 +41,23 @@ is_rest [] = false
 is_rest (word ∷ []) = bytes_eq word (codes "..")
 is_rest (word ∷ next ∷ words) = false
 
+-- a mark of punctuation: a comma, a full stop, a colon or a semicolon
+abbrev pub is_mark : ℕ → Bool
+is_mark byte = byte == 44 || (byte == 46 || (byte == 58 || byte == 59))
+
+-- a word without the mark that it ends with
+abbrev pub bare : List ℕ → List ℕ
+bare word = if is_mark (get_or word (length word - 1) 0) then take (length word - 1) word else word
+
+-- `_` matches any word, and a mark at the end of a word doesn't count
+abbrev pub is_same_word : List ℕ → List ℕ → Bool
+is_same_word word got = bytes_eq word (codes "_") || bytes_eq (bare word) (bare got)
+
 -- The words match one by one: `_` matches any word, and `..` at the end matches any rest, even an empty one.
 abbrev pub fits_words : List (List ℕ) → List (List ℕ) → Bool
 fits_words [] [] = true
 fits_words (word ∷ words) (got ∷ gots) =
-    is_rest (word ∷ words) || ((bytes_eq word (codes "_") || bytes_eq word got) && fits_words words gots)
+    is_rest (word ∷ words) || (is_same_word word got && fits_words words gots)
 fits_words [] (got ∷ gots) = false
 fits_words (word ∷ words) [] = is_rest (word ∷ words)
 

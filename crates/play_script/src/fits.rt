@@ -16,11 +16,30 @@ fn is_rest(wanted: &[u8]) -> bool
     }
 }
 
-/// Returns whether a word is the expected one, or the expected one is `_`.
-fn is_same(word: &[u8], got: &[u8]) -> bool
-    ensures { result ≡ (bytes_eq word.now (codes "_") || bytes_eq word.now got.now) }
+/// Returns whether a byte is a mark of punctuation with which a word may end.
+fn is_mark(byte: u8) -> bool
+    ensures { result ≡ outcomes.is_mark byte }
 {
-    word == b"_".as_slice() || word == got
+    byte == b',' || (byte == b'.' || (byte == b':' || byte == b';'))
+}
+
+/// Returns a word without the mark that it ends with.
+fn bare(word: &[u8]) -> &[u8]
+    ensures { result.now ≡ outcomes.bare word.now }
+{
+    let len = word.len();
+    if len != 0 && is_mark(word[len - 1]) {
+        return &word[..len - 1];
+    }
+    word
+}
+
+/// Returns whether a word of a reply matches the expected one, which `_` always does. A mark at the end of either isn't
+/// compared.
+pub fn is_same_word(word: &[u8], got: &[u8]) -> bool
+    ensures { result ≡ outcomes.is_same_word word.now got.now }
+{
+    word == b"_".as_slice() || bare(word) == bare(got)
 }
 
 /// The same, if both words are `error`.
@@ -42,7 +61,7 @@ fn fits(wanted: &[u8], reply_line: &[u8]) -> bool
         }
         let (word, more) = first_word(left);
         let (got, rest) = first_word(got_left);
-        if is_same(word, got) {
+        if is_same_word(word, got) {
             match (more, rest) {
                 (Some(more), Some(rest)) => {
                     left = more;
@@ -78,7 +97,7 @@ fn fits_unnumbered(wanted: &[u8], reply_line: &[u8]) -> bool
 }
 
 /// Returns whether a reply meets an expectation word by word: `_` matches any word, `..` at the end matches any rest,
-/// even an empty one, and the number of an error may be left out.
+/// even an empty one, a mark at the end of a word isn't compared, and the number of an error may be left out.
 pub fn meets(wanted: &[u8], reply_line: &[u8]) -> bool
     ensures { result ≡ outcomes.meets_reply wanted.now reply_line.now }
 {

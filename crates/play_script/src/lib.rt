@@ -30,7 +30,7 @@ pub use action::moved_by_call;
 pub use ask::Ask;
 pub use capture_out::Capture;
 pub use fault::SettingFault;
-pub use fits::meets;
+pub use fits::{is_same_word, meets};
 pub use flat_model::Config;
 pub use law::{asks_law, runs_law};
 pub use line::{Kind, Line, read_part, shift_column};

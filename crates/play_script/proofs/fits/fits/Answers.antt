@@ -18,7 +18,7 @@ returns-in-Some-None c =
     ∙ sym
     (c.words.invariant
     ∙ fits-longer _ _ _ word got wanted reply_line (words-some c.in-Some-None.more.now) none
-    (sym c.is_same.ensures ∙ c.if-is_same.true))
+    (sym c.is_same_word.ensures ∙ c.if-is_same_word.true))
 
 pub returns-in-None-Some : goal.returns-in-None-Some
 returns-in-None-Some c =
