@@ -185,12 +185,84 @@ def test_a_small_pool_does(pools):
     assert pools["0.1"]["512"] == 0
 
 
-def test_program_of_the_page(plain, prefix, tmp_path):
-    """The page's commands build and run it with what is installed."""
+PAGE = (TOP / "docs/ns3.md").read_text(encoding="utf-8")
+
+
+def of_page(program, plain, prefix, folder):
+    """Returns the output of a program that the page's commands build with what is installed."""
     passed("cmake", "--install", plain)
-    page = (TOP / "docs/ns3.md").read_text(encoding="utf-8")
-    program = re.search(r'(?m)(?:^    #include "ns3.*\n)(?:^    .*\n|^\n)*', page)[0]
-    (tmp_path / "program.cc").write_text(textwrap.dedent(program), encoding="utf-8")
-    command = re.search(r"(?m)^    export LD_RUN_PATH.*\n.*$", page)[0].replace("~/.local", str(prefix))
-    monkey = {**os.environ, "PKG_CONFIG_PATH": f"{prefix}/lib/pkgconfig"}
-    assert passed("bash", "-c", command, cwd=tmp_path, env=monkey).strip() == "received 1024 bytes"
+    (folder / "program.cc").write_text(program, encoding="utf-8")
+    command = re.search(r"(?m)^    export LD_RUN_PATH.*\n.*$", PAGE)[0].replace("~/.local", str(prefix))
+    environment = {**os.environ, "PKG_CONFIG_PATH": f"{prefix}/lib/pkgconfig"}
+    return passed("bash", "-c", command, cwd=folder, env=environment).strip()
+
+
+def piece(of):
+    """Returns the indented lines of the page that begin with such a line."""
+    return textwrap.dedent(re.search(rf"(?m)^    {of}.*\n(?:^    .*\n|^\n)*", PAGE)[0])
+
+
+def test_program_of_the_page(plain, prefix, tmp_path):
+    assert of_page(piece('#include "ns3'), plain, prefix, tmp_path) == "received 1024 bytes"
+
+
+ROUTED = """#include "ns3/internet-module.h"
+#include "ns3/bsdudp-module.h"
+#include "ns3/core-module.h"
+#include "ns3/network-module.h"
+#include "ns3/point-to-point-module.h"
+#include <iostream>
+using namespace ns3;
+
+SIGNATURES
+void
+Dropped(Ptr<const Packet> packet, const std::string& cause)
+{
+    std::cout << "dropped " << packet->GetSize() << " bytes, " << cause << std::endl;
+}
+
+void
+DroppedAt(std::string path, Ptr<const Packet> packet, const std::string& cause)
+{
+    std::cout << "at " << path << std::endl;
+}
+
+int
+main()
+{
+ROUTERS
+    for (uint32_t i : {0, 1})
+        ends.Get(i)->GetObject<BsdudpStack>()->TraceConnectWithoutContext("Drop", MakeCallback(&Dropped));
+    Config::Connect("/NodeList/*/$ns3::BsdudpStack/Drop", MakeCallback(&DroppedAt));
+    auto sender = Socket::CreateSocket(ends.Get(0), TypeId::LookupByName("ns3::UdpSocketFactory"));
+    sender->Bind();
+    sender->SendTo(Create<Packet>(100), 0, InetSocketAddress("10.1.3.2", 9));
+    sender->SendTo(Create<Packet>(9217), 0, InetSocketAddress("10.1.3.2", 9));
+    Simulator::Run();
+    Simulator::Destroy();
+}
+"""
+
+
+def test_routers_and_signatures_of_the_page(plain, prefix, tmp_path):
+    """The page's static routes lead a datagram to a closed port of the other end, and both signatures can be
+    connected. The first send that is too long is a warning."""
+    program = ROUTED.replace("SIGNATURES", piece("void Dropped")).replace("ROUTERS", piece("NodeContainer ends"))
+    lines = of_page(program, plain, prefix, tmp_path).splitlines()
+    too_long = "send: a datagram of 9217 bytes, and at most 9216 can be sent"
+    assert sorted(lines) == sorted([
+        f"dropped 9217 bytes, {too_long}",
+        "at /NodeList/0/$ns3::BsdudpStack/Drop",
+        "dropped 128 bytes, udp.noport: no socket has the port",
+        "at /NodeList/1/$ns3::BsdudpStack/Drop",
+        f"bsdudp: node 0: not sent: {too_long}. GetTooLong() counts further ones",
+    ])  # fmt: skip
+
+
+def test_parameters_of_trace_sources():
+    """The page's parameters are those of the header."""
+    header = (HOME / "model/bsdudp-stack.h").read_text(encoding="utf-8")
+    for name, member in (("Tx", "m_txTrace"), ("Drop", "m_dropTrace"), ("Delivered", "m_deliveredTrace")):
+        (of_table,) = re.findall(rf"(?m)^\| `{name}` \| `(.*?)` \|", PAGE)
+        (of_header,) = re.findall(rf"TracedCallback<(.*)> {member};", header)
+        assert of_table == of_header

@@ -19,6 +19,7 @@
 
 #include <algorithm>
 #include <cstring>
+#include <iostream>
 #include <sstream>
 
 namespace ns3
@@ -262,6 +263,12 @@ BsdudpStack::GetCounter(const std::string& name) const
     return value;
 }
 
+uint64_t
+BsdudpStack::GetTooLong() const
+{
+    return m_tooLong;
+}
+
 struct bsdudp_mbstat
 BsdudpStack::GetUsage() const
 {
@@ -286,6 +293,10 @@ BsdudpStack::Send(int fd, const bsdudp_addr* to, Ptr<Packet> packet)
     packet->CopyData(room.data(), length);
     const int answer = to ? bsdudp_sendto(&m_stack, fd, to, room.data(), length)
                           : bsdudp_send(&m_stack, fd, room.data(), length);
+    if (answer == -BSDUDP_EMSGSIZE)
+    {
+        NoteTooLong(packet);
+    }
     const auto leaving = TakePackets(packet);
     const auto readers = NoteArrivals(packet, packet->Copy(), 0);
     Settle(packet, before);
@@ -300,6 +311,28 @@ BsdudpStack::Send(int fd, const bsdudp_addr* to, Ptr<Packet> packet)
         Simulator::ScheduleNow(&BsdudpSocket::Wake, socket);
     }
     return answer;
+}
+
+void
+BsdudpStack::NoteTooLong(Ptr<const Packet> packet)
+{
+    std::ostringstream cause;
+    if (packet->GetSize() > BSDUDP_DATAGRAM)
+    {
+        cause << "send: a datagram of " << packet->GetSize() << " bytes, and at most "
+              << BSDUDP_DATAGRAM << " can be sent";
+    }
+    else
+    {
+        cause << "send: a broadcast of " << packet->GetSize() << " bytes, longer than the MTU";
+    }
+    if (m_tooLong++ == 0)
+    {
+        std::clog << "bsdudp: node " << m_node->GetId() << ": not sent: " << cause.str()
+                  << ". GetTooLong() counts further ones" << std::endl;
+    }
+    NS_LOG_INFO("dropped: " << cause.str());
+    m_dropTrace(packet, cause.str());
 }
 
 bool

@@ -130,6 +130,13 @@ class BsdudpStack : public Object
     uint64_t GetCounter(const std::string& name) const;
 
     /**
+     * \return how many sends failed because the datagram was too long: more than 9,216 bytes, or a
+     * broadcast that is longer than the MTU. Nothing is sent then, and no counter of the library
+     * goes up
+     */
+    uint64_t GetTooLong() const;
+
+    /**
      * \return how many mbufs and clusters there are, and how many of them are free
      */
     struct bsdudp_mbstat GetUsage() const;
@@ -199,6 +206,13 @@ class BsdudpStack : public Object
      * \return the library's result
      */
     int Send(int fd, const bsdudp_addr* to, Ptr<Packet> packet);
+
+    /**
+     * \brief Counts and reports a send that failed because the datagram was too long. The first one
+     * of a stack is a warning on std::clog.
+     * \param packet the data
+     */
+    void NoteTooLong(Ptr<const Packet> packet);
 
     /**
      * \brief A packet arrived: the node's handler of IPv4.
@@ -309,6 +323,7 @@ class BsdudpStack : public Object
     Time m_start;                                ///< when the stack was booted
     EventId m_tickEvent;                         ///< the next tick, if one is needed
     std::map<int, BsdudpSocket*> m_sockets;      ///< the open sockets by their descriptors
+    uint64_t m_tooLong{0};                       ///< sends that were too long
     BsdudpFragments m_fragments;                 ///< the packets of unfinished datagrams
     TracedValue<uint32_t> m_unfinished{0};       ///< how many datagrams wait for fragments
     TracedCallback<Ptr<const Packet>> m_txTrace; ///< packets that leave

@@ -122,6 +122,84 @@ CheckPoor()
     pair.Run(1, "a send that finds no buffers");
 }
 
+/// Sends that are too long: each is counted and reported, and the first one is a warning.
+void
+CheckTooLong()
+{
+    Pair pair(BOTH);
+    Traced client(pair.client);
+    std::ostringstream said;
+    auto* clog = std::clog.rdbuf(said.rdbuf());
+    auto sender = Open(pair.nodes.Get(0));
+    sender->Bind();
+    for (uint32_t length : {9216, 9217, 60000})
+    {
+        sender->SendTo(Create<Packet>(length), 0, At("10.0.0.2", 7));
+    }
+    sender->SetAllowBroadcast(true);
+    sender->SendTo(Create<Packet>(1473), 0, At("10.0.0.255", 7));
+    pair.Run(1, "sends that are too long");
+    std::clog.rdbuf(clog);
+    Same(pair.client->GetTooLong(), 3U, "sends that are too long");
+    Same(pair.client->GetCounter("ip.localout"), 1U, "sends that leave");
+    Same(client.drops["send"], 3U, "Drop for sends that are too long");
+    const std::string text = said.str();
+    Check(text.find("node 0: not sent: send: a datagram of 9217 bytes") != std::string::npos,
+          "a warning: " + text);
+    Same(std::count(text.begin(), text.end(), '\n'), 1, "lines of the warning");
+}
+
+/// Two nodes with bsdudp, and two routers with ns-3's own stack and static routes between them, as
+/// docs/ns3.md says.
+void
+CheckRouters()
+{
+    NodeContainer ends;
+    NodeContainer routers;
+    ends.Create(2);
+    routers.Create(2);
+    InternetStackHelper().Install(routers);
+    PointToPointHelper link;
+    link.SetDeviceAttribute("DataRate", StringValue("10Mbps"));
+    auto near = link.Install(ends.Get(0), routers.Get(0));
+    auto middle = link.Install(routers);
+    auto far = link.Install(routers.Get(1), ends.Get(1));
+    Ipv4AddressHelper address("10.1.1.0", "255.255.255.0");
+    auto client = BsdudpHelper().Install(near.Get(0), "10.1.1.1", "255.255.255.0");
+    address.NewAddress();
+    address.Assign(NetDeviceContainer(near.Get(1)));
+    address.NewNetwork();
+    address.Assign(middle);
+    address.NewNetwork();
+    address.Assign(NetDeviceContainer(far.Get(0)));
+    auto server = BsdudpHelper().Install(far.Get(1), "10.1.3.2", "255.255.255.0");
+    Ipv4StaticRoutingHelper routes;
+    auto first = routes.GetStaticRouting(routers.Get(0)->GetObject<Ipv4>());
+    first->AddNetworkRouteTo("10.1.3.0", "255.255.255.0", "10.1.2.2", 2);
+    auto second = routes.GetStaticRouting(routers.Get(1)->GetObject<Ipv4>());
+    second->AddNetworkRouteTo("10.1.1.0", "255.255.255.0", "10.1.2.1", 1);
+    auto reader = Open(ends.Get(1));
+    reader->Bind(At("0.0.0.0", 7));
+    auto sender = Open(ends.Get(0));
+    sender->Connect(At("10.1.3.2", 7));
+    Simulator::Schedule(Seconds(1), [sender] {
+        sender->Send(Create<Packet>(3000));
+    });
+    Simulator::Schedule(Seconds(2), [reader] {
+        Address from;
+        auto packet = reader->RecvFrom(from);
+        Check(packet && packet->GetSize() == 3000, "a datagram over two routers");
+        reader->SendTo(Create<Packet>(5), 0, from);
+    });
+    Simulator::Schedule(Seconds(3), [sender] {
+        auto packet = sender->Recv();
+        Check(packet && packet->GetSize() == 5, "a reply over two routers");
+    });
+    Simulator::Stop(Seconds(4));
+    Simulator::Run();
+    Simulator::Destroy();
+}
+
 /// Packets that the device rejects because its queue is full.
 void
 CheckFullDevice()
@@ -151,6 +229,8 @@ void
 CheckStacks()
 {
     CheckTraces();
+    CheckTooLong();
+    CheckRouters();
     CheckFlood();
     CheckPoor();
     CheckFullDevice();
