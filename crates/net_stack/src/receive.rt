@@ -1,9 +1,8 @@
 //! A packet from the wire.
-ghost use Rattle.std.specs.Prelude.{◌≡◌, ◌≤◌, [], ◌∷◌, None, length, true, false, is_some, IfSome};
+ghost use Rattle.std.specs.Prelude.{◌≡◌, ◌≤◌, [], None, length, true, false, is_some, IfSome};
 ghost use Rattle.flat_model.specs.Amounts.Layout.{need_of, wire};
 ghost use Rattle.flat_model.specs.Machine.Arrival as flat;
 ghost use Rattle.flat_model.specs.Packets.Header.{head_fault};
-ghost use Rattle.mbuf_chain.specs.Chain.{chain_of, string};
 ghost use Rattle.chain_ops.specs.Stored.{Has};
 ghost use Rattle.ip_out.specs.Headings.{head_in};
 ghost use Rattle.ip_reass.specs.Arrivals.{flat_head};
@@ -11,7 +10,7 @@ ghost use Rattle.ip_reass.specs.AtOnce.{fits_at_once};
 ghost use Rattle.ip_reass.specs.Table.{IsReady};
 ghost use Rattle.sock_calls.specs.Whole.{HasSpace};
 ghost use Rattle.net_stack.specs.Inside.Arrivals.{IsPacketStored, IsWholeForUs, is_ours_or_all};
-ghost use Rattle.net_stack.specs.Inside.Hosts.{CanStore, HasAsked, ArrivesInChain, PacketArrives, PartsFit, IsProcessed};
+ghost use Rattle.net_stack.specs.Inside.Hosts.{CanStore, HasAsked, PacketArrives, PartsFit, IsProcessed};
 
 use crate::host::Host;
 use chain_ops::theorems::stored_layout;
@@ -231,8 +230,8 @@ impl Host {
         }
     }
 
-    /// Receives a fragment for this machine: copies the packet into a new chain, which arrives. Its buffers must be
-    /// free.
+    /// Receives a fragment for this machine: copies the packet into a new chain, which arrives as in `arrive`. Its
+    /// buffers must be free.
     #[inline(never)]
     // It reads the header again: if the header were passed on, every packet would store it in memory.
     fn store_fragment(&mut self, headed: Headed<'_>)
@@ -244,19 +243,6 @@ impl Host {
     {
         let head = headed.head();
         let chain = put_packet(&mut self.pool, headed.packet);
-        self.arrive_fragment(chain, head);
-    }
-
-    /// A fragment for this machine, whose header was read already, arrives in a chain: see `arrive`.
-    fn arrive_fragment(&mut self, chain: Chain, head: IpHead)
-        requires fit { PartsFit self.old (chain ∷ []) }
-        requires headed { (chain_of self.old.pool chain).front.header ≡ true }
-        requires faultless { head_fault (string (chain_of self.old.pool chain)) ≡ None }
-        requires says { head ≡ head_in (string (chain_of self.old.pool chain)) }
-        requires fragment { flat.is_fragment (flat_head head) ≡ true }
-        requires ours { is_ours_or_all self.old.socks.pcbs.addr self.old.socks.pcbs.bcast head.dst ≡ true }
-        ensures { ArrivesInChain self.old chain self.new }
-    {
         self.net.counters.count(Counter::IpTotal);
         trim_back(&mut self.pool, &chain, u32::from(head.total));
         self.take_fragment(chain, head);
