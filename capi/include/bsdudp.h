@@ -63,7 +63,7 @@ struct bsdudp_config {
     uint32_t mbufs;    /* the number of mbufs in the pool, of 128 bytes each: 1 to 65535 */
     uint32_t clusters; /* the number of clusters in the pool, of 2,048 bytes each: 0 to 4096 */
     uint16_t mtu;      /* the longest packet that the stack sends to the link: 68 to 4352 bytes */
-    uint16_t first_id; /* the IP identification of the first datagram that it sends */
+    uint16_t first_id; /* the IP identification of the first datagram that it sends, and of a host's first ICMP reply */
 };
 
 /* The address a.b.c.d: a constant if its bytes are. */
@@ -127,7 +127,7 @@ struct bsdudp_link {
 struct bsdudp_tallies {
     uint64_t ignored;         /* frames for other hosts, or of a type other than IPv4 and ARP */
     uint64_t martians;        /* packets with an address that cannot occur on a link (RFC 1122, 3.2.1.3) */
-    uint64_t bad_arp;         /* ARP packets not for Ethernet and IPv4, or from the host itself, or from a broadcast */
+    uint64_t bad_arp;         /* ARP packets not for Ethernet and IPv4, or from its own, a group's or no address */
     uint64_t conflicts;       /* ARP packets of another host that claims this host's address */
     uint64_t replies_dropped; /* ARP requests for the host without space for the reply: at most 8 replies are queued */
     uint64_t no_route;        /* packets to another network, without a gateway */
@@ -137,7 +137,7 @@ struct bsdudp_tallies {
     uint64_t echoes;          /* echo requests that got a reply */
     uint64_t unreachable;     /* datagrams for which the host sent "port unreachable" to the sender */
     uint64_t limited;         /* datagrams for which it did not: it sends at most 10 between two ticks */
-    uint64_t icmp_dropped;    /* ICMP replies dropped because another reply was still queued */
+    uint64_t icmp_dropped;    /* ICMP replies dropped for another one, or because no reply gave the hardware address */
 };
 
 /* A neighbour: its hardware address is known, or the host has requested it. */
@@ -219,7 +219,7 @@ size_t bsdudp_memory(const struct bsdudp_config *config);
    -BSDUDP_ENXIO if the handle already holds a stack, which continues to run.
    -BSDUDP_EDOM if `config->mbufs` is not 1 to 65535, or `config->clusters` is above 4096.
    -BSDUDP_EINVAL if the MTU or an address is out of its range, both addresses are equal, or `memory` is not aligned.
-   -BSDUDP_ENOMEM if `len` is less than BSDUDP_MEMORY. */
+   -BSDUDP_ENOMEM if `len` is too small. BSDUDP_MEMORY bytes are always enough; up to 128 bytes less may be, too. */
 int bsdudp_boot_in(struct bsdudp *stack, const struct bsdudp_config *config, void *memory, size_t len);
 
 /* Boots a stack as bsdudp_boot_in does, in memory from malloc, which bsdudp_end frees. This call is in an object file
@@ -294,9 +294,10 @@ int bsdudp_tick_until(struct bsdudp *stack, uint64_t now, uint64_t *due);
 /* The size in bytes of the memory for a host with these numbers of mbufs and clusters. It is a constant if they are. */
 #define BSDUDP_ETHER_MEMORY(mbufs, clusters) (BSDUDP_MEMORY(mbufs, clusters) + 14784)
 
-/* Boots a host in memory that the caller provides, as bsdudp_boot_in boots a stack; it takes BSDUDP_ETHER_MEMORY bytes.
-   Its table of neighbours is empty. The host announces its address (RFC 5227). With `link->probe` it first probes
-   whether another host has the address, and sends nothing else for 5.0 to 5.5 seconds.
+/* Boots a host in memory that the caller provides, as bsdudp_boot_in boots a stack. BSDUDP_ETHER_MEMORY bytes are
+   always enough; up to 160 bytes less may be, too. Its table of neighbours is empty. The host announces its address
+   (RFC 5227). With `link->probe` it first probes whether another host has the address, and sends nothing else for 5.0
+   to 5.5 seconds.
 
    Returns 0.
 

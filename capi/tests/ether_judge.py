@@ -247,16 +247,29 @@ def ways():
     check(given(it) == [] and it.tallies.no_route == 1, "a packet without a way goes out, or isn't counted")
 
 
+def own_number(frames, spent):
+    """The identification of a reply, the same in all its frames. No reply had it before, and none has "don't fragment"
+    (RFC 6864, sections 4.1 and 4.3)."""
+    found = {Ether(frame)[IP].id for frame in frames}
+    check(len(found) == 1, f"a reply has the identifications {found}")
+    check(not found & spent, f"the identification {found} is used again")
+    check(not any(Ether(frame)[IP].flags.DF for frame in frames), "a reply has the flag DF")
+    spent.update(found)
+    return found.pop()
+
+
 def ping():
     it, _ = host()
     knows(it, 2)
-    rng = random.Random(2)
+    rng, spent = random.Random(2), set()
     for length in [*range(80), 500, 1471, 1472]:
         request = ICMP(type=8, id=rng.randrange(65536), seq=rng.randrange(65536)) / rng.randbytes(length)
-        it.receive(from_near(2, request, id=length, tos=rng.randrange(256)))
-        answer = IP(src=OWN_IP, dst=ip_of(2), id=length, ttl=64) / ICMP(type=0, id=request.id, seq=request.seq)
+        it.receive(from_near(2, request, id=length % 2, tos=rng.randrange(256), flags=rng.choice(("", "DF"))))
+        frames = given(it)
+        answer = IP(src=OWN_IP, dst=ip_of(2), id=own_number(frames, spent), ttl=64)
+        answer = answer / ICMP(type=0, id=request.id, seq=request.seq)
         wanted = bytes(Ether(dst=mac_of(2), src=OWN_MAC) / answer / bytes(request.payload))
-        check(given(it) == [wanted], f"the echo reply of {length} bytes isn't scapy's")
+        check(frames == [wanted], f"the echo reply of {length} bytes isn't scapy's")
     # no reply: to everyone, of another type, with a wrong checksum, to a broadcast address
     silent = [
         Ether(dst=ALL, src=mac_of(2)) / IP(src=ip_of(2), dst=OWN_IP) / ICMP() / b"all",
@@ -271,16 +284,95 @@ def ping():
         check(given(it) == [], f"this got a reply: {frame.summary()}")
 
 
+def long_ping(n, length, seq=0):
+    """A ping of a neighbour, as Linux sends it: with the flag DF and the identification 0."""
+    return from_near(n, ICMP(type=8, id=n, seq=seq) / (bytes(range(256)) * 6)[:length], id=0, flags="DF")
+
+
+def is_reply(frames, request, spent):
+    """Whether frames are the fragments of the reply to a ping, in order, and have all its data (RFC 1122, section
+    3.2.2.6)."""
+    parts = [Ether(frame) for frame in frames]
+    own_number(frames, spent)
+    message = b"".join(bytes(part[IP].payload) for part in parts)
+    wanted = bytes(ICMP(type=0, id=request[ICMP].id, seq=request[ICMP].seq) / bytes(request[ICMP].payload))
+    offsets, at = [part[IP].frag * 8 for part in parts], 0
+    for part, offset in zip(parts, offsets):
+        check(offset == at and bool(part[IP].flags.MF) == (part is not parts[-1]), f"fragments at {offsets}")
+        at += len(part[IP].payload)
+    return message == wanted and {part.dst for part in parts} == {request.src}
+
+
+def fragmented():
+    """Replies to pings, at an MTU of 68: more than eight fragments each. Two replies have two identifications. While
+    the hardware address of the next hop isn't known all of a reply waits, and takes no place of a datagram."""
+    it, socket = host(mtu=68)
+    knows(it, 2)
+    spent = set()
+    for length in (0, 40, 41, 88, 377, 1472):
+        request = long_ping(2, length)
+        it.receive(request)
+        frames = given(it)
+        check(len(frames) == -(-(8 + length) // 48), f"{len(frames)} fragments for {length} bytes")
+        check(is_reply(frames, request, spent), f"the reply to a ping of {length} bytes isn't whole")
+    for k in range(HELD):
+        socket.sendto(bytes([k]), (ip_of(3), 99))
+    requests = given(it)
+    request = long_ping(4, 1472)
+    it.receive(request)
+    for _ in range(40):  # a driver asks for frames again and again
+        requests += given(it)
+    check(requests == [own_request(3), own_request(4)], "not one request for each unknown neighbour")
+    it.receive(replies(4))
+    check(is_reply(given(it), request, spent), "the reply to a ping of an unknown neighbour isn't whole")
+    it.receive(replies(3))
+    left = [Ether(frame)[UDP].load for frame in given(it)]
+    check(left == [bytes([k]) for k in range(HELD)], f"a reply took the place of a datagram: {left} are left")
+    # the newest reply waits
+    it.receive(long_ping(5, 400, 1))
+    newest = long_ping(6, 400, 2)
+    it.receive(newest)
+    check(given(it) == [own_request(5), own_request(6)], "not one request for each unknown neighbour")
+    it.receive(replies(5))
+    check(given(it) == [] and it.tallies.icmp_dropped == 1, "a reply that was replaced is sent, or isn't counted")
+    it.receive(replies(6))
+    check(is_reply(given(it), newest, spent), "the newest reply isn't sent")
+    # no hardware address comes
+    it.receive(long_ping(7, 400))
+    for _ in range(TRIES):
+        check(given(it) == [own_request(7)], "another request isn't sent")
+        it.tick(TICKS_APART)
+    it.receive(replies(7))
+    check(given(it) == [] and it.tallies.icmp_dropped == 2, "a reply is kept, or isn't counted")
+    it.receive(request)
+    check(is_reply(given(it), request, spent), "no reply after one that was dropped")
+
+
+def groups():
+    """No ARP sender has a group's hardware address, or none (RFC 1812, section 3.3.2, for routers)."""
+    it, socket = host()
+    knows(it, 2)
+    wrong = ("01:00:5e:00:00:01", "33:33:00:00:00:01", "03:00:00:00:00:05", ALL, NOBODY)
+    for mac in wrong:
+        for n, op in ((2, 1), (2, 2), (3, 1), (3, 2)):
+            it.receive(Ether(dst=OWN_MAC, src=mac_of(n)) / ARP(op=op, hwsrc=mac, psrc=ip_of(n), pdst=OWN_IP))
+    check(it.tallies.bad_arp == 4 * len(wrong), "a wrong sender isn't counted")
+    check(given(it) == [] and [n.mac for n in it.neighbours] == [mac_of(2)], "a wrong sender is believed")
+    frames = echoed(it, socket, 2, b"still here")
+    check(len(frames) == 1 and carries(frames[0], 2, b"still here"), "an echo goes to another hardware address")
+
+
 def unreachable():
     it, _ = host()
     knows(it, 2)
+    spent = set()
     for length in (0, 1, 7, 8, 9, 100, 1472):
-        request = from_near(2, UDP(sport=5, dport=CLOSED) / bytes(length), id=length)
+        request = from_near(2, UDP(sport=5, dport=CLOSED) / bytes(length), id=length % 2)
         it.receive(request)
-        quoted = bytes(request[IP])[:28]
-        answer = IP(src=OWN_IP, dst=ip_of(2), id=length, ttl=64) / ICMP(type=3, code=3) / quoted
+        quoted, frames = bytes(request[IP])[:28], given(it)
+        answer = IP(src=OWN_IP, dst=ip_of(2), id=own_number(frames, spent), ttl=64) / ICMP(type=3, code=3) / quoted
         wanted = bytes(Ether(dst=mac_of(2), src=OWN_MAC) / answer)
-        check(given(it) == [wanted], f"port unreachable for {length} bytes isn't scapy's")
+        check(frames == [wanted], f"port unreachable for {length} bytes isn't scapy's")
     it.receive(Ether(dst=ALL, src=mac_of(2)) / IP(src=ip_of(2), dst="10.0.255.255") / UDP(sport=5, dport=CLOSED))
     check(given(it) == [], "a broadcast got a port unreachable")
     it.tick()
@@ -442,7 +534,7 @@ def lossy():
 
 def main(capture):
     arps = (arp, claims, defends, polls, martians, held, ways)
-    for tried in (*arps, ping, unreachable, reported, truncations, hundred, flood, lossy):
+    for tried in (*arps, groups, ping, fragmented, unreachable, reported, truncations, hundred, flood, lossy):
         try:
             tried()
         except AssertionError as fault:

@@ -27,7 +27,8 @@ class Tallies(NamedTuple):
     martians: int
     """Packets with an address that cannot occur on a link (RFC 1122, 3.2.1.3)."""
     bad_arp: int
-    """ARP packets not for Ethernet and IPv4, or from the host itself or from a broadcast address."""
+    """ARP packets not for Ethernet and IPv4, or with a hardware address that no other host has as the sender's: this
+    host's, a group's or all zeros."""
     conflicts: int
     """ARP packets of another host that claims this host's address."""
     replies_dropped: int
@@ -47,7 +48,8 @@ class Tallies(NamedTuple):
     limited: int
     """Datagrams for which it did not: it sends at most 10 between two ticks."""
     icmp_dropped: int
-    """ICMP replies dropped because another reply was still queued."""
+    """ICMP replies dropped because another reply was still queued, or for a newer one while waiting for a hardware
+    address, or because no reply gave that address."""
 
 
 class Neighbour(NamedTuple):

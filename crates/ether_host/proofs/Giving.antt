@@ -1,13 +1,14 @@
 -- A packet that waited is sent; and the packets that the stack gives, one by one.
-use Rattle.std.proofs.Common.{◌≡◌, ℕ, ◌<◌, List, [], ◌∷◌, length, map, get_or, Option, Some, None, refl, sym, ap, ◌∙◌}
-use Rattle.std.specs.Prelude.{remove, slice_get}
+use Rattle.std.proofs.Common.{◌≡◌, ℕ, ◌<◌, Bool, true, false, cond, List, [], ◌∷◌, length, map, get_or, Option, Some, None, refl, sym, ap, ◌∙◌}
+use Rattle.std.specs.Prelude.{is_some, remove, slice_get}
 use Rattle.std.proofs.lemmas.Option.{none-some, same_Some}
+use Rattle.std.proofs.lemmas.Bool.{false≢true}
 use Rattle.flat_model.specs.Amounts.Weight.{Item}
 use Rattle.flat_model.specs.Machine.Event.{Reply, Given}
 use Rattle.flat_model.specs.Machine.State.{State}
 use Rattle.flat_model.specs.Machine.Step.{Transmits}
 use Rattle.flat_ether.specs.Frames.{frame}
-use Rattle.flat_ether.specs.Hosts.{Drained, drained, or_drains, with_output_left}
+use Rattle.flat_ether.specs.Hosts.{Drained, Host, drained, or_drains, with_output_left}
 use Rattle.flat_ether.specs.Links.{Gives, WaitingPacket, LinkState, first_ready, gives_held, sends, sends_at, sends_held}
 use Rattle.flat_ether.specs.declared.mac.Mac.{Mac}
 use Rattle.ether_host.specs.Buffers.{held_in}
@@ -87,3 +88,32 @@ ended s t h = go s.output refl h
     go : (items : List Item) → s.output ≡ items → Transmits items s (Given None) t → (t ≡ s) × (s.output ≡ [])
     go [] e h = (h.1, e)
     go (item ∷ later) e h = absurd (none-some item.bytes (ap packet_of h.0))
+
+-- ---- what is sent if nothing comes before it
+
+abbrev sent_and_left : Option (List ℕ) → State → LinkState → Option (List ℕ) × Host
+sent_and_left f m l = (f, record { machine = m; link = l })
+
+none_before : {X : Type 0} (o : Option (List ℕ)) (first last : X) → None ≡ o → last ≡ cond (is_some o) first last
+none_before None first last e = refl
+none_before (Some f) first last e = absurd (none-some f e)
+
+-- the machine sends nothing, so the link may
+pub after_none : (own : LinkState → Gives) (h : Host) (d : Drained) (m : State) (l l' : LinkState)
+    (f : Option (List ℕ)) → None ≡ d.frame → l ≡ d.link → m ≡ with_output_left h.machine d.output → f ≡ (own l).0
+    → l' ≡ (own l).1 → sent_and_left f m l'
+    ≡ cond (is_some d.frame) (sent_and_left d.frame (with_output_left h.machine d.output) d.link)
+    (sent_and_left (own d.link).0 (with_output_left h.machine d.output) (own d.link).1)
+after_none own h d m l l' f none at left gives link =
+    ap (λ (x : Option (List ℕ)). sent_and_left x m l') (gives ∙ ap (λ (x : LinkState). (own x).0) at)
+    ∙ ap (λ (x : State). sent_and_left (own d.link).0 x l') left
+    ∙ ap (λ (x : LinkState). sent_and_left (own d.link).0 (with_output_left h.machine d.output) x)
+    (link ∙ ap (λ (x : LinkState). (own x).1) at)
+    ∙ none_before d.frame _ _ none
+
+-- the host has its address, and the link sends nothing
+pub claimed_last : {X : Type 0} (b : Bool) (o : Option (List ℕ)) (first last probe : X) → b ≡ true → None ≡ o
+    → last ≡ cond b (cond (is_some o) first last) probe
+claimed_last true None first last probe e f = refl
+claimed_last true (Some x) first last probe e f = absurd (none-some x f)
+claimed_last false o first last probe e f = absurd (false≢true e)

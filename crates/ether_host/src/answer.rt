@@ -95,29 +95,25 @@ pub(crate) fn message_head(kind: u8, code: u8, rest: &[u8]) -> [u8; 4]
     [kind, code, (sum / 256) as u8, (sum % 256) as u8]
 }
 
-/// The echo reply to a packet.
-pub(crate) fn echo_reply(reply: &mut Reply, config: &Config, came: &[u8])
+/// The echo reply to a packet, with an identification.
+pub(crate) fn echo_reply(reply: &mut Reply, config: &Config, id: u16, came: &[u8])
     requires long { IP_HEADER ≤ length came.now }
     requires echo { is_echo (carried_in came.now) ≡ true }
-    ensures { packets_left reply.new ≡ echo_reply config.now came.now }
+    ensures { packets_left reply.new ≡ echo_reply config.now id came.now }
 {
     let rest = &carried(came)[4..];
-    reply.put(config, came, ECHO_REPLY, 0, rest);
+    reply.put(config, id, came, message_head(ECHO_REPLY, 0, rest), rest);
 }
 
-/// "Port unreachable", to the sender of a datagram.
-pub(crate) fn port_unreachable(reply: &mut Reply, config: &Config, came: &[u8])
+/// "Port unreachable" to the sender of a datagram, with an identification.
+pub(crate) fn port_unreachable(reply: &mut Reply, config: &Config, id: u16, came: &[u8])
     requires { IP_HEADER ≤ length came.now }
-    ensures { packets_left reply.new ≡ port_unreachable config.now came.now }
+    ensures { packets_left reply.new ≡ port_unreachable config.now id came.now }
 {
     let quoted = came.len().min(IP_UDP_HEADERS as usize);
     let mut rest = [0; 32];
     put_bytes(&mut rest, 4, &came[..quoted]);
-    reply.put(
-        config,
-        came,
-        UNREACHABLE,
-        UNREACHABLE_PORT,
-        &rest[..4 + quoted],
-    );
+    let rest = &rest[..4 + quoted];
+    let front = message_head(UNREACHABLE, UNREACHABLE_PORT, rest);
+    reply.put(config, id, came, front, rest);
 }

@@ -1,16 +1,18 @@
 //! What arrives: ARP packets, and packets that get a reply.
-ghost use Rattle.std.specs.Prelude.{◌≡◌, if◌then◌else◌};
+ghost use Rattle.std.specs.Prelude.{◌≡◌, ◌+◌, ◌%◌, ◌<◌, ◌≤◌, length, true, if◌then◌else◌};
+ghost use Rattle.params.specs.declared.TheConstants.{IP_HEADER};
 ghost use Rattle.flat_ether.specs.Frames.{arp_of};
+ghost use Rattle.flat_ether.specs.Icmp.{carried_in, is_echo};
 ghost use Rattle.ether_host.specs.Answers.{CanAnswer};
-ghost use Rattle.flat_ether.specs.Links.{answers_with, counts_conflict, receives_arp, ignores, is_conflict, learns, queues_reply, is_sound_arp, refuses};
+ghost use Rattle.flat_ether.specs.Links.{answers_by, answers_now, answers_with, asks, counts_conflict, counts_icmp_dropped, receives_arp, ignores, is_busy, is_conflict, learns, makes_way, puts_echo, puts_unreachable, queues_reply, is_sound_arp, refuses, reports_unreachable};
 
 use crate::answer::{echo_reply, port_unreachable};
+use crate::bytes::u32_at;
 use crate::frames::read_arp;
 use crate::layer::LinkLayer;
-use crate::table::{place_of, put};
+use crate::table::{mac_of, place_of, put};
 use flat_ether::{
-    ARP_KEEP_TICKS, ARP_REQUEST, Answer, Arp, ETHER_BROADCAST, Neighbour, PENDING_REPLIES,
-    PendingReply,
+    ARP_KEEP_TICKS, ARP_REQUEST, Answer, Arp, Neighbour, PENDING_REPLIES, PendingReply, Route,
 };
 
 impl LinkLayer {
@@ -89,12 +91,12 @@ impl LinkLayer {
         self.tallies.conflicts = self.tallies.conflicts.saturating_add(1);
     }
 
-    /// An ARP packet, if it's from another host.
+    /// An ARP packet, if it's from a hardware address that another host can have.
     fn sound_arp(&self, body: &[u8]) -> Option<Arp>
         ensures { result ≡ (if is_sound_arp self.now.link body.now then Some (arp_of body.now) else None) }
     {
         let arp = read_arp(body)?;
-        if arp.mac.is(self.link.mac) || arp.mac.is(ETHER_BROADCAST) {
+        if arp.mac.is(self.link.mac) || !arp.mac.is_host() {
             return None;
         }
         Some(arp)
@@ -116,32 +118,118 @@ impl LinkLayer {
         self.queue_reply(arp);
     }
 
-    /// A reply to a packet is queued, if the place for it is free.
+    /// An ICMP reply that is dropped.
+    pub(crate) fn count_icmp_dropped(&mut self)
+        ensures { link_seen self.new ≡ counts_icmp_dropped (link_seen self.old) }
+    {
+        self.tallies.icmp_dropped = self.tallies.icmp_dropped.saturating_add(1);
+    }
+
+    /// Whether a reply is being sent: the hardware address of its next hop is known.
+    fn is_busy(&self) -> bool
+        ensures { result ≡ is_busy (link_seen self.now) }
+    {
+        self.answer.waits() && mac_of(self.neighbours.as_slice(), self.answer_hop).is_some()
+    }
+
+    /// A reply that waits for a hardware address makes way for a newer one.
+    fn make_way(&mut self)
+        ensures is { link_seen self.new ≡ makes_way (link_seen self.old) }
+        ensures unreachables { self.new.unreachables ≡ self.old.unreachables }
+    {
+        if self.answer.waits() {
+            self.count_icmp_dropped();
+        }
+    }
+
+    /// The reply in its place goes to this next hop. The next one gets another identification.
+    fn ask_for_answer(&mut self, hop: u32)
+        ensures { link_seen self.new ≡ asks hop (record (link_seen self.old) {
+          answer_hop = hop;
+          answer_id = ((link_seen self.old).answer_id + 1) % 65536;
+        }) }
+    {
+        self.answer_hop = hop;
+        self.answer_id = self.answer_id.wrapping_add(1);
+        self.ask(hop);
+    }
+
+    /// An echo reply by way of a next hop takes the place for replies.
+    fn put_echo(&mut self, hop: u32, came: &[u8])
+        requires long { IP_HEADER ≤ length came.now }
+        requires echo { is_echo (carried_in came.now) ≡ true }
+        ensures { link_seen self.new ≡ puts_echo hop came.now (link_seen self.old) }
+    {
+        echo_reply(&mut self.answer, &self.config, self.answer_id, came);
+        self.ask_for_answer(hop);
+        self.tallies.echoes = self.tallies.echoes.saturating_add(1);
+    }
+
+    /// A "port unreachable" by way of a next hop takes the place for replies.
+    fn put_unreachable(&mut self, hop: u32, came: &[u8])
+        requires long { IP_HEADER ≤ length came.now }
+        requires some { 0 < self.old.unreachables }
+        ensures { link_seen self.new ≡ puts_unreachable hop came.now (link_seen self.old) }
+    {
+        port_unreachable(&mut self.answer, &self.config, self.answer_id, came);
+        self.unreachables -= 1;
+        self.ask_for_answer(hop);
+        self.tallies.unreachable = self.tallies.unreachable.saturating_add(1);
+    }
+
+    /// A "port unreachable" by way of a next hop takes the place for replies, if the limit isn't reached.
+    fn report_unreachable(&mut self, hop: u32, came: &[u8])
+        requires { IP_HEADER ≤ length came.now }
+        ensures { link_seen self.new ≡ reports_unreachable hop came.now (link_seen self.old) }
+    {
+        if self.unreachables == 0 {
+            self.tallies.limited = self.tallies.limited.saturating_add(1);
+            return;
+        }
+        self.make_way();
+        self.put_unreachable(hop, came);
+    }
+
+    /// A reply by way of a next hop takes the place for replies.
+    fn answer_by(&mut self, hop: u32, answer: Answer, came: &[u8])
+        requires { CanAnswer answer came.now }
+        ensures { link_seen self.new ≡ answers_by hop answer came.now (link_seen self.old) }
+    {
+        match answer {
+            Answer::Echo => {
+                self.make_way();
+                self.put_echo(hop, came);
+            }
+            Answer::Unreachable => self.report_unreachable(hop, came),
+            Answer::Silence => {}
+        }
+    }
+
+    /// A reply to the sender of a packet, if no other one is being sent.
+    fn answer_now(&mut self, answer: Answer, came: &[u8])
+        requires can { CanAnswer answer came.now }
+        requires long { IP_HEADER ≤ length came.now }
+        ensures { link_seen self.new ≡ answers_now answer came.now (link_seen self.old) }
+    {
+        if self.is_busy() {
+            self.count_icmp_dropped();
+            return;
+        }
+        match self.link.route(&self.config, u32_at(came, 12)) {
+            Route::All => {}
+            Route::Hop(hop) => self.answer_by(hop, answer, came),
+            Route::NoRoute => self.count_no_route(),
+        }
+    }
+
+    /// A reply to a packet takes the place for replies, if there is a reply and the place is free.
     pub(crate) fn answer_with(&mut self, answer: Answer, came: &[u8])
         requires { CanAnswer answer came.now }
         ensures { link_seen self.new ≡ answers_with answer came.now (link_seen self.old) }
     {
-        if answer == Answer::Silence {
-            return;
-        }
-        if self.answer.waits() {
-            self.tallies.icmp_dropped = self.tallies.icmp_dropped.saturating_add(1);
-            return;
-        }
         match answer {
-            Answer::Echo => {
-                echo_reply(&mut self.answer, &self.config, came);
-                self.tallies.echoes = self.tallies.echoes.saturating_add(1);
-            }
-            Answer::Unreachable => {
-                if self.unreachables == 0 {
-                    self.tallies.limited = self.tallies.limited.saturating_add(1);
-                    return;
-                }
-                port_unreachable(&mut self.answer, &self.config, came);
-                self.unreachables -= 1;
-                self.tallies.unreachable = self.tallies.unreachable.saturating_add(1);
-            }
+            Answer::Echo => self.answer_now(Answer::Echo, came),
+            Answer::Unreachable => self.answer_now(Answer::Unreachable, came),
             Answer::Silence => {}
         }
     }

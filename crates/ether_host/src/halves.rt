@@ -2,7 +2,7 @@
 ghost use Rattle.std.specs.Prelude.{◌≡◌, ◌+◌, ◌≤◌, length, IfSome};
 ghost use Rattle.params.specs.declared.TheConstants.{IP_MAX_PACKET};
 ghost use Rattle.flat_ether.specs.Claims.{address_state};
-ghost use Rattle.flat_ether.specs.Hosts.{TakesFrame, gives, last_error};
+ghost use Rattle.flat_ether.specs.Hosts.{TakesFrame, gives, gives_drained, last_error};
 ghost use Rattle.flat_ether.specs.declared.sizes.TheConstants.{ETHER_HEADER, ETHER_MTU};
 ghost use Rattle.ether_host.specs.Fronts.{buffer_front};
 ghost use Rattle.ether_host.specs.View.{halves, held_for};
@@ -30,6 +30,20 @@ impl LinkLayer {
         }
     }
 
+    /// The stack's packets, and then the requests for those that wait because of them.
+    fn give_drained(&mut self, stack: &mut Stack, buffer: &mut [u8]) -> Option<usize>
+        requires mtu { stack.old.config.mtu ≤ ETHER_MTU }
+        requires room { ETHER_HEADER + ETHER_MTU ≤ length buffer.old }
+        ensures step { (buffer_front result buffer.new, halves stack.new (link_seen self.new))
+            ≡ gives_drained (halves stack.old (link_seen self.old)) (link_seen self.old) }
+        ensures fits { IfSome result (λ n. n ≤ length buffer.new) }
+    {
+        if let Some(len) = drain(stack, self, buffer) {
+            return Some(len);
+        }
+        self.give_own(buffer)
+    }
+
     /// The next frame for the link: see `EtherHost::transmit`. If `stack` isn't the one that this link was booted with,
     /// the caller first checks that its MTU is at most 1,500.
     pub fn transmit(&mut self, stack: &mut Stack, buffer: &mut [u8]) -> Option<usize>
@@ -45,10 +59,7 @@ impl LinkLayer {
         if let Some(len) = self.give_own(buffer) {
             return Some(len);
         }
-        if let Some(len) = drain(stack, self, buffer) {
-            return Some(len);
-        }
-        self.give_own(buffer)
+        self.give_drained(stack, buffer)
     }
 
     /// What other hosts reported for the datagrams that a connected socket sent to its peer: see

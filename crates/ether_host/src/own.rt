@@ -133,15 +133,16 @@ impl LinkLayer {
         Some(self.framed(buffer, mac, len))
     }
 
-    /// The next packet of the reply that waits; it's sent like any other packet.
+    /// The next packet of the reply that waits, if the hardware address of its next hop is known.
     fn give_answer(&mut self, buffer: &mut [u8]) -> Option<usize>
         requires { ETHER_HEADER + ETHER_MTU ≤ length buffer.old }
         ensures frame { buffer_front result buffer.new ≡ (gives_answer (link_seen self.old)).0 }
         ensures link { link_seen self.new ≡ (gives_answer (link_seen self.old)).1 }
         ensures fits { IfSome result (λ n. n ≤ length buffer.new) }
     {
+        let mac = mac_of(self.neighbours.as_slice(), self.answer_hop)?;
         let len = self.answer.next(buffer)?;
-        self.send(buffer, len)
+        Some(self.framed(buffer, mac, len))
     }
 
     /// The next of these frames.

@@ -3,13 +3,13 @@
 ghost use Rattle.std.specs.Prelude.{◌≡◌, ◌+◌, ◌%◌, ◌<◌, ◌≤◌, ◌++◌, [], drop, length, option_map, slice_get, take, is_some, true, IfSome};
 ghost use Rattle.params.specs.declared.TheConstants.{FRAGMENT_UNIT, IP_HEADER, MIN_MTU};
 ghost use Rattle.flat_ether.specs.declared.sizes.TheConstants.{ETHER_HEADER, ETHER_MTU};
-ghost use Rattle.flat_ether.specs.Icmp.{message, reflected};
+ghost use Rattle.flat_ether.specs.Icmp.{reflected};
 ghost use Rattle.flat_model.specs.Fragments.Cuts.{cuts};
 ghost use Rattle.ip_out.specs.Headings.{head_bytes};
 
-use crate::answer::{HEADER, message_head};
+use crate::answer::HEADER;
 use crate::buffer::PacketBuffer;
-use crate::bytes::{put_bytes, u16_at, u32_at};
+use crate::bytes::{put_bytes, u32_at};
 use crate::frames::BODY;
 use crate::share::{Share, share_at};
 use flat_ether::PROTOCOL_ICMP;
@@ -66,18 +66,24 @@ impl Reply {
         self.waits
     }
 
-    /// Takes a message to the sender of a packet.
-    pub(crate) fn put(&mut self, config: &Config, came: &[u8], kind: u8, code: u8, rest: &[u8])
+    /// No packet of it waits any more.
+    pub(crate) fn clear(&mut self)
+        ensures { packets_left self.new ≡ [] }
+    {
+        self.waits = false;
+    }
+
+    /// Takes a message to the sender of a packet, with an identification: its first four bytes, and the rest.
+    pub(crate) fn put(&mut self, config: &Config, id: u16, came: &[u8], front: [u8; 4], rest: &[u8])
         requires long { IP_HEADER ≤ length came.now }
         requires most { IP_HEADER + 4 + length rest.now ≤ ETHER_MTU }
-        ensures { packets_left self.new ≡ reflected config.now came.now (message kind code rest.now) }
+        ensures { packets_left self.new ≡ reflected config.now id came.now (front ++ rest.now) }
     {
-        let front = message_head(kind, code, rest);
         put_both(&mut self.message.buffer, &front, rest);
         self.message.len = 4 + rest.len();
         self.source = config.addr;
         self.destination = u32_at(came, 12);
-        self.id = u16_at(came, 4);
+        self.id = id;
         self.mtu = config.mtu.max(MIN_MTU);
         self.gone = 0;
         self.waits = true;

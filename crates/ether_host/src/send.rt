@@ -3,7 +3,7 @@ ghost use Rattle.std.specs.Prelude.{◌≡◌, ◌+◌, ◌<◌, ◌≤◌, ◌�
 ghost use Rattle.params.specs.declared.TheConstants.{IP_HEADER};
 ghost use Rattle.flat_ether.specs.declared.sizes.TheConstants.{ETHER_HEADER, ETHER_MTU, ETHER_TYPE_IP};
 ghost use Rattle.flat_ether.specs.Frames.{frame};
-ghost use Rattle.flat_ether.specs.Links.{asks, holds_packet, sends, route_of};
+ghost use Rattle.flat_ether.specs.Links.{asks, counts_no_route, holds_packet, sends, route_of};
 ghost use Rattle.ether_host.specs.Buffers.{held_in};
 ghost use Rattle.ether_host.specs.Fronts.{buffer_front};
 
@@ -50,7 +50,7 @@ impl LinkLayer {
     }
 
     /// Requests the hardware address of a next hop that isn't known.
-    fn ask(&mut self, hop: u32)
+    pub(crate) fn ask(&mut self, hop: u32)
         ensures { link_seen self.new ≡ asks hop (link_seen self.old) }
     {
         if place_of(self.neighbours.as_slice(), hop).is_none() {
@@ -64,6 +64,13 @@ impl LinkLayer {
                 },
             );
         }
+    }
+
+    /// A packet or a reply without a route.
+    pub(crate) fn count_no_route(&mut self)
+        ensures { link_seen self.new ≡ counts_no_route (link_seen self.old) }
+    {
+        self.tallies.no_route = self.tallies.no_route.saturating_add(1);
     }
 
     /// The route of a packet; one without a header has none.
@@ -90,7 +97,7 @@ impl LinkLayer {
             Route::All => return Some(self.framed(buffer, ETHER_BROADCAST, len)),
             Route::Hop(hop) => hop,
             Route::NoRoute => {
-                self.tallies.no_route = self.tallies.no_route.saturating_add(1);
+                self.count_no_route();
                 return None;
             }
         };

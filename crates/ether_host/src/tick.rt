@@ -1,6 +1,6 @@
 //! The clock.
 ghost use Rattle.std.specs.Prelude.{◌≡◌, ◌≤◌, filter, length, map, vec_capacity};
-ghost use Rattle.flat_ether.specs.Links.{neighbour_aged, neighbour_stays, ticks};
+ghost use Rattle.flat_ether.specs.Links.{ages, keeps_answer, neighbour_aged, neighbour_stays, ticks};
 ghost use Rattle.ether_host.specs.Buffers.{is_resolvable_in};
 
 use crate::buffer::{PacketBuffer, drop_at};
@@ -57,10 +57,9 @@ fn keep(held: &mut Vec<PacketBuffer>, neighbours: &[Neighbour])
 impl LinkLayer {
     ghost use Rattle.ether_host.specs.Inside.{link_seen};
 
-    /// A tick: entries that expired are removed, and the packets that waited for them are dropped (`arptimer` of volume
-    /// 2, chapter 21).
-    pub fn tick(&mut self)
-        ensures { link_seen self.new ≡ ticks (link_seen self.old) }
+    /// Removes entries that expired, and drops the packets that waited for them.
+    fn remove_expired(&mut self)
+        ensures { link_seen self.new ≡ ages (link_seen self.old) }
     {
         self.claim = self.claim.ticked();
         self.unreachables = UNREACHABLES;
@@ -69,5 +68,24 @@ impl LinkLayer {
         keep(&mut self.held, self.neighbours.as_slice());
         let lost = before.saturating_sub(self.held.len());
         self.tallies.unresolved = self.tallies.unresolved.saturating_add(lost as u64);
+    }
+
+    /// Drops the reply that waits if its next hop is neither known nor requested.
+    fn keep_answer(&mut self)
+        ensures { link_seen self.new ≡ keeps_answer (link_seen self.old) }
+    {
+        if self.answer.waits() && place_of(self.neighbours.as_slice(), self.answer_hop).is_none() {
+            self.answer.clear();
+            self.count_icmp_dropped();
+        }
+    }
+
+    /// A tick: entries that expired are removed, and what waited for them is dropped (`arptimer` of volume 2, chapter
+    /// 21).
+    pub fn tick(&mut self)
+        ensures { link_seen self.new ≡ ticks (link_seen self.old) }
+    {
+        self.remove_expired();
+        self.keep_answer();
     }
 }

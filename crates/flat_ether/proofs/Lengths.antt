@@ -6,16 +6,17 @@ use Rattle.std.proofs.lemmas.List.Elements.{All-contains, All-from_recursion, re
 use Rattle.flat_model.specs.Amounts.Weight.{Item}
 use Rattle.flat_model.specs.Fragments.Cuts.{Part, cuts}
 use Rattle.flat_model.specs.Machine.State.{IsConfig, State, boot}
-use Rattle.flat_model.specs.Packets.Header.{Head, head_of, packet, u16_at}
+use Rattle.flat_model.specs.Packets.Header.{head_of, u16_at}
 use Rattle.flat_model.specs.Runs.Laws.{CutsJoin}
 use Rattle.flat_model.specs.declared.config.Config.{Config}
 use Rattle.flat_model.proofs.Laws.{each-weaker}
 use Rattle.flat_wire.specs.Wire.{packet_out}
 use Rattle.flat_ether.specs.Frames.{body_of}
 use Rattle.flat_ether.specs.Hosts.{HostAct, AreHostActs, Host, host_up}
-use Rattle.flat_ether.specs.Icmp.{answer_mtu, echo_message, echo_reply, part_packet, port_unreachable, reflected, unreachable_message}
-use Rattle.flat_ether.specs.Laws.{IsFrameSent, IsMade, IsWithin, MakesTurns, frames_out}
+use Rattle.flat_ether.specs.Icmp.{answer_mtu, echo_message, part_packet, reflected, unreachable_message}
+use Rattle.flat_ether.specs.Laws.{IsFrameSent, IsMade, IsReply, IsWithin, MakesTurns, frames_out}
 use Rattle.flat_ether.specs.declared.link.Link.{Link}
+use Rattle.flat_ether.proofs.Replies.{length-packet}
 use Rattle.flat_ether.proofs.Runs.{makes_turns}
 use Rattle.flat_ether.proofs.Sources.{IsSourced, boot_sourced, given_each}
 use Rattle.flat_ether.proofs.Two.{not_both, went_so}
@@ -31,10 +32,6 @@ output_short c s k =
     k.consistent.output
 
 -- ---- the packets of an ICMP reply
-
-length-packet : (h : Head) (t : List ℕ) → length (packet h t) ≡ 20 + length t
-unfolding packet
-length-packet h t = omega arith
 
 part_short : (source id destination : ℕ) (body : List ℕ) (mtu : ℕ) (p : Part) → 20 + p.size ≤ mtu
     → IsShort mtu (part_packet source id destination body p)
@@ -55,13 +52,14 @@ parts_short source id destination body mtu (p ∷ ps) h =
 abbrev Cut : Type 0
 Cut = (s : List ℕ) (mtu : ℕ) → 28 ≤ mtu → CutsJoin s mtu
 
-reflected_short : Cut → (c : Config) (came body : List ℕ) → IsConfig c → Each (IsShort c.mtu) (reflected c came body)
-reflected_short cut c came body is =
+reflected_short : Cut → (c : Config) (id : ℕ) (came body : List ℕ) → IsConfig c
+    → Each (IsShort c.mtu) (reflected c id came body)
+reflected_short cut c id came body is =
     let least : 68 ≤ c.mtu = is.least_mtu in
     let mtu : max c.mtu 68 ≡ c.mtu = omega arith in
     let some : 28 ≤ max c.mtu 68 = omega arith in
-    subst (λ n. Each (IsShort n) (reflected c came body)) mtu
-    (parts_short c.addr (head_of came).id (head_of came).source body (answer_mtu c) (cuts (length body) (answer_mtu c))
+    subst (λ n. Each (IsShort n) (reflected c id came body)) mtu
+    (parts_short c.addr id (head_of came).source body (answer_mtu c) (cuts (length body) (answer_mtu c))
     (recursion_from_All _ (cuts (length body) (answer_mtu c)) (cut body (answer_mtu c) some).within))
 
 -- ---- and each frame
@@ -70,14 +68,15 @@ module _ (cut : Cut) (c : Config) (l : Link) (given : List (List ℕ)) (is : IsC
     (all : Each (IsShort c.mtu) given) where
   made_short : (F : List (List ℕ)) (p : List ℕ) → IsMade c F given p → IsShort c.mtu p
   made_short F p (inl h) = All-contains (IsShort c.mtu) given p (All-from_recursion (IsShort c.mtu) given all) h
-  made_short F p (inr (f, came, inl in')) =
-      All-contains (IsShort c.mtu) (echo_reply c (body_of f)) p
-      (All-from_recursion (IsShort c.mtu) (echo_reply c (body_of f))
-      (reflected_short cut c (body_of f) (echo_message (body_of f)) is)) in'
-  made_short F p (inr (f, came, inr in')) =
-      All-contains (IsShort c.mtu) (port_unreachable c (body_of f)) p
-      (All-from_recursion (IsShort c.mtu) (port_unreachable c (body_of f))
-      (reflected_short cut c (body_of f) (unreachable_message (body_of f)) is)) in'
+  made_short F p (inr (reply, of, in')) =
+      All-contains (IsShort c.mtu) reply p (All-from_recursion (IsShort c.mtu) reply (reply_short of)) in'
+    where
+      reply_short : IsReply c F reply → Each (IsShort c.mtu) reply
+      reply_short (f, came, id, inl e) =
+          subst (Each (IsShort c.mtu)) (sym e) (reflected_short cut c id (body_of f) (echo_message (body_of f)) is)
+      reply_short (f, came, id, inr e) =
+          subst (Each (IsShort c.mtu)) (sym e)
+          (reflected_short cut c id (body_of f) (unreachable_message (body_of f)) is)
 
   sent_short : (f : List ℕ) → ((F : List (List ℕ)) × IsFrameSent c l F given f) → IsWithin c.mtu f
   sent_short f (F, inl own) type = absurd (not_both (u16_at 12 f) (ap (u16_at 12) own.frame_is) type)

@@ -1,8 +1,8 @@
 -- Whole runs of a host from its start.
-use Rattle.std.proofs.Common.{◌≡◌, inl, ℕ, Bool, true, false, cond, List, [], ◌∷◌, ◌++◌, Option, Some, None, refl, sym, ap, ◌∙◌, subst, append_assoc}
-use Rattle.std.specs.Prelude.{Contains, filter_map, is_some, option_to_list, Result}
+use Rattle.std.proofs.Common.{◌≡◌, ℕ, Bool, true, false, cond, List, [], ◌∷◌, ◌++◌, Option, Some, None, refl, sym, ap, ◌∙◌, subst, append_assoc}
+use Rattle.std.specs.Prelude.{All, Contains, filter_map, is_some, option_to_list, Result}
 use Rattle.std.specs.List.{AllByRecursion as Each}
-use Rattle.std.proofs.lemmas.List.Elements.{All-from_recursion, recursion_from_All, All-contains_itself, All-head, Contains-append_right, filter_map-append}
+use Rattle.std.proofs.lemmas.List.Elements.{All-from_recursion, recursion_from_All, All-contains_itself, All-head, Contains-append_left, Contains-append_right, filter_map-append}
 use Rattle.flat_model.specs.Amounts.Weight.{Item}
 use Rattle.flat_model.specs.Machine.Event.{Transmit, Given, Comes, Done, Tick}
 use Rattle.flat_model.specs.Machine.Ledger.{exact_ledger}
@@ -37,10 +37,13 @@ module _ (c : Config) (l : Link) where
     link = good.link;
     neighbours = each-weaker (λ n is. record { learned = is.learned; near = is.near }) s.neighbours good.neighbours;
     distinct = good.distinct;
+    replies = good.replies;
     held =
-        each-weaker (λ h is. record { made = Sent.more_made c l F G G' h.packet is.made; route = is.route }) s.held
+        each-weaker (λ h is. record { made = Contains-append_left G G' h.packet is.made; route = is.route }) s.held
         good.held;
-    answer = each-weaker (Sent.more_made c l F G G') s.answer good.answer;
+    answer =
+        each-weaker (λ p is. record { made = Sent.more_made c l F G G' p is.made; route = is.route }) s.answer
+        good.answer;
   }
 
   -- An act on a machine and its link, after these frames arrived and these packets were given: `then'` are the frames
@@ -82,7 +85,7 @@ module _ (c : Config) (l : Link) where
       given : Sent.IsGiven c l F (G ++ item.bytes ∷ []) (sends item.bytes link)
       given =
           Sent.sends_given c l F (G ++ item.bytes ∷ []) item.bytes link (more_good F G (item.bytes ∷ []) link good)
-          (inl (contains_last G item.bytes []))
+          (contains_last G item.bytes [])
 
       turn : Turn
       turn = record { event = Transmit; reply = Given (Some item.bytes) }
@@ -331,13 +334,24 @@ module _ (c : Config) (l : Link) where
         link = refl;
         neighbours = tt;
         distinct = tt;
+        replies = tt;
         held = tt;
         answer = tt;
       }
 
+  -- the machine gave each packet that waits
+  all_waiting : (F G : List (List ℕ)) (s : LinkState) → Good F G s → All (λ h. Contains G h.packet) s.held
+  all_waiting F G s good = All-from_recursion _ s.held (each-weaker (λ h is. is.made) s.held good.held)
+
   abbrev made_by : (acts : List HostAct) (new : Host) → MakesAll [] [] (host_up c l).machine new.machine new.link acts
       → MakesTurns c l acts new
-  made_by acts new m = record { turns = m.turns; leads = m.leads; came = m.in'; went = m.sent }
+  made_by acts new m = record {
+    turns = m.turns;
+    leads = m.leads;
+    came = m.in';
+    went = m.sent;
+    waits = all_waiting (all_then acts []) (filter_map packet_out m.turns) new.link m.good;
+  }
 
   pub makes_turns : (acts : List HostAct) (new : Host) → AreHostActs (host_up c l) acts new → MakesTurns c l acts new
   makes_turns acts new done = made_by acts new (acts_make [] [] (host_up c l) new acts up_good done)
@@ -418,6 +432,10 @@ module _ (c : Config) (l : Link) where
               went = subst (λ H. AreSent c l H [] (before ++ Calls turn ∷ after)) given
                   (sent_append ((out ++ call) ++ filter_map packet_out b.turns) [] before (Calls turn ∷ after)
                   early_sent (All-from_recursion _ [] tt, b.sent));
+              waits =
+                  all_waiting (all_then after (all_then before []))
+                  (filter_map packet_out (a.turns ++ turn ∷ b.turns)) new.link
+                  (subst (λ H. Good (all_then after (all_then before [])) H new.link) given b.good);
             };
             turns_are = refl;
           }

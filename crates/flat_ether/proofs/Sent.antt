@@ -1,5 +1,5 @@
 -- The frames that a host sends: the source of each packet, and its destination on the link.
-use Rattle.std.proofs.Common.{◌≡◌, ◌≢◌, ◌⊎◌, inl, inr, ℕ, Bool, true, false, cond, List, [], ◌∷◌, ◌++◌, length, take, drop, Option, Some, None, refl, sym, ap, ◌∙◌, subst, zero, suc, ◌+◌, ◌-◌, add-one, get_or}
+use Rattle.std.proofs.Common.{◌≡◌, ◌≢◌, ◌⊎◌, inl, inr, ℕ, Bool, true, false, cond, List, [], ◌∷◌, ◌++◌, length, take, drop, Option, Some, None, refl, sym, ap, ◌∙◌, subst, zero, suc, ◌+◌, ◌-◌, ◌%◌, add-one, get_or}
 use Rattle.std.specs.Prelude.{Contains, ◌==◌, ◌&&◌, ◌||◌, not, filter, is_some, map, nat_lt, position, slice_get, remove}
 use Rattle.std.specs.List.{AllByRecursion as Each}
 use Rattle.std.proofs.lemmas.List.Elements.{All-contains_itself, All-head, Contains-append_left, Contains-append_right, recursion_from_All}
@@ -8,16 +8,17 @@ use Rattle.std.proofs.lemmas.Option.{none-some, same_Some}
 use Rattle.std.proofs.lemmas.Bool.{and_parts, eq-eqb, eqb-false, eqb-true, false≢true, ne_eqb, not-true}
 use Rattle.flat_model.specs.declared.config.Config.{Config}
 use Rattle.flat_model.specs.Machine.Count.{more_by}
+use Rattle.flat_model.specs.Packets.Header.{head_of}
 use Rattle.flat_model.proofs.Laws.{each-append, each-both, each-filter, each-map, each-take, each-weaker}
 use Rattle.flat_ether.specs.Claims.{claim_due, claim_sent, is_claimed}
 use Rattle.flat_ether.specs.Errors.{error_at, error_in}
 use Rattle.flat_ether.specs.declared.error.SocketError.{SocketError}
 use Rattle.flat_model.specs.declared.address.Addr.{Addr}
-use Rattle.flat_ether.specs.Frames.{arp_bytes, arp_of, body_of, ether_broadcast, frame, kind_of, no_mac}
-use Rattle.flat_ether.specs.Icmp.{echo_reply, port_unreachable}
-use Rattle.flat_ether.specs.Laws.{IsMade, IsRoute, IsFrameSent, arp_if, last_given, is_arp_from, given_in}
-use Rattle.flat_ether.specs.Links.{Gives, WaitingPacket, LinkState, neighbour_aged, answers_with, asked_at, asks, asks_at, by_route, claim_frame, counts_echo, counts_unreachable, drops_first, counts_bad_arp, counts_conflict, counts_too_long, counts_no_place, first_ready, gives_answer, gives_claim, gives_held, gives_own, gives_reply, gives_request, is_resolvable, has_ip, neighbour_from, receives_arp, holds_packet, ignores, is_answering, is_asked, is_conflict, is_request_due, is_rival, is_sound_arp, learns, limits, mac_known, mac_in, adds_error_if, adds_error, takes_at, takes_error, mac_of, or_then, queues_reply, neighbour_place, put, puts_answer, ready_or, refuses, replies_to, sends, sends_answer, sends_at, sends_held, neighbour_stays, takes_place, reports_unreachable, ticks, to_hop, unknown, route_of, route_to}
-use Rattle.flat_ether.specs.Routes.{is_near, is_neighbour}
+use Rattle.flat_ether.specs.Frames.{arp_bytes, arp_of, body_of, ether_broadcast, frame, is_arp, is_host_mac, kind_of, no_mac, same_mac}
+use Rattle.flat_ether.specs.Icmp.{echo_message, echo_reply, port_unreachable, reflected, unreachable_message}
+use Rattle.flat_ether.specs.Laws.{IsMade, IsReply, IsRoute, IsFrameSent, arp_if, last_given, is_arp_from, given_in}
+use Rattle.flat_ether.specs.Links.{Gives, WaitingPacket, LinkState, ages, neighbour_aged, answers_by, answers_now, answers_on, answers_with, asked_at, asks, asks_at, by_route, claim_frame, drops_first, counts_bad_arp, counts_conflict, counts_too_long, counts_icmp_dropped, counts_no_route, first_ready, gives_answer, gives_claim, gives_held, gives_own, gives_reply, gives_request, is_resolvable, has_ip, neighbour_from, receives_arp, holds_packet, ignores, is_answering, is_asked, is_busy, is_conflict, is_request_due, is_rival, is_sound_arp, learns, limits, makes_way, mac_known, mac_in, adds_error_if, adds_error, takes_at, takes_error, mac_of, or_then, queues_reply, neighbour_place, put, puts_answer, puts_echo, puts_unreachable, ready_or, refuses, replies_to, sends, sends_answer, sends_at, sends_held, neighbour_stays, takes_place, ticks, to_hop, unknown, route_of, route_to}
+use Rattle.flat_ether.specs.Routes.{is_near, is_neighbour, route}
 use Rattle.flat_ether.specs.declared.answer.Answer.{Answer}
 use Rattle.flat_ether.specs.declared.answer.Answer.TheVariants.{Echo, Unreachable, Silence}
 use Rattle.flat_ether.specs.declared.arp.Arp.{Arp}
@@ -29,6 +30,7 @@ use Rattle.flat_ether.specs.declared.link.Route.TheVariants.{All, Hop, NoRoute}
 use Rattle.flat_ether.specs.declared.mac.Mac.{Mac}
 use Rattle.flat_ether.specs.declared.neighbour.Neighbour.{Neighbour}
 use Rattle.flat_ether.specs.declared.neighbour.PendingReply.{PendingReply}
+use Rattle.flat_ether.proofs.Replies.{reply_route}
 use Rattle.flat_ether.proofs.Tables.{AreDistinct, distinct_again, distinct_stays, each-drop, each_again, new_ip, put_distinct, put_each}
 
 each-remove : {X : Type 0} (P : X → Type 0) (xs : List X) (i : ℕ) → Each P xs → Each P (remove xs i)
@@ -38,6 +40,11 @@ each-get : {X : Type 0} (P : X → Type 0) (xs : List X) (i : ℕ) (x : X) → E
 each-get P [] i x h e = absurd (none-some x e)
 each-get P (y ∷ ys) zero x h e = subst P (same_Some y x e) h.0
 each-get P (y ∷ ys) (suc i) x h e = each-get P ys i x h.1 e
+
+each-or : {X : Type 0} (P : X → Type 0) (xs : List X) (i : ℕ) (d : X) → Each P xs → P d → P (get_or xs i d)
+each-or P [] i d h e = e
+each-or P (x ∷ xs) zero d h e = h.0
+each-or P (x ∷ xs) (suc i) d h e = each-or P xs i d h.1 e
 
 get_or_of_get : {X : Type 0} (xs : List X) (i : ℕ) (x : X) → slice_get xs i ≡ Some x → get_or xs i x ≡ x
 get_or_of_get [] i x e = refl
@@ -65,24 +72,54 @@ module _ (c : Config) (l : Link) (F G G' : List (List ℕ)) where
 module _ (c : Config) (F G : List (List ℕ)) (f : List ℕ) where
   pub later_made : (p : List ℕ) → IsMade c F G p → IsMade c (f ∷ F) G p
   later_made p (inl h) = inl h
-  later_made p (inr (g, came, is)) = inr (g, Contains-append_right (f ∷ []) F g came, is)
+  later_made p (inr (reply, (g, came, id, is), in')) =
+      inr (reply, (g, Contains-append_right (f ∷ []) F g came, id, is), in')
+
+abbrev pub IsFromHost : PendingReply → Type 0
+IsFromHost o = is_host_mac o.mac ≡ true
+
+-- a hardware address that was learned is one that a host can have
+pub given_host : (c : Config) (l : Link) (ip : ℕ) (F : List (List ℕ)) (mac : Mac) → last_given c l ip F ≡ Some mac
+    → is_host_mac mac ≡ true
+given_host c l ip [] mac e = absurd (none-some mac e)
+given_host c l ip (f ∷ F) mac e = of (given_host c l ip F mac) (arp_if (kind_of c l.mac f) f) e
+  where
+    sound : (last_given c l ip F ≡ Some mac → is_host_mac mac ≡ true) → (b : List ℕ) (x : Bool) → is_arp_from l ip b ≡ x
+        → cond x (Some (arp_of b).mac) (last_given c l ip F) ≡ Some mac → is_host_mac mac ≡ true
+    sound before b true is e =
+        let whole : is_sound_arp l b ≡ true = (and_parts (is_sound_arp l b) _ is).0 in
+        let rest = (and_parts (is_arp b) _ whole).1 in
+        subst (λ (m : Mac). is_host_mac m ≡ true) (same_Some (arp_of b).mac mac e)
+        (and_parts (not (same_mac (arp_of b).mac l.mac)) _ rest).1
+    sound before b false is e = before e
+
+    of : (last_given c l ip F ≡ Some mac → is_host_mac mac ≡ true) → (o : Option (List ℕ))
+        → given_in l ip o (last_given c l ip F) ≡ Some mac → is_host_mac mac ≡ true
+    of before None e = before e
+    of before (Some b) e = sound before b (is_arp_from l ip b) refl e
 
 module _ (c : Config) (l : Link) (F G : List (List ℕ)) where
   pub record IsKnown (n : Neighbour) : Type 0 where
     pub learned : (mac : Mac) → n.mac ≡ Some mac → last_given c l n.ip F ≡ Some mac
     pub near : (mac : Mac) → n.mac ≡ Some mac → is_neighbour c l n.ip ≡ true
 
+  -- what the machine gave
   pub record IsWaiting (h : WaitingPacket) : Type 0 where
-    pub made : IsMade c F G h.packet
+    pub made : Contains G h.packet
     pub route : route_to c l h.packet ≡ Hop h.hop
+
+  pub record IsAnswer (hop : ℕ) (p : List ℕ) : Type 0 where
+    pub made : IsMade c F G p
+    pub route : route_to c l p ≡ Hop hop
 
   pub record IsGood (s : LinkState) : Type 0 where
     pub config : s.config ≡ c
     pub link : s.link ≡ l
     pub neighbours : Each IsKnown s.neighbours
     pub distinct : AreDistinct s.neighbours
+    pub replies : Each IsFromHost s.replies
     pub held : Each IsWaiting s.held
-    pub answer : Each (IsMade c F G) s.answer
+    pub answer : Each (IsAnswer s.answer_hop) s.answer
 
   pub record IsGiven (g : Gives) : Type 0 where
     pub good : IsGood g.1
@@ -150,6 +187,7 @@ module _ (c : Config) (l : Link) (F G : List (List ℕ)) where
         distinct = good.distinct;
         held = good.held;
         answer = good.answer;
+        replies = good.replies;
       })
       (takes (cond (nat_lt (length s.held) 8) s (drops_first s)) room)
     where
@@ -162,6 +200,7 @@ module _ (c : Config) (l : Link) (F G : List (List ℕ)) where
             distinct = good.distinct;
             held = each-drop IsWaiting 1 s.held good.held;
             answer = good.answer;
+            replies = good.replies;
           })
 
       takes : (t : LinkState) → IsGood t → IsGood (takes_place hop packet t)
@@ -173,8 +212,8 @@ module _ (c : Config) (l : Link) (F G : List (List ℕ)) where
             distinct = g.distinct;
             held =
                 each-append IsWaiting t.held (record { hop = hop; packet = packet } ∷ []) g.held (is, tt);
-            answer =
-                g.answer;
+            answer = g.answer;
+            replies = g.replies;
           }
 
   no_mac_known : (ip : ℕ) → IsKnown (unknown ip)
@@ -194,9 +233,10 @@ module _ (c : Config) (l : Link) (F G : List (List ℕ)) where
             put_distinct (unknown hop) s.neighbours good.distinct;
         held = good.held;
         answer = good.answer;
+        replies = good.replies;
       })
 
-  pub sends_given : (packet : List ℕ) (s : LinkState) → IsGood s → IsMade c F G packet → IsGiven (sends packet s)
+  pub sends_given : (packet : List ℕ) (s : LinkState) → IsGood s → Contains G packet → IsGiven (sends packet s)
   sends_given packet s good made = by (route_of s packet) refl
     where
       to : (hop : ℕ) (mac : Option Mac) → route_of s packet ≡ Hop hop → mac_of hop s.neighbours ≡ mac
@@ -207,7 +247,7 @@ module _ (c : Config) (l : Link) (F G : List (List ℕ)) where
       to hop (Some mac) w e = record {
         good = good;
         sent =
-            carried s packet mac good made
+            carried s packet mac good (inl made)
             (inr (hop, route_is s packet (Hop hop) good w, known_mac hop mac s.neighbours good.neighbours e));
       }
 
@@ -215,7 +255,7 @@ module _ (c : Config) (l : Link) (F G : List (List ℕ)) where
       by All e =
           record {
             good = good;
-            sent = carried s packet ether_broadcast good made
+            sent = carried s packet ether_broadcast good (inl made)
                 (inl (route_is s packet All good e, refl));
           }
       by (Hop hop) e = to hop (mac_of hop s.neighbours) e refl
@@ -227,19 +267,21 @@ module _ (c : Config) (l : Link) (F G : List (List ℕ)) where
             distinct = good.distinct;
             held = good.held;
             answer = good.answer;
+            replies = good.replies;
           })
 
   -- ---- the link's own frames
 
   arp_sent : (s : LinkState) (op sender : ℕ) (to target_mac : Mac) (target : ℕ) → IsGood s
-      → (sender ≡ s.config.addr) ⊎ (sender ≡ 0) → (f : List ℕ)
+      → (sender ≡ s.config.addr) ⊎ (sender ≡ 0) → (to ≡ ether_broadcast) ⊎ (is_host_mac to ≡ true) → (f : List ℕ)
       → Some (frame to s.link.mac 0x0806 (arp_bytes op s.link.mac sender target_mac target)) ≡ Some f
       → IsFrameSent c l F G f
-  arp_sent s op sender to target_mac target good from f e = inl (record {
+  arp_sent s op sender to target_mac target good from goes f e = inl (record {
     op = op;
     sender = sender;
     sender_is = go from;
     to = to;
+    to_is = goes;
     target_mac = target_mac;
     target = target;
     frame_is =
@@ -263,31 +305,46 @@ module _ (c : Config) (l : Link) (F G : List (List ℕ)) where
             distinct = good.distinct;
             held = good.held;
             answer = good.answer;
+            replies = good.replies;
           }
 
       go : (due : ClaimFrame) → IsGiven (claim_frame due s)
       go Nothing = nothing s good
-      go Probe = record { good = sent; sent = arp_sent s 1 0 ether_broadcast no_mac s.config.addr good (inr refl) }
+      go Probe =
+          record {
+            good = sent;
+            sent = arp_sent s 1 0 ether_broadcast no_mac s.config.addr good (inr refl) (inl refl);
+          }
       go Announcement =
-          record { good = sent; sent = arp_sent s 1 s.config.addr ether_broadcast no_mac s.config.addr good (inl refl) }
+          record {
+            good = sent;
+            sent = arp_sent s 1 s.config.addr ether_broadcast no_mac s.config.addr good (inl refl) (inl refl);
+          }
 
   reply_given : (s : LinkState) → IsGood s → IsGiven (gives_reply s)
-  reply_given s good = go s.replies
+  reply_given s good = go s.replies good.replies
     where
-      go : (replies : List PendingReply) → IsGiven (replies_to replies s)
-      go [] = nothing s good
-      go (o ∷ later) = record {
+      go : (replies : List PendingReply) → Each IsFromHost replies → IsGiven (replies_to replies s)
+      go [] h = nothing s good
+      go (o ∷ later) h = record {
         good =
             record {
               config = good.config;
               link = good.link;
               neighbours = good.neighbours;
               distinct = good.distinct;
+              replies = h.1;
               held = good.held;
               answer = good.answer;
             };
-        sent = arp_sent s 2 s.config.addr o.mac o.mac o.ip good (inl refl);
+        sent = arp_sent s 2 s.config.addr o.mac o.mac o.ip good (inl refl) (inr h.0);
       }
+
+  -- a request goes to all, or to a host's address
+  asked_host : (n : Neighbour) → IsKnown n → (m : Option Mac) → n.mac ≡ m
+      → (asked_at m ≡ ether_broadcast) ⊎ (is_host_mac (asked_at m) ≡ true)
+  asked_host n known None e = inl refl
+  asked_host n known (Some mac) e = inr (given_host c l n.ip F mac (known.learned mac e))
 
   request_given : (s : LinkState) → IsGood s → IsGiven (gives_request s)
   request_given s good = go (position is_request_due s.neighbours)
@@ -307,8 +364,12 @@ module _ (c : Config) (l : Link) (F G : List (List ℕ)) where
               distinct = distinct_again s.neighbours at (unknown 0) good.distinct;
               held = good.held;
               answer = good.answer;
+              replies = good.replies;
             };
-            sent = arp_sent s 1 s.config.addr (asked_at n.mac) no_mac n.ip good (inl refl);
+            sent =
+                arp_sent s 1 s.config.addr (asked_at n.mac) no_mac n.ip good (inl refl)
+                (asked_host n (each-or IsKnown s.neighbours at (unknown 0) good.neighbours (no_mac_known 0)) n.mac
+                refl);
           }
 
   -- the packet that is found waits for a next hop, whose hardware address came in a frame
@@ -354,9 +415,10 @@ module _ (c : Config) (l : Link) (F G : List (List ℕ)) where
                   distinct = good.distinct;
                   held = each-remove IsWaiting s.held at good.held;
                   answer = good.answer;
+                  replies = good.replies;
                 };
             sent =
-                carried s h.packet mac good waits.made
+                carried s h.packet mac good (inl waits.made)
                 (inr (
                   h.hop,
                   waits.route,
@@ -372,24 +434,29 @@ module _ (c : Config) (l : Link) (F G : List (List ℕ)) where
           (found_ready s.neighbours s.held found good.neighbours e)
 
   answer_given : (s : LinkState) → IsGood s → IsGiven (gives_answer s)
-  answer_given s good = go (slice_get s.answer 0) refl
+  answer_given s good = go (slice_get s.answer 0) (mac_of s.answer_hop s.neighbours) refl refl
     where
-      free : IsGood (record s { answer = drop 1 s.answer })
-      free =
+      go : (answer : Option (List ℕ)) (mac : Option Mac) → slice_get s.answer 0 ≡ answer
+          → mac_of s.answer_hop s.neighbours ≡ mac → IsGiven (sends_answer answer mac s)
+      go None mac e m = nothing s good
+      go (Some packet) None e m = nothing s good
+      go (Some packet) (Some mac) e m =
+          let is : IsAnswer s.answer_hop packet =
+          each-get (IsAnswer s.answer_hop) s.answer 0 packet good.answer e in
           record {
-            config = good.config;
-            link = good.link;
-            neighbours = good.neighbours;
-            distinct = good.distinct;
-            held = good.held;
-            answer = each-drop (IsMade c F G) 1 s.answer good.answer;
+            good = record {
+              config = good.config;
+              link = good.link;
+              neighbours = good.neighbours;
+              distinct = good.distinct;
+              replies = good.replies;
+              held = good.held;
+              answer = each-drop (IsAnswer s.answer_hop) 1 s.answer good.answer;
+            };
+            sent =
+                carried s packet mac good is.made
+                (inr (s.answer_hop, is.route, known_mac s.answer_hop mac s.neighbours good.neighbours m));
           }
-
-      go : (answer : Option (List ℕ)) → slice_get s.answer 0 ≡ answer → IsGiven (sends_answer answer s)
-      go None e = nothing s good
-      go (Some packet) e =
-          sends_given packet (record s { answer = drop 1 s.answer }) free
-          (each-get (IsMade c F G) s.answer 0 packet good.answer e)
 
   or_given : (g : Gives) (next : LinkState → Gives) → IsGiven g → ((s : LinkState) → IsGood s → IsGiven (next s))
       → IsGiven (or_then g next)
@@ -412,35 +479,46 @@ module _ (c : Config) (l : Link) (F G : List (List ℕ)) where
 
   -- a change that no packet and no address depends on
   same_good : (s t : LinkState) → IsGood s → t.config ≡ s.config → t.link ≡ s.link → t.neighbours ≡ s.neighbours
-      → t.held ≡ s.held → t.answer ≡ s.answer → IsGood t
-  same_good s t good a b n h w = record {
+      → t.replies ≡ s.replies → t.held ≡ s.held → t.answer ≡ s.answer → t.answer_hop ≡ s.answer_hop → IsGood t
+  same_good s t good a b n r h w o = record {
     config = a ∙ good.config;
     link = b ∙ good.link;
     neighbours = subst (Each IsKnown) (sym n) good.neighbours;
     distinct = subst AreDistinct (sym n) good.distinct;
+    replies = subst (Each IsFromHost) (sym r) good.replies;
     held = subst (Each IsWaiting) (sym h) good.held;
-    answer = subst (Each (IsMade c F G)) (sym w) good.answer;
+    answer =
+        subst (λ hop. Each (IsAnswer hop) t.answer) (sym o) (subst (Each (IsAnswer s.answer_hop)) (sym w) good.answer);
   }
 
   pub ignores_good : (s : LinkState) → IsGood s → IsGood (ignores s)
-  ignores_good s good = same_good s _ good refl refl refl refl refl
+  ignores_good s good = same_good s _ good refl refl refl refl refl refl refl
 
   pub refuses_good : (s : LinkState) → IsGood s → IsGood (refuses s)
-  refuses_good s good = same_good s _ good refl refl refl refl refl
+  refuses_good s good = same_good s _ good refl refl refl refl refl refl refl
 
   finds_bad_good : (s : LinkState) → IsGood s → IsGood (counts_bad_arp s)
-  finds_bad_good s good = same_good s _ good refl refl refl refl refl
+  finds_bad_good s good = same_good s _ good refl refl refl refl refl refl refl
 
   conflict_good : (s : LinkState) → IsGood s → IsGood (counts_conflict s)
-  conflict_good s good = same_good s _ good refl refl refl refl refl
+  conflict_good s good = same_good s _ good refl refl refl refl refl refl refl
 
-  owes_good : (a : Arp) (s : LinkState) → IsGood s → IsGood (queues_reply a s)
-  owes_good a s good = go (is_asked s a)
+  owes_good : (a : Arp) (s : LinkState) → is_host_mac a.mac ≡ true → IsGood s → IsGood (queues_reply a s)
+  owes_good a s host good = go (is_asked s a)
     where
       inner : (b : Bool) → IsGood (cond b (record s { replies = s.replies ++ record { mac = a.mac; ip = a.ip } ∷ [] })
           (record s { tallies = record s.tallies { replies_dropped = more_by 1 s.tallies.replies_dropped } }))
-      inner true = same_good s _ good refl refl refl refl refl
-      inner false = same_good s _ good refl refl refl refl refl
+      inner true = record {
+        config = good.config;
+        link = good.link;
+        neighbours = good.neighbours;
+        distinct = good.distinct;
+        replies =
+            each-append IsFromHost s.replies (record { mac = a.mac; ip = a.ip } ∷ []) good.replies (host, tt);
+        held = good.held;
+        answer = good.answer;
+      }
+      inner false = same_good s _ good refl refl refl refl refl refl refl
 
       go : (b : Bool) → IsGood (cond b
           (cond (nat_lt (length s.replies) 8)
@@ -451,7 +529,7 @@ module _ (c : Config) (l : Link) (F G : List (List ℕ)) where
 
   adds_error_good : (e : Option SocketError) (s : LinkState) → IsGood s → IsGood (adds_error e s)
   adds_error_good None s good = good
-  adds_error_good (Some e) s good = same_good s _ good refl refl refl refl refl
+  adds_error_good (Some e) s good = same_good s _ good refl refl refl refl refl refl refl
 
   pub adds_error_if_good : (b : Bool) (came : List ℕ) (s : LinkState) → IsGood s → IsGood (adds_error_if b came s)
   adds_error_if_good true came s good = adds_error_good (error_in s.config came) s good
@@ -459,7 +537,7 @@ module _ (c : Config) (l : Link) (F G : List (List ℕ)) where
 
   takes_at_good : (at : Option ℕ) (s : LinkState) → IsGood s → IsGood (takes_at at s).1
   takes_at_good None s good = good
-  takes_at_good (Some at) s good = same_good s _ good refl refl refl refl refl
+  takes_at_good (Some at) s good = same_good s _ good refl refl refl refl refl refl refl
 
   pub takes_good : (port : Option ℕ) (peer : Option Addr) (s : LinkState) → IsGood s
       → IsGood (takes_error port peer s).1
@@ -468,74 +546,116 @@ module _ (c : Config) (l : Link) (F G : List (List ℕ)) where
   takes_good (Some port) (Some peer) s good = takes_at_good (error_at port peer s.errors) s good
 
   pub ticks_good : (s : LinkState) → IsGood s → IsGood (ticks s)
-  ticks_good s good = record {
-    config = good.config;
-    link = good.link;
-    neighbours =
-        each-filter IsKnown neighbour_stays (map neighbour_aged s.neighbours)
-        (each-map IsKnown neighbour_aged (λ n is. record { learned = is.learned; near = is.near }) s.neighbours
-        good.neighbours);
-    distinct = distinct_stays s.neighbours good.distinct;
-    held =
-        each-filter IsWaiting (is_resolvable (filter neighbour_stays (map neighbour_aged s.neighbours))) s.held
-        good.held;
-    answer = good.answer;
-  }
+  ticks_good s good =
+      by_test IsGood (is_answering (ages s) && not (is_some (neighbour_place s.answer_hop (ages s).neighbours)))
+      (counts_icmp_dropped (record (ages s) { answer = [] })) (ages s)
+      (record {
+        config = aged.config;
+        link = aged.link;
+        neighbours = aged.neighbours;
+        distinct = aged.distinct;
+        replies = aged.replies;
+        held = aged.held;
+        answer = tt;
+      }) aged
+    where
+      aged : IsGood (ages s)
+      aged = record {
+        config = good.config;
+        link = good.link;
+        neighbours =
+            each-filter IsKnown neighbour_stays (map neighbour_aged s.neighbours)
+            (each-map IsKnown neighbour_aged (λ n is. record { learned = is.learned; near = is.near }) s.neighbours
+            good.neighbours);
+        distinct = distinct_stays s.neighbours good.distinct;
+        replies = good.replies;
+        held =
+            each-filter IsWaiting (is_resolvable (filter neighbour_stays (map neighbour_aged s.neighbours))) s.held
+            good.held;
+        answer = good.answer;
+      }
+
+  -- ---- a reply is put in its place
+
+  way_good : (s : LinkState) → IsGood s → IsGood (makes_way s)
+  way_good s good =
+      by_test IsGood (is_answering s) (counts_icmp_dropped s) s
+      (same_good s (counts_icmp_dropped s) good refl refl refl refl refl refl refl) good
+
+  puts_good : (hop : ℕ) (packets : List (List ℕ)) (s : LinkState) → IsGood s → Each (IsAnswer hop) packets
+      → IsGood (puts_answer hop packets s)
+  puts_good hop packets s good is =
+      asks_good hop (record s { answer = packets; answer_hop = hop; answer_id = (s.answer_id + 1) % 65536 }) (record {
+        config = good.config;
+        link = good.link;
+        neighbours = good.neighbours;
+        distinct = good.distinct;
+        replies = good.replies;
+        held = good.held;
+        answer = is;
+      })
+
+  answered : (hop id : ℕ) (f body : List ℕ) → IsReply c F (reflected c id (body_of f) body)
+      → route c l (head_of (body_of f)).source ≡ Hop hop
+      → Each (IsAnswer hop) (reflected c id (body_of f) body)
+  answered hop id f body is e =
+      let reply : List (List ℕ) = reflected c id (body_of f) body in
+      each-both (λ p in' to. record { made = inr (reply, is, in'); route = to }) reply
+      (recursion_from_All _ reply (All-contains_itself reply)) (reply_route c l id (body_of f) body hop e)
+
+  echo_good : (hop : ℕ) (f : List ℕ) (s : LinkState) → IsGood s → Contains F f
+      → route c l (head_of (body_of f)).source ≡ Hop hop → IsGood (puts_echo hop (body_of f) s)
+  echo_good hop f s good came e =
+      same_good (puts_answer hop (echo_reply s.config s.answer_id (body_of f)) s) _
+      (puts_good hop (echo_reply s.config s.answer_id (body_of f)) s good
+      (subst (λ (x : Config). Each (IsAnswer hop) (echo_reply x s.answer_id (body_of f))) (sym good.config)
+      (answered hop s.answer_id f (echo_message (body_of f)) (f, came, s.answer_id, inl refl) e)))
+      refl refl refl refl refl refl refl
+
+  unreachable_good : (hop : ℕ) (f : List ℕ) (s : LinkState) → IsGood s → Contains F f
+      → route c l (head_of (body_of f)).source ≡ Hop hop → IsGood (puts_unreachable hop (body_of f) s)
+  unreachable_good hop f s good came e =
+      same_good (puts_answer hop (port_unreachable s.config s.answer_id (body_of f)) less) _
+      (puts_good hop (port_unreachable s.config s.answer_id (body_of f)) less
+      (same_good s less good refl refl refl refl refl refl refl)
+      (subst (λ (x : Config). Each (IsAnswer hop) (port_unreachable x s.answer_id (body_of f))) (sym good.config)
+      (answered hop s.answer_id f (unreachable_message (body_of f)) (f, came, s.answer_id, inr refl) e)))
+      refl refl refl refl refl refl refl
+    where
+      less : LinkState
+      less = record s { unreachables = s.unreachables - 1 }
+
+  by_good : (hop : ℕ) (f : List ℕ) (a : Answer) (s : LinkState) → IsGood s → Contains F f
+      → route c l (head_of (body_of f)).source ≡ Hop hop → IsGood (answers_by hop a (body_of f) s)
+  by_good hop f Silence s good came e = good
+  by_good hop f Echo s good came e = echo_good hop f (makes_way s) (way_good s good) came e
+  by_good hop f Unreachable s good came e =
+      by_test IsGood (nat_lt 0 s.unreachables) (puts_unreachable hop (body_of f) (makes_way s)) (limits s)
+      (unreachable_good hop f (makes_way s) (way_good s good) came e)
+      (same_good s (limits s) good refl refl refl refl refl refl refl)
+
+  now_good : (f : List ℕ) (a : Answer) (s : LinkState) → IsGood s → Contains F f
+      → IsGood (answers_now a (body_of f) s)
+  now_good f a s good came =
+      by_test IsGood (is_busy s) (counts_icmp_dropped s) (answers_on way a (body_of f) s)
+      (same_good s (counts_icmp_dropped s) good refl refl refl refl refl refl refl) (on way refl)
+    where
+      way : Route
+      way = route s.config s.link (head_of (body_of f)).source
+
+      on : (r : Route) → way ≡ r → IsGood (answers_on r a (body_of f) s)
+      on All e = good
+      on (Hop hop) e =
+          by_good hop f a s good came
+          (ap (λ (x : Config). route x l (head_of (body_of f)).source) (sym good.config)
+          ∙ ap (λ (x : Link). route s.config x (head_of (body_of f)).source) (sym good.link) ∙ e)
+      on NoRoute e = same_good s (counts_no_route s) good refl refl refl refl refl refl refl
 
   pub answers_good : (f : List ℕ) (a : Answer) (s : LinkState) → IsGood s → Contains F f
       → IsGood (answers_with a (body_of f) s)
   answers_good f Silence s good came = good
-  answers_good f Echo s good came = go (is_answering s)
-    where
-      made : Each (IsMade c F G) (echo_reply s.config (body_of f))
-      made =
-          subst (λ (x : Config). Each (IsMade c F G) (echo_reply x (body_of f))) (sym good.config)
-          (each-weaker (λ p is. inr (f, came, inl is)) (echo_reply c (body_of f))
-          (recursion_from_All _ (echo_reply c (body_of f)) (All-contains_itself (echo_reply c (body_of f)))))
-
-      go : (b : Bool) → IsGood (cond b (counts_no_place s)
-          (counts_echo (puts_answer (echo_reply s.config (body_of f)) s)))
-      go true = same_good s _ good refl refl refl refl refl
-      go false =
-          record {
-            config = good.config;
-            link = good.link;
-            neighbours = good.neighbours;
-            distinct = good.distinct;
-            held = good.held;
-            answer = made;
-          }
-  answers_good f Unreachable s good came = go (is_answering s) (nat_lt 0 s.unreachables)
-    where
-      made : Each (IsMade c F G) (port_unreachable s.config (body_of f))
-      made =
-          subst (λ (x : Config). Each (IsMade c F G) (port_unreachable x (body_of f))) (sym good.config)
-          (each-weaker (λ p is. inr (f, came, inr is)) (port_unreachable c (body_of f))
-          (recursion_from_All _ (port_unreachable c (body_of f))
-          (All-contains_itself (port_unreachable c (body_of f)))))
-
-      learned : LinkState
-      learned =
-          counts_unreachable (puts_answer (port_unreachable s.config (body_of f))
-          (record s { unreachables = s.unreachables - 1 }))
-
-      inner : (b : Bool) → IsGood (cond b
-          (counts_unreachable (puts_answer (port_unreachable s.config (body_of f))
-          (record s { unreachables = s.unreachables - 1 }))) (limits s))
-      inner true =
-          record {
-            config = good.config;
-            link = good.link;
-            neighbours = good.neighbours;
-            distinct = good.distinct;
-            held = good.held;
-            answer = made;
-          }
-      inner false = same_good s _ good refl refl refl refl refl
-
-      go : (b d : Bool) → IsGood (cond b (counts_no_place s) (reports_unreachable (body_of f) s))
-      go true d = same_good s _ good refl refl refl refl refl
-      go false d = inner (nat_lt 0 s.unreachables)
+  answers_good f Echo s good came = now_good f Echo s good came
+  answers_good f Unreachable s good came = now_good f Unreachable s good came
 
 -- ---- one more frame arrived
 
@@ -559,20 +679,22 @@ module _ (c : Config) (l : Link) (F G : List (List ℕ)) (f : List ℕ) where
   here = All-head (Contains (f ∷ F)) f F (All-contains_itself (f ∷ F))
 
   -- the invariant still holds after one more frame, if the neighbours are known by then
-  later_good : (s t : LinkState) → Good F s → t.config ≡ s.config → t.link ≡ s.link → t.held ≡ s.held
-      → t.answer ≡ s.answer
+  later_good : (s t : LinkState) → Good F s → t.config ≡ s.config → t.link ≡ s.link → t.replies ≡ s.replies
+      → t.held ≡ s.held → t.answer ≡ s.answer → t.answer_hop ≡ s.answer_hop
       → Each (IsKnown c l (f ∷ F) G) t.neighbours → AreDistinct t.neighbours → Good (f ∷ F) t
-  later_good s t good a b h w known distinct = record {
+  later_good s t good a b r h w o known distinct = record {
     config = a ∙ good.config;
     link = b ∙ good.link;
     neighbours = known;
     distinct = distinct;
+    replies = subst (Each IsFromHost) (sym r) good.replies;
     held =
         subst (Each (IsWaiting c l (f ∷ F) G)) (sym h)
-        (each-weaker (λ x is. record { made = later_made c F G f x.packet is.made; route = is.route }) s.held
-        good.held);
+        (each-weaker (λ x is. record { made = is.made; route = is.route }) s.held good.held);
     answer =
-        subst (Each (IsMade c (f ∷ F) G)) (sym w) (each-weaker (later_made c F G f) s.answer good.answer);
+        subst (λ hop. Each (IsAnswer c l (f ∷ F) G hop) t.answer) (sym o)
+        (subst (Each (IsAnswer c l (f ∷ F) G s.answer_hop)) (sym w)
+        (each-weaker (λ p is. record { made = later_made c F G f p is.made; route = is.route }) s.answer good.answer));
   }
 
   known_later : (n : Neighbour) → ((mac : Mac) → n.mac ≡ Some mac → Learned n.ip ≡ last_given c l n.ip F)
@@ -583,7 +705,7 @@ module _ (c : Config) (l : Link) (F G : List (List ℕ)) (f : List ℕ) where
       → ((n : Neighbour) → (mac : Mac) → n.mac ≡ Some mac → is_neighbour c l n.ip ≡ true
       → Learned n.ip ≡ last_given c l n.ip F) → Good (f ∷ F) s
   all_later s good same =
-      later_good s s good refl refl refl refl
+      later_good s s good refl refl refl refl refl refl
       (each-weaker (λ n is. known_later n (λ mac e. same n mac e (is.near mac e)) is) s.neighbours good.neighbours)
       good.distinct
 
@@ -641,7 +763,7 @@ module _ (c : Config) (l : Link) (F G : List (List ℕ)) (f : List ℕ) where
         puts : is_neighbour c l a.ip ≡ true → Good (f ∷ F)
             (record s { neighbours = put (neighbour_from a) s.neighbours })
         puts near =
-            later_good s _ good refl refl refl refl
+            later_good s _ good refl refl refl refl refl refl
             (put_each (IsKnown c l (f ∷ F) G) (neighbour_from a) s.neighbours (known near) good.distinct
             (each-weaker (λ n is other. known_later n (λ mac e. other_learned n.ip other) is) s.neighbours
             good.neighbours))
@@ -649,7 +771,7 @@ module _ (c : Config) (l : Link) (F G : List (List ℕ)) (f : List ℕ) where
 
         stays_new : neighbour_place a.ip s.neighbours ≡ None → Good (f ∷ F) s
         stays_new e =
-            later_good s s good refl refl refl refl
+            later_good s s good refl refl refl refl refl refl
             (each-both (λ n other is. known_later n (λ mac x. other_learned n.ip other) is) s.neighbours
             (new_ip a.ip s.neighbours e) good.neighbours) good.distinct
 
@@ -689,12 +811,17 @@ module _ (c : Config) (l : Link) (F G : List (List ℕ)) (f : List ℕ) where
         sound_is : is_sound_arp l (body_of f) ≡ is_sound_arp s.link (body_of f)
         sound_is = ap (λ (x : Link). is_sound_arp x (body_of f)) (sym good.link)
 
+        from_host : is_sound_arp l (body_of f) ≡ true → is_host_mac a.mac ≡ true
+        from_host sound =
+            (and_parts (not (same_mac a.mac l.mac)) _ (and_parts (is_arp (body_of f)) _ sound).1).1
+
         inner : is_sound_arp l (body_of f) ≡ true → (b : Bool) → is_conflict s (arp_of (body_of f)) ≡ b
             → Good (f ∷ F) (cond b (queues_reply (arp_of (body_of f)) (counts_conflict s))
             (queues_reply (arp_of (body_of f)) (learns (arp_of (body_of f)) s)))
         inner sound true e =
-            owes_good c l (f ∷ F) G a (counts_conflict s) (conflict_good c l (f ∷ F) G s (conflict_others s good e))
-        inner sound false e = owes_good c l (f ∷ F) G a (learns a s) (learns_good s good sound)
+            owes_good c l (f ∷ F) G a (counts_conflict s) (from_host sound)
+            (conflict_good c l (f ∷ F) G s (conflict_others s good e))
+        inner sound false e = owes_good c l (f ∷ F) G a (learns a s) (from_host sound) (learns_good s good sound)
 
         go : (b : Bool) → is_sound_arp s.link (body_of f) ≡ b
             → Good (f ∷ F) (cond b (cond (is_conflict s (arp_of (body_of f)))

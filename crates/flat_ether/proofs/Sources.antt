@@ -168,7 +168,8 @@ module _ (c : Config) (out : List Item) where
 
 -- ---- the source address of a packet
 
-four : (n : ℕ) → 65536 * (256 * (n / 65536 / 256) + n / 65536 % 256) + (256 * (n % 65536 / 256) + n % 65536 % 256) ≡ n
+pub four : (n : ℕ)
+    → 65536 * (256 * (n / 65536 / 256) + n / 65536 % 256) + (256 * (n % 65536 / 256) + n % 65536 % 256) ≡ n
 four n = omega arith
 
 source_read : (h : Head) (t : List ℕ) → u32_at 12 (packet h t) ≡ h.source

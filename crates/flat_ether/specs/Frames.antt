@@ -1,5 +1,5 @@
 -- The bytes of frames and of ARP packets (RFC 894, RFC 826). All numbers are big-endian.
-use Rattle.std.specs.Prelude.{ℕ, ◌+◌, ◌/◌, ◌^◌, nat_lt, nat_le, Bool, ◌==◌, ◌&&◌, ◌||◌, if◌then◌else◌, List, ◌++◌, length, drop}
+use Rattle.std.specs.Prelude.{ℕ, ◌+◌, ◌/◌, ◌%◌, ◌^◌, nat_lt, nat_le, Bool, ◌==◌, ◌&&◌, ◌||◌, not, if◌then◌else◌, List, ◌++◌, length, drop}
 use Rattle.flat_model.specs.Packets.Header.{two_bytes, four_bytes, u16_at, u32_at}
 use Rattle.flat_model.specs.declared.config.Config.{Config}
 use Rattle.params.specs.declared.TheConstants.{IP_HEADER, FIRST_MULTICAST, LOOPBACK}
@@ -28,6 +28,10 @@ ether_broadcast = record { high = 0xffff; low = 0xffffffff }
 -- what a request has instead of the hardware address that it looks for
 abbrev pub no_mac : Mac
 no_mac = record { high = 0; low = 0 }
+
+-- It can be the address of one host: it's not a group's, as the broadcast address is, and not all zeros.
+abbrev pub is_host_mac : Mac → Bool
+is_host_mac m = (m.high / 256 % 2 == 0) && not (same_mac m no_mac)
 
 -- ---- frames
 

@@ -1,16 +1,16 @@
 -- What holds for whole runs of a host (this project's own).
-use Rattle.std.specs.Prelude.{◌≡◌, ◌≢◌, ◌⊎◌, ℕ, ◌<◌, ◌≤◌, ◌+◌, ◌^◌, List, [], ◌∷◌, ◌++◌, length, slice_index, filter_map, option_to_list, All, Contains, Option, Some, None, Bool, true, ◌==◌, ◌&&◌, if◌then◌else◌}
+use Rattle.std.specs.Prelude.{◌≡◌, ◌≢◌, ◌⊎◌, ℕ, ◌<◌, ◌≤◌, ◌+◌, ◌/◌, ◌%◌, ◌^◌, List, [], ◌∷◌, ◌++◌, length, slice_index, filter_map, option_to_list, All, Contains, Option, Some, None, Bool, true, ◌==◌, ◌&&◌, if◌then◌else◌}
 use Rattle.params.specs.declared.TheConstants.{PROTOCOL_UDP}
 use Rattle.flat_model.specs.Machine.Ledger.{exact_ledger}
 use Rattle.flat_model.specs.Machine.Count.{value_of}
-use Rattle.flat_model.specs.Packets.Header.{u16_at}
+use Rattle.flat_model.specs.Packets.Header.{head_of, u16_at}
 use Rattle.flat_model.specs.declared.address.Addr.{Addr}
 use Rattle.flat_model.specs.declared.counter.Counter.TheVariants.{IpLocalout}
 use Rattle.flat_model.specs.Machine.State.{IsConfig, Socket, Datagram, boot}
 use Rattle.flat_model.specs.Runs.Run.{Turn, Leads}
 use Rattle.flat_model.specs.Machine.Calls.{is_ours}
 use Rattle.flat_wire.specs.Wire.{ComesFrom, IsAnswered, WasSent, ip_source, packet_in, packet_out}
-use Rattle.flat_ether.specs.Frames.{arp_bytes, arp_of, body_of, ether_broadcast, frame, kind_of}
+use Rattle.flat_ether.specs.Frames.{arp_bytes, arp_of, body_of, ether_broadcast, frame, is_host_mac, kind_of, mac_at, no_mac}
 use Rattle.flat_ether.specs.Icmp.{echo_reply, port_unreachable}
 use Rattle.flat_ether.specs.Hosts.{HostAct, AreHostActs, Host, host_up, Comes_in, Goes_out, Clock, Calls, Asks_error, Ages}
 use Rattle.flat_ether.specs.Links.{is_sound_arp, route_to}
@@ -108,12 +108,17 @@ abbrev pub last_given : Config → Link → ℕ → List (List ℕ) → Option M
 last_given c l ip [] = None
 last_given c l ip (f ∷ before) = given_in l ip (arp_if (kind_of c l.mac f) f) (last_given c l ip before)
 
+-- the reply to the packet of one of these frames, with some identification
+abbrev pub IsReply : Config → List (List ℕ) → List (List ℕ) → Type 0
+IsReply c frames reply =
+    (frame : List ℕ) × Contains frames frame
+    × (id : ℕ) × ((reply ≡ echo_reply c id (body_of frame)) ⊎ (reply ≡ port_unreachable c id (body_of frame)))
+
 -- the machine gave the packet, or it's part of the reply to the packet of a frame that arrived before
 abbrev pub IsMade : Config → List (List ℕ) → List (List ℕ) → List ℕ → Type 0
 IsMade c frames given packet =
     Contains given packet
-    ⊎ ((frame : List ℕ) × Contains frames frame
-    × (Contains (echo_reply c (body_of frame)) packet ⊎ Contains (port_unreachable c (body_of frame)) packet))
+    ⊎ ((reply : List (List ℕ)) × IsReply c frames reply × Contains reply packet)
 
 -- to the broadcast address if that is the packet's route; otherwise to the hardware address that was given last for its
 -- next hop
@@ -130,12 +135,14 @@ pub record CarriesPacket (c : Config) (l : Link) (frames given : List (List ℕ)
   pub made : IsMade c frames given packet
   pub route : IsRoute c l frames packet mac
 
--- a frame with an ARP packet of the host, which has its address as the sender's, or 0 in a probe
+-- a frame with an ARP packet of the host, which has its address as the sender's, or 0 in a probe; it's sent to the
+-- broadcast address, or to one that a host can have
 pub record IsOwnArp (c : Config) (l : Link) (f : List ℕ) : Type 0 where
   pub op : ℕ
   pub sender : ℕ
   pub sender_is : (sender ≡ c.addr) ⊎ (sender ≡ 0)
   pub to : Mac
+  pub to_is : (to ≡ ether_broadcast) ⊎ (is_host_mac to ≡ true)
   pub target_mac : Mac
   pub target : ℕ
   pub frame_is : f ≡ frame to l.mac ETHER_TYPE_ARP (arp_bytes op l.mac sender target_mac target)
@@ -156,18 +163,28 @@ AreSent c l given before (act ∷ acts) =
 
 -- These acts are turns of the machine. In these turns the packets of the frames for the host arrived, in their order.
 -- Each frame that was sent is an ARP packet of the host, or has a packet that the machine gave or that is part of a
--- reply.
+-- reply. Each packet that still waits for a hardware address is one that the machine gave: no reply waits among them.
 pub record MakesTurns (c : Config) (l : Link) (acts : List HostAct) (new : Host) : Type 0 where
   pub turns : List Turn
   pub leads : Leads exact_ledger (boot c) turns new.machine
   pub came : filter_map packet_in turns ≡ packets_to c l.mac acts
   pub went : AreSent c l (filter_map packet_out turns) [] acts
+  pub waits : All (λ h. Contains (filter_map packet_out turns) h.packet) new.link.held
 
 -- ---- the source addresses that a host uses
 
 -- the packet's source is one of the host's addresses
 abbrev pub IsOwn : Config → List ℕ → Type 0
 IsOwn c packet = is_ours c (ip_source packet) ≡ true
+
+-- the frame is sent to the broadcast address, or to one that isn't a group's (its first byte is even) and not all zeros
+abbrev pub IsToHost : List ℕ → Type 0
+IsToHost f =
+    (mac_at 0 f ≡ ether_broadcast) ⊎ (((mac_at 0 f).high / 256 % 2 ≡ 0) × (mac_at 0 f ≢ no_mac))
+
+-- the packet has this identification
+abbrev pub HasId : ℕ → List ℕ → Type 0
+HasId id packet = (head_of packet).id ≡ id
 
 -- the frame has no packet that is longer than this
 abbrev pub IsWithin : ℕ → List ℕ → Type 0

@@ -1,8 +1,8 @@
 -- The link state that a host keeps as well as the machine, and its steps (volume 2, chapters 4 and 21; RFC 826). All
 -- steps are functions: no result is left open.
-use Rattle.std.specs.Prelude.{ℕ, ◌+◌, ◌-◌, ◌*◌, nat_lt, nat_le, Bool, ◌==◌, ◌&&◌, ◌||◌, not, if◌then◌else◌, List, [], ◌∷◌, ◌++◌, length, min, map, filter, position, drop, remove, slice_get, slice_index_or, slice_set, Option, Some, None, is_some}
+use Rattle.std.specs.Prelude.{ℕ, ◌+◌, ◌-◌, ◌*◌, ◌%◌, nat_lt, nat_le, Bool, ◌==◌, ◌&&◌, ◌||◌, not, if◌then◌else◌, List, [], ◌∷◌, ◌++◌, length, min, map, filter, position, drop, remove, slice_get, slice_index_or, slice_set, Option, Some, None, is_some}
 use Rattle.params.specs.declared.TheConstants.{IP_HEADER}
-use Rattle.flat_model.specs.Packets.Header.{u32_at}
+use Rattle.flat_model.specs.Packets.Header.{head_of, u32_at}
 use Rattle.flat_model.specs.Machine.Count.{more_by}
 use Rattle.flat_model.specs.declared.config.Config.{Config}
 use Rattle.flat_ether.specs.Claims.{claim_due, claim_sent, claim_ticks, claim_up, conflicts, is_claimed}
@@ -10,7 +10,7 @@ use Rattle.flat_ether.specs.Errors.{error_at, error_in, error_fault, add_error}
 use Rattle.flat_ether.specs.declared.error.NetFault.{NetFault}
 use Rattle.flat_ether.specs.declared.error.SocketError.{SocketError}
 use Rattle.flat_model.specs.declared.address.Addr.{Addr}
-use Rattle.flat_ether.specs.Frames.{frame, ether_broadcast, no_mac, arp_bytes, arp_of, is_arp, same_mac}
+use Rattle.flat_ether.specs.Frames.{frame, ether_broadcast, no_mac, arp_bytes, arp_of, is_arp, is_host_mac, same_mac}
 use Rattle.flat_ether.specs.Routes.{is_neighbour, route}
 use Rattle.flat_ether.specs.Icmp.{echo_reply, port_unreachable}
 use Rattle.flat_ether.specs.declared.answer.Answer.{Answer}
@@ -34,9 +34,9 @@ pub record WaitingPacket : Type 0 where
   pub packet : List ℕ
 
 -- The machine's configuration and its link; the neighbours, the most recently updated last; the senders to which an ARP
--- reply is due; the packets that wait, the oldest first; the packets of the ICMP reply that waits; the errors that no
--- call has fetched yet; the claim to the address; how many more "port unreachable" may be sent before the next tick;
--- and the counters.
+-- reply is due; the packets that wait, the oldest first; the packets of the ICMP reply that waits, and its next hop;
+-- the identification of the next ICMP reply, apart from the machine's own; the errors that no call has fetched yet; the
+-- claim to the address; how many more "port unreachable" may be sent before the next tick; and the counters.
 pub record LinkState : Type 0 where
   pub config : Config
   pub link : Link
@@ -44,6 +44,8 @@ pub record LinkState : Type 0 where
   pub replies : List PendingReply
   pub held : List WaitingPacket
   pub answer : List (List ℕ)
+  pub answer_hop : ℕ
+  pub answer_id : ℕ
   pub errors : List SocketError
   pub claim : Claim
   pub unreachables : ℕ
@@ -78,6 +80,8 @@ link_up c l =
       replies = [];
       held = [];
       answer = [];
+      answer_hop = 0;
+      answer_id = c.first_id;
       errors = [];
       claim = claim_up l.probe;
       unreachables = UNREACHABLES;
@@ -165,9 +169,10 @@ is_rival s a = not (is_claimed s.claim) && ((a.op == ARP_REQUEST) && ((a.ip == 0
 abbrev pub is_conflict : LinkState → Arp → Bool
 is_conflict s a = (a.ip == s.config.addr) || is_rival s a
 
--- in the right form, and neither from this host itself nor from the broadcast address
+-- in the right form, not from this host itself, and from a hardware address that one host can have (RFC 1812, section
+-- 3.3.2, for a group's)
 abbrev pub is_sound_arp : Link → List ℕ → Bool
-is_sound_arp l b = is_arp b && (not (same_mac (arp_of b).mac l.mac) && not (same_mac (arp_of b).mac ether_broadcast))
+is_sound_arp l b = is_arp b && (not (same_mac (arp_of b).mac l.mac) && is_host_mac (arp_of b).mac)
 
 abbrev pub receives_arp : List ℕ → LinkState → LinkState
 receives_arp b s =
@@ -180,6 +185,9 @@ receives_arp b s =
 
 abbrev pub counts_too_long : LinkState → LinkState
 counts_too_long s = record s { tallies = record s.tallies { too_long = more_by 1 s.tallies.too_long } }
+
+abbrev pub counts_no_route : LinkState → LinkState
+counts_no_route s = record s { tallies = record s.tallies { no_route = more_by 1 s.tallies.no_route } }
 
 abbrev pub takes_place : ℕ → List ℕ → LinkState → LinkState
 takes_place hop packet s = record s { held = s.held ++ record { hop = hop; packet = packet } ∷ [] }
@@ -215,7 +223,7 @@ to_hop hop packet s (Some mac) = (Some (frame mac s.link.mac ETHER_TYPE_IP packe
 abbrev pub by_route : List ℕ → LinkState → Route → Gives
 by_route packet s All = (Some (frame ether_broadcast s.link.mac ETHER_TYPE_IP packet), s)
 by_route packet s (Hop hop) = to_hop hop packet s (mac_of hop s.neighbours)
-by_route packet s NoRoute = (None, record s { tallies = record s.tallies { no_route = more_by 1 s.tallies.no_route } })
+by_route packet s NoRoute = (None, counts_no_route s)
 
 -- the route of a packet; one without a header has none
 abbrev pub route_to : Config → Link → List ℕ → Route
@@ -312,13 +320,16 @@ sends_at (Some found) s = sends_held found.0 found.1 (slice_get s.held found.0) 
 abbrev pub gives_held : LinkState → Gives
 gives_held s = sends_at (first_ready s.neighbours s.held) s
 
--- the next packet of the ICMP reply is sent like any other packet; after the last one the place for a reply is free
-abbrev pub sends_answer : Option (List ℕ) → LinkState → Gives
-sends_answer None s = (None, s)
-sends_answer (Some packet) s = sends packet (record s { answer = drop 1 s.answer })
+-- The next packet of the ICMP reply is sent if the hardware address of its next hop is known. Until then all of the
+-- reply waits in its own place, and not among the packets that wait. After the last one the place is free.
+abbrev pub sends_answer : Option (List ℕ) → Option Mac → LinkState → Gives
+sends_answer None mac s = (None, s)
+sends_answer (Some packet) None s = (None, s)
+sends_answer (Some packet) (Some mac) s =
+    (Some (frame mac s.link.mac ETHER_TYPE_IP packet), record s { answer = drop 1 s.answer })
 
 abbrev pub gives_answer : LinkState → Gives
-gives_answer s = sends_answer (slice_get s.answer 0) s
+gives_answer s = sends_answer (slice_get s.answer 0) (mac_of s.answer_hop s.neighbours) s
 
 -- the first, or if it gives no frame, the second
 abbrev pub or_then : Gives → (LinkState → Gives) → Gives
@@ -350,24 +361,45 @@ keeps ns s =
       tallies = record s.tallies { unresolved = more_by (length s.held - length held) s.tallies.unresolved };
     }
 
--- a tick: entries that expired are removed, and the packets that waited for them are dropped
-abbrev pub ticks : LinkState → LinkState
-ticks s =
-    keeps (filter neighbour_stays (map neighbour_aged s.neighbours))
-    (record s { claim = claim_ticks s.claim; unreachables = UNREACHABLES })
-
--- ---- ICMP
-
--- packets of a reply still wait
+-- packets of an ICMP reply still wait
 abbrev pub is_answering : LinkState → Bool
 is_answering s = is_some (slice_get s.answer 0)
 
--- a reply gets the place, if it's free
-abbrev pub puts_answer : List (List ℕ) → LinkState → LinkState
-puts_answer packets s = record s { answer = packets }
+abbrev pub counts_icmp_dropped : LinkState → LinkState
+counts_icmp_dropped s = record s { tallies = record s.tallies { icmp_dropped = more_by 1 s.tallies.icmp_dropped } }
 
-abbrev pub counts_no_place : LinkState → LinkState
-counts_no_place s = record s { tallies = record s.tallies { icmp_dropped = more_by 1 s.tallies.icmp_dropped } }
+-- the reply that waits is dropped if its next hop is neither known nor requested any more
+abbrev pub keeps_answer : LinkState → LinkState
+keeps_answer s =
+    if is_answering s && not (is_some (neighbour_place s.answer_hop s.neighbours))
+    then counts_icmp_dropped (record s { answer = [] })
+    else s
+
+-- entries that expired are removed, and the packets that waited for them are dropped
+abbrev pub ages : LinkState → LinkState
+ages s =
+    keeps (filter neighbour_stays (map neighbour_aged s.neighbours))
+    (record s { claim = claim_ticks s.claim; unreachables = UNREACHABLES })
+
+-- a tick
+abbrev pub ticks : LinkState → LinkState
+ticks s = keeps_answer (ages s)
+
+-- ---- ICMP
+
+-- A reply is being sent: the hardware address of its next hop is known.
+abbrev pub is_busy : LinkState → Bool
+is_busy s = is_answering s && is_some (mac_of s.answer_hop s.neighbours)
+
+-- a reply that waits for a hardware address makes way for a newer one
+abbrev pub makes_way : LinkState → LinkState
+makes_way s = if is_answering s then counts_icmp_dropped s else s
+
+-- A reply takes the place and the next identification. The hardware address of its next hop is requested if it isn't
+-- known.
+abbrev pub puts_answer : ℕ → List (List ℕ) → LinkState → LinkState
+puts_answer hop packets s =
+    asks hop (record s { answer = packets; answer_hop = hop; answer_id = (s.answer_id + 1) % 65536 })
 
 abbrev pub counts_echo : LinkState → LinkState
 counts_echo s = record s { tallies = record s.tallies { echoes = more_by 1 s.tallies.echoes } }
@@ -379,18 +411,39 @@ counts_unreachable s = record s { tallies = record s.tallies { unreachable = mor
 abbrev pub limits : LinkState → LinkState
 limits s = record s { tallies = record s.tallies { limited = more_by 1 s.tallies.limited } }
 
-abbrev pub reports_unreachable : List ℕ → LinkState → LinkState
-reports_unreachable came s =
-    if nat_lt 0 s.unreachables
-    then counts_unreachable (puts_answer (port_unreachable s.config came)
+abbrev pub puts_echo : ℕ → List ℕ → LinkState → LinkState
+puts_echo hop came s = counts_echo (puts_answer hop (echo_reply s.config s.answer_id came) s)
+
+abbrev pub puts_unreachable : ℕ → List ℕ → LinkState → LinkState
+puts_unreachable hop came s =
+    counts_unreachable (puts_answer hop (port_unreachable s.config s.answer_id came)
     (record s { unreachables = s.unreachables - 1 }))
-    else limits s
+
+abbrev pub reports_unreachable : ℕ → List ℕ → LinkState → LinkState
+reports_unreachable hop came s =
+    if nat_lt 0 s.unreachables then puts_unreachable hop came (makes_way s) else limits s
+
+-- a reply by way of this next hop
+abbrev pub answers_by : ℕ → Answer → List ℕ → LinkState → LinkState
+answers_by hop Silence came s = s
+answers_by hop Echo came s = puts_echo hop came (makes_way s)
+answers_by hop Unreachable came s = reports_unreachable hop came s
+
+-- no reply is broadcast
+abbrev pub answers_on : Route → Answer → List ℕ → LinkState → LinkState
+answers_on All a came s = s
+answers_on (Hop hop) a came s = answers_by hop a came s
+answers_on NoRoute a came s = counts_no_route s
+
+-- a reply to a packet, to its sender
+abbrev pub answers_now : Answer → List ℕ → LinkState → LinkState
+answers_now a came s =
+    if is_busy s then counts_icmp_dropped s else answers_on (route s.config s.link (head_of came).source) a came s
 
 abbrev pub answers_with : Answer → List ℕ → LinkState → LinkState
 answers_with Silence came s = s
-answers_with Echo came s =
-    if is_answering s then counts_no_place s else counts_echo (puts_answer (echo_reply s.config came) s)
-answers_with Unreachable came s = if is_answering s then counts_no_place s else reports_unreachable came s
+answers_with Echo came s = answers_now Echo came s
+answers_with Unreachable came s = answers_now Unreachable came s
 
 -- ---- errors that other hosts report
 

@@ -1,6 +1,6 @@
 //! Hardware addresses.
 ghost use Rattle.std.specs.Prelude.{◌≡◌};
-ghost use Rattle.flat_ether.specs.Frames.{same_mac};
+ghost use Rattle.flat_ether.specs.Frames.{is_host_mac, same_mac};
 
 /// An Ethernet address of 48 bits: `aa:bb:cc:dd:ee:ff` is 0xaabb and 0xccddeeff.
 #[derive(Clone, Copy, Debug, Default, PartialEq, Eq)]
@@ -26,5 +26,12 @@ impl Mac {
         ensures { result ≡ same_mac self other }
     {
         self.high == other.high && self.low == other.low
+    }
+
+    /// Whether it can be the address of one host: it isn't a group's, as the broadcast address is, and not all zeros.
+    pub fn is_host(self) -> bool
+        ensures { result ≡ is_host_mac self }
+    {
+        self.high / 256 % 2 == 0 && !self.is(NO_MAC)
     }
 }

@@ -8,8 +8,8 @@ pub struct Tallies {
     /// IPv4 packets with a source that is a broadcast or multicast address or in 0/8 or 127/8, or with a destination in
     /// 127/8.
     pub martians: u64,
-    /// ARP packets that aren't for Ethernet and IPv4, or that claim to come from this host or from the broadcast
-    /// address.
+    /// ARP packets that aren't for Ethernet and IPv4, or whose sender's hardware address is this host's, a group's or
+    /// all zeros.
     pub bad_arp: u64,
     /// ARP packets of another host that claims this one's address, or probes for it while this one does.
     pub conflicts: u64,
@@ -29,6 +29,7 @@ pub struct Tallies {
     pub unreachable: u64,
     /// Datagrams for which no "port unreachable" was sent, because the limit for one tick was reached.
     pub limited: u64,
-    /// ICMP replies that were dropped because another was still waiting.
+    /// ICMP replies that were dropped: another one was being sent, or a newer one took the place of one that waited for
+    /// a hardware address, or that address never arrived.
     pub icmp_dropped: u64,
 }

@@ -1,4 +1,4 @@
-use Rattle.flat_ether.proofs.Martians.{martians_are_counted, no_martian}
+use Rattle.flat_ether.proofs.Counts.{martians_are_counted, no_martian}
 use Rattle.flat_ether.proofs.laws.martians_are_dropped.Goals as goal
 
 pub returns-clause-counted : goal.returns-clause-counted

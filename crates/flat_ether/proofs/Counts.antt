@@ -1,12 +1,13 @@
--- How often a running host dropped a martian: no other act on the host changes that count.
-use Rattle.std.proofs.Common.{◌≡◌, ℕ, ◌+◌, Bool, true, false, cond, List, [], ◌∷◌, length, drop, Option, Some, None, refl, sym, ap, ◌∙◌, subst, arith}
-use Rattle.std.specs.Prelude.{◌==◌, All, Result, is_some, nat_lt, position, slice_get}
+-- How often a running host dropped a martian, and how many replies it accepted: no other act on the host changes these
+-- counts, and the identification of the next reply is one more after each reply.
+use Rattle.std.proofs.Common.{◌≡◌, ◌⊎◌, inl, inr, ℕ, ◌+◌, ◌-◌, ◌%◌, ◌^◌, ◌<◌, ◌≤◌, min, Bool, true, false, cond, List, [], ◌∷◌, length, Option, Some, None, refl, sym, ap, ◌∙◌, subst, arith}
+use Rattle.std.specs.Prelude.{◌==◌, ◌&&◌, not, All, Result, is_some, nat_lt, position, slice_get}
 use Rattle.std.specs.List.{AllByRecursion as Each}
 use Rattle.std.proofs.lemmas.List.Elements.{All-from_recursion}
 use Rattle.flat_model.specs.Amounts.Weight.{Item}
 use Rattle.flat_model.specs.Machine.Count.{more_by}
-use Rattle.flat_model.specs.Packets.Header.{u16_at}
-use Rattle.flat_model.specs.Machine.State.{Socket, socket_at}
+use Rattle.flat_model.specs.Packets.Header.{head_of, u16_at}
+use Rattle.flat_model.specs.Machine.State.{IsConfig, Socket, socket_at}
 use Rattle.flat_model.specs.declared.address.Addr.{Addr}
 use Rattle.flat_model.specs.declared.config.Config.{Config}
 use Rattle.flat_model.specs.declared.counter.Counter.TheVariants.{IpNoproto}
@@ -15,9 +16,10 @@ use Rattle.flat_ether.specs.Claims.{claim_due, is_claimed}
 use Rattle.flat_ether.specs.Errors.{error_at, error_in}
 use Rattle.flat_ether.specs.Frames.{arp_of, body_of, is_addressed, is_martian, kind_of, packet_kind}
 use Rattle.flat_ether.specs.Hosts.{HostAct, AreHostActs, Asks_error, Ages, Calls, Clock, Comes_in, Drained, Goes_out, ReceivesKind, Host, IsHostAct, drained, error_of_socket, gives, gives_claimed, gives_drained, gives_probe, host_up, is_to_us, or_drains}
-use Rattle.flat_ether.specs.Icmp.{answer_to, counted_more}
+use Rattle.flat_ether.specs.Icmp.{answer_to, counted_more, echo_reply, port_unreachable}
 use Rattle.flat_ether.specs.Laws.{martian_if, martian_in, martians_in, packet_if, packets_in}
-use Rattle.flat_ether.specs.Links.{Gives, WaitingPacket, LinkState, answers_with, asks, asks_at, by_route, claim_frame, drops_first, counts_conflict, first_ready, gives_answer, gives_claim, gives_held, gives_own, gives_reply, gives_request, receives_arp, holds_packet, is_answering, is_asked, is_conflict, is_request_due, is_learned, is_sound_arp, learns, mac_of, adds_error_if, adds_error, or_then, queues_reply, neighbour_place, replies_to, route_of, sends, sends_answer, sends_at, sends_held, takes_at, takes_error, to_hop}
+use Rattle.flat_ether.specs.Links.{Gives, WaitingPacket, LinkState, ages, answers_by, answers_now, answers_on, answers_with, asks, asks_at, by_route, claim_frame, drops_first, counts_conflict, first_ready, gives_answer, gives_claim, gives_held, gives_own, gives_reply, gives_request, receives_arp, holds_packet, is_answering, is_asked, is_busy, is_conflict, is_request_due, is_learned, is_sound_arp, learns, limits, mac_of, makes_way, puts_answer, puts_unreachable, adds_error_if, adds_error, or_then, queues_reply, neighbour_place, replies_to, route_of, sends, sends_answer, sends_at, sends_held, takes_at, takes_error, ticks, to_hop}
+use Rattle.flat_ether.specs.Routes.{route}
 use Rattle.flat_ether.specs.declared.answer.Answer.{Answer}
 use Rattle.flat_ether.specs.declared.answer.Answer.TheVariants.{Echo, Unreachable, Silence}
 use Rattle.flat_ether.specs.declared.arp.Arp.{Arp}
@@ -34,12 +36,34 @@ use Rattle.flat_ether.specs.declared.mac.Mac.{Mac}
 use Rattle.flat_ether.specs.declared.neighbour.PendingReply.{PendingReply}
 use Rattle.flat_ether.specs.declared.sizes.TheConstants.{ETHER_MTU, ETHER_TYPE_ARP, ETHER_TYPE_IP, HELD_PACKETS, PENDING_REPLIES}
 
--- the configuration and the link, by which a frame is classified, and the number of martians
+-- the configuration and the link, by which a frame is classified; the number of martians; the identification of the
+-- next reply, and the numbers of both kinds of replies
 abbrev Tally : Type 0
-Tally = Config × Link × ℕ
+Tally = Config × Link × ℕ × ℕ × ℕ × ℕ
 
 abbrev tally : LinkState → Tally
-tally s = (s.config, s.link, s.tallies.martians)
+tally s = (s.config, s.link, s.tallies.martians, s.answer_id, s.tallies.echoes, s.tallies.unreachable)
+
+abbrev next_id : ℕ → ℕ
+next_id id = (id + 1) % 65536
+
+-- an echo reply more, and a "port unreachable" more
+abbrev echoed : Tally → Tally
+echoed x = (x.0, x.1, x.2, next_id x.3, more_by 1 x.4, x.5)
+
+abbrev reported : Tally → Tally
+reported x = (x.0, x.1, x.2, next_id x.3, x.4, more_by 1 x.5)
+
+abbrev with_next : Tally → Tally
+with_next x = (x.0, x.1, x.2, next_id x.3, x.4, x.5)
+
+abbrev IsNext : Tally → Tally → Type 0
+IsNext x y = (y ≡ x) ⊎ (y ≡ echoed x) ⊎ (y ≡ reported x)
+
+next_cond : (b : Bool) (s t u : LinkState) → IsNext (tally s) (tally t) → IsNext (tally s) (tally u)
+    → IsNext (tally s) (tally (cond b t u))
+next_cond true s t u e f = e
+next_cond false s t u e f = f
 
 by_cond : (b : Bool) (s t u : LinkState) → tally t ≡ tally s → tally u ≡ tally s → tally (cond b t u) ≡ tally s
 by_cond true s t u e f = e
@@ -57,11 +81,44 @@ by_host false s g h e f = f
 
 -- ---- frames that arrive
 
-answers_same : (a : Answer) (came : List ℕ) (s : LinkState) → tally (answers_with a came s) ≡ tally s
-answers_same Silence came s = refl
-answers_same Echo came s = by_cond (is_answering s) s _ _ refl refl
-answers_same Unreachable came s =
-    by_cond (is_answering s) s _ _ refl (by_cond (nat_lt 0 s.unreachables) s _ _ refl refl)
+asks_same : (hop : ℕ) (s : LinkState) → tally (asks hop s) ≡ tally s
+asks_same hop s = by_cond (is_some (neighbour_place hop s.neighbours)) s _ _ refl refl
+
+way_same : (s : LinkState) → tally (makes_way s) ≡ tally s
+way_same s = by_cond (is_answering s) s _ _ refl refl
+
+puts_next : (hop : ℕ) (packets : List (List ℕ)) (s : LinkState)
+    → tally (puts_answer hop packets s) ≡ with_next (tally s)
+puts_next hop packets s =
+    asks_same hop (record s { answer = packets; answer_hop = hop; answer_id = next_id s.answer_id })
+
+by_next : (hop : ℕ) (a : Answer) (came : List ℕ) (s : LinkState)
+    → IsNext (tally s) (tally (answers_by hop a came s))
+by_next hop Silence came s = inl refl
+by_next hop Echo came s =
+    let t : LinkState = makes_way s in
+    inr (inl (ap (λ (x : Tally). (x.0, x.1, x.2, x.3, more_by 1 x.4, x.5))
+    (puts_next hop (echo_reply t.config t.answer_id came) t) ∙ ap echoed (way_same s)))
+by_next hop Unreachable came s =
+    let t : LinkState = makes_way s in
+    next_cond (nat_lt 0 s.unreachables) s (puts_unreachable hop came t) (limits s)
+    (inr (inr (ap (λ (x : Tally). (x.0, x.1, x.2, x.3, x.4, more_by 1 x.5))
+    (puts_next hop (port_unreachable t.config t.answer_id came)
+    (record t { unreachables = t.unreachables - 1 })) ∙ ap reported (way_same s)))) (inl refl)
+
+now_next : (a : Answer) (came : List ℕ) (s : LinkState) → IsNext (tally s) (tally (answers_now a came s))
+now_next a came s =
+    next_cond (is_busy s) s _ _ (inl refl) (on (route s.config s.link (head_of came).source))
+  where
+    on : (r : Route) → IsNext (tally s) (tally (answers_on r a came s))
+    on To_all = inl refl
+    on (Hop hop) = by_next hop a came s
+    on NoRoute = inl refl
+
+answers_next : (a : Answer) (came : List ℕ) (s : LinkState) → IsNext (tally s) (tally (answers_with a came s))
+answers_next Silence came s = inl refl
+answers_next Echo came s = now_next Echo came s
+answers_next Unreachable came s = now_next Unreachable came s
 
 adds_error_if_same : (b : Bool) (came : List ℕ) (s : LinkState) → tally (adds_error_if b came s) ≡ tally s
 adds_error_if_same b came s = by_cond b s _ _ (go (error_in s.config came)) refl
@@ -84,9 +141,6 @@ receives_same b s =
     refl
 
 -- ---- frames that are sent
-
-asks_same : (hop : ℕ) (s : LinkState) → tally (asks hop s) ≡ tally s
-asks_same hop s = by_cond (is_some (neighbour_place hop s.neighbours)) s _ _ refl refl
 
 holds_same : (hop : ℕ) (packet : List ℕ) (s : LinkState) → tally (holds_packet hop packet s) ≡ tally s
 holds_same hop packet s =
@@ -139,11 +193,12 @@ held_same s = go (first_ready s.neighbours s.held)
     go (Some found) = one found.0 found.1 (slice_get s.held found.0)
 
 answer_same : (s : LinkState) → tally (gives_answer s).1 ≡ tally s
-answer_same s = go (slice_get s.answer 0)
+answer_same s = go (slice_get s.answer 0) (mac_of s.answer_hop s.neighbours)
   where
-    go : (packet : Option (List ℕ)) → tally (sends_answer packet s).1 ≡ tally s
-    go None = refl
-    go (Some packet) = sends_same packet (record s { answer = drop 1 s.answer })
+    go : (packet : Option (List ℕ)) (mac : Option Mac) → tally (sends_answer packet mac s).1 ≡ tally s
+    go None mac = refl
+    go (Some packet) None = refl
+    go (Some packet) (Some mac) = refl
 
 then_same : (g : Gives) (next : LinkState → Gives) (s : LinkState) → tally g.1 ≡ tally s
     → ((t : LinkState) → tally (next t).1 ≡ tally t)
@@ -182,6 +237,13 @@ gives_same h =
     (gives_drained_same h (gives_own h.link).1 ∙ own_same h.link))
     (claim_same h.link)
 
+-- ---- the clock
+
+ticks_same : (s : LinkState) → tally (ticks s) ≡ tally s
+ticks_same s =
+    by_cond (is_answering (ages s) && not (is_some (neighbour_place s.answer_hop (ages s).neighbours))) s _ (ages s)
+    refl refl
+
 -- ---- a query for an error
 
 takes_same : (port : Option ℕ) (peer : Option Addr) (s : LinkState) → tally (takes_error port peer s).1 ≡ tally s
@@ -204,55 +266,139 @@ one_more : (k n : ℕ) → more_by n (more_by k 0) ≡ more_by (k + n) 0
 one_more k n = omega (arith)
 
 module _ (c : Config) (l : Link) where
-  -- k martians arrived
+  -- k martians arrived, and n replies were accepted
+  record Counted (k : ℕ) (x : Tally) : Type 0 where
+    config : x.0 ≡ c
+    link : x.1 ≡ l
+    martians : x.2 ≡ more_by k 0
+    replies : ℕ
+    id : x.3 % 65536 ≡ (c.first_id + replies) % 65536
+    small : c.first_id < 65536 → x.3 < 65536
+    least : min replies 65536 ≤ x.4 + x.5
+    most : x.4 + x.5 ≤ replies
+
   abbrev Counts : ℕ → Host → Type 0
-  Counts k h = tally h.link ≡ (c, l, more_by k 0)
+  Counts k h = Counted k (tally h.link)
 
   same_counts : (k : ℕ) (old new : Host) → Counts k old → tally new.link ≡ tally old.link → Counts (k + 0) new
-  same_counts k old new is e = e ∙ is ∙ ap (λ (n : ℕ). (c, l, more_by n 0)) (omega (arith))
+  same_counts k old new is e =
+      subst (λ (x : Tally). Counted (k + 0) x) (sym e)
+      (subst (λ (n : ℕ). Counted n (tally old.link)) (omega (arith)) is)
+
+  next_counts : (k : ℕ) (x y : Tally) → Counted k x → IsNext x y → Counted k y
+  next_counts k x y is (inl e) = subst (Counted k) (sym e) is
+  next_counts k x y is (inr (inl e)) = subst (Counted k) (sym e) (record {
+    config = is.config;
+    link = is.link;
+    martians = is.martians;
+    replies = is.replies + 1;
+    id = omega (arith, is.id);
+    small = λ f. omega (arith);
+    least = omega (arith, is.least);
+    most = omega (arith, is.most);
+  })
+  next_counts k x y is (inr (inr e)) = subst (Counted k) (sym e) (record {
+    config = is.config;
+    link = is.link;
+    martians = is.martians;
+    replies = is.replies + 1;
+    id = omega (arith, is.id);
+    small = λ f. omega (arith);
+    least = omega (arith, is.least);
+    most = omega (arith, is.most);
+  })
+
+  taken_next : (b : Bool) (f : List ℕ) (a : Answer) (no_protocol : Bool) (s : LinkState)
+      → IsNext (tally s)
+      (tally (cond b (adds_error_if no_protocol (body_of f) (answers_with a (body_of f) s)) s))
+  taken_next true f a no_protocol s =
+      subst (IsNext (tally s)) (sym (adds_error_if_same no_protocol (body_of f) (answers_with a (body_of f) s)))
+      (answers_next a (body_of f) s)
+  taken_next false f a no_protocol s = inl refl
 
   received_counts : (k : ℕ) (f : List ℕ) (old new : Host) (kind : FrameKind) → Counts k old → ReceivesKind kind f old
       new
       → Counts (k + martian_if kind) new
   received_counts k f old new Packet is h =
-      same_counts k old new is (ap tally h.link ∙ by_cond (is_to_us old.link f) old.link _ _
-      (adds_error_if_same (counted_more IpNoproto old.machine new.machine) (body_of f) _
-      ∙ answers_same (answer_to old.link.config (body_of f) old.machine new.machine) (body_of f) old.link)
-      refl)
+      subst (λ (n : ℕ). Counted n (tally new.link)) (omega (arith))
+      (subst (λ (s : LinkState). Counted k (tally s)) (sym h.link)
+      (next_counts k (tally old.link) _ is
+      (taken_next (is_to_us old.link f) f (answer_to old.link.config (body_of f) old.machine new.machine)
+      (counted_more IpNoproto old.machine new.machine) old.link)))
   received_counts k f old new Martian is h =
-      ap (λ (x : Host). tally x.link) h ∙ ap (λ (x : Tally). (x.0, x.1, more_by 1 x.2)) is
-      ∙ ap (λ (n : ℕ). (c, l, n)) (one_more k 1)
+      subst (λ (x : Host). Counted (k + 1) (tally x.link)) (sym h) (record {
+        config = is.config;
+        link = is.link;
+        martians = ap (more_by 1) is.martians ∙ one_more k 1;
+        replies = is.replies;
+        id = is.id;
+        small = is.small;
+        least = is.least;
+        most = is.most;
+      })
   received_counts k f old new Of_arp is h =
       same_counts k old new is (ap (λ (x : Host). tally x.link) h ∙ receives_same (body_of f) old.link)
   received_counts k f old new Other is h = same_counts k old new is (ap (λ (x : Host). tally x.link) h)
+
+  -- a frame is of the same kind for the host as for its configuration
+  kinds : (k : ℕ) (old : Host) (f : List ℕ) → Counts k old
+      → kind_of old.link.config old.link.link.mac f ≡ kind_of c l.mac f
+  kinds k old f is =
+      ap (λ (x : Config). kind_of x old.link.link.mac f) is.config ∙ ap (λ (x : Link). kind_of c x.mac f) is.link
 
   act_counts : (k : ℕ) (old new : Host) (act : HostAct) → Counts k old → IsHostAct old act new
       → Counts (k + martian_in c l.mac act) new
   act_counts k old new (Comes_in f) is h =
       received_counts k f old new (kind_of c l.mac f) is
-      (subst (λ (x : Tally). ReceivesKind (kind_of x.0 x.1.mac f) f old new) is h.2)
+      (subst (λ (x : FrameKind). ReceivesKind x f old new) (kinds k old f is) h.2)
   act_counts k old new (Goes_out f) is h =
       same_counts k old new is (subst (λ (x : Option (List ℕ) × Host). tally x.1.link ≡ tally old.link) (sym h)
       (gives_same old))
-  act_counts k old new Clock is h = same_counts k old new is (ap tally h.link)
+  act_counts k old new Clock is h = same_counts k old new is (ap tally h.link ∙ ticks_same old.link)
   act_counts k old new (Calls turn) is h = same_counts k old new is (ap tally h.link)
   act_counts k old new (Asks_error fd fault) is h =
       same_counts k old new is (subst (λ (x : Result (Option NetFault) Errno × Host). tally x.1.link ≡ tally old.link)
       (sym h) (asked_same (socket_at fd old.machine) old))
-  act_counts k old new Ages is h = same_counts k old new is (ap (λ (x : Host). tally x.link) h)
+  act_counts k old new Ages is h =
+      same_counts k old new is (ap (λ (x : Host). tally x.link) h ∙ ticks_same old.link)
 
   acts_count : (k : ℕ) (old new : Host) (acts : List HostAct) → Counts k old → AreHostActs old acts new
       → Counts (k + martians_in c l.mac acts) new
   acts_count k old new [] is done = same_counts k old new is (ap (λ (h : Host). tally h.link) done)
   acts_count k old new (act ∷ acts) is (mid, first, later) =
-      acts_count (k + martian_in c l.mac act) mid new acts (act_counts k old mid act is first) later
-      ∙ ap (λ (n : ℕ). (c, l, more_by n 0)) (omega (arith))
+      subst (λ (n : ℕ). Counts n new) (omega (arith))
+      (acts_count (k + martian_in c l.mac act) mid new acts (act_counts k old mid act is first) later)
+
+  counted : (acts : List HostAct) (new : Host) → AreHostActs (host_up c l) acts new
+      → Counts (0 + martians_in c l.mac acts) new
+  counted acts new done = acts_count 0 (host_up c l) new acts up done
+    where
+      up : Counts 0 (host_up c l)
+      up = record {
+        config = refl;
+        link = refl;
+        martians = refl;
+        replies = 0;
+        id = omega (arith);
+        small = λ f. f;
+        least = omega (arith);
+        most = omega (arith);
+      }
 
   pub martians_are_counted : (acts : List HostAct) (new : Host) → AreHostActs (host_up c l) acts new
       → new.link.tallies.martians ≡ more_by (martians_in c l.mac acts) 0
   martians_are_counted acts new done =
-      ap (λ (x : Tally). x.2) (acts_count 0 (host_up c l) new acts refl done)
-      ∙ ap (λ (n : ℕ). more_by n 0) (omega (arith))
+      (counted acts new done).martians ∙ ap (λ (n : ℕ). more_by n 0) (omega (arith))
+
+  pub numbered_next : (acts : List HostAct) (new : Host) → IsConfig c → AreHostActs (host_up c l) acts new
+      → new.link.tallies.echoes + new.link.tallies.unreachable < 2 ^ 16
+      → new.link.answer_id ≡ (c.first_id + (new.link.tallies.echoes + new.link.tallies.unreachable)) % 2 ^ 16
+  numbered_next acts new boots done few =
+      let is : Counts (0 + martians_in c l.mac acts) new = counted acts new done in
+      let all : is.replies ≡ new.link.tallies.echoes + new.link.tallies.unreachable =
+      omega (arith, is.least, is.most) in
+      let small : new.link.answer_id < 65536 = is.small boots.first_id in
+      omega (arith, is.id, small, all)
 
 -- ---- no martian arrives at the machine
 

@@ -11,7 +11,7 @@ use Rattle.ether_host.specs.Inside.{link_seen}
 use Rattle.ether_host.specs.Buffers.{is_resolvable_in, held_in}
 use Rattle.ether_host.specs.declared.buffer.PacketBuffer.{PacketBuffer}
 use Rattle.ether_host.proofs.Tables.{held_filter}
-use Rattle.ether_host.proofs.layer.LinkLayer.tick.Goals as goal
+use Rattle.ether_host.proofs.layer.LinkLayer.remove_expired.Goals as goal
 
 pub returns : goal.returns
 returns c =

@@ -1,0 +1,69 @@
+-- The packets of an ICMP reply: each has a whole header, with the addresses and the identification of the reply.
+use Rattle.std.proofs.Common.{◌≡◌, ℕ, ◌+◌, ◌*◌, ◌/◌, ◌%◌, Bool, true, false, cond, List, [], ◌∷◌, length, map, refl, ap, ◌∙◌, arith}
+use Rattle.std.specs.Prelude.{All, nat_lt}
+use Rattle.std.specs.List.{AllByRecursion as Each}
+use Rattle.std.proofs.lemmas.Bool.{ltb-true}
+use Rattle.std.proofs.lemmas.List.Elements.{All-from_recursion}
+use Rattle.flat_model.specs.Fragments.Cuts.{Part, cuts}
+use Rattle.flat_model.specs.Packets.Header.{Head, head_of, packet, u32_at}
+use Rattle.flat_model.specs.declared.config.Config.{Config}
+use Rattle.flat_ether.specs.Icmp.{answer_mtu, echo_message, echo_reply, part_packet, port_unreachable, reflected, unreachable_message}
+use Rattle.flat_ether.specs.Laws.{HasId}
+use Rattle.flat_ether.specs.Links.{route_to}
+use Rattle.flat_ether.specs.Routes.{route}
+use Rattle.flat_ether.specs.declared.link.Link.{Link}
+use Rattle.flat_ether.specs.declared.link.Route.TheVariants.{Hop, NoRoute}
+use Rattle.flat_ether.proofs.Sources.{four}
+
+pub length-packet : (h : Head) (t : List ℕ) → length (packet h t) ≡ 20 + length t
+unfolding packet
+length-packet h t = omega arith
+
+destination_read : (h : Head) (t : List ℕ) → u32_at 16 (packet h t) ≡ h.destination
+unfolding packet
+destination_read h t = four h.destination
+
+-- its route is that to its destination
+packet_route : (c : Config) (l : Link) (h : Head) (t : List ℕ) → route_to c l (packet h t) ≡ route c l h.destination
+packet_route c l h t = go (nat_lt (length (packet h t)) 20) refl
+  where
+    long : length (packet h t) ≡ 20 + length t
+    long = length-packet h t
+
+    go : (b : Bool) → nat_lt (length (packet h t)) 20 ≡ b
+        → cond b NoRoute (route c l (u32_at 16 (packet h t))) ≡ route c l h.destination
+    go true e = absurd (omega (arith, ltb-true _ _ e, long))
+    go false e = ap (route c l) (destination_read h t)
+
+pub reply_route : (c : Config) (l : Link) (id : ℕ) (came body : List ℕ) (hop : ℕ)
+    → route c l (head_of came).source ≡ Hop hop → Each (λ p. route_to c l p ≡ Hop hop) (reflected c id came body)
+reply_route c l id came body hop e = go (cuts (length body) (answer_mtu c))
+  where
+    go : (parts : List Part)
+        → Each (λ p. route_to c l p ≡ Hop hop) (map (part_packet c.addr id (head_of came).source body) parts)
+    go [] = tt
+    go (p ∷ ps) = (packet_route c l _ _ ∙ e, go ps)
+
+-- ---- its identification
+
+two : (n : ℕ) → 256 * (n / 256) + n % 256 ≡ n
+two n = omega arith
+
+id_read : (h : Head) (t : List ℕ) → (head_of (packet h t)).id ≡ h.id
+unfolding packet
+id_read h t = two h.id
+
+numbered : (c : Config) (id : ℕ) (came body : List ℕ) → Each (HasId id) (reflected c id came body)
+numbered c id came body = go (cuts (length body) (answer_mtu c))
+  where
+    go : (parts : List Part) → Each (HasId id) (map (part_packet c.addr id (head_of came).source body) parts)
+    go [] = tt
+    go (p ∷ ps) = (id_read _ _, go ps)
+
+pub echo_numbered : (c : Config) (id : ℕ) (came : List ℕ) → All (HasId id) (echo_reply c id came)
+echo_numbered c id came =
+    All-from_recursion (HasId id) (echo_reply c id came) (numbered c id came (echo_message came))
+
+pub unreachable_numbered : (c : Config) (id : ℕ) (came : List ℕ) → All (HasId id) (port_unreachable c id came)
+unreachable_numbered c id came =
+    All-from_recursion (HasId id) (port_unreachable c id came) (numbered c id came (unreachable_message came))
