@@ -258,17 +258,17 @@ const SENT = n => Array.from({ length: n }, (_, i) => (i & 255).toString(16).pad
 const RX = (bytes, more = "", to = "10.0.0.1:7") => `rx udp 10.0.0.2:5000 > ${to} ${bytes} ${more}`.trim();
 const TWO = ["socket", "setsockopt 3 reuseport 1", "bind 3 0.0.0.0 7", "socket", "setsockopt 4 reuseport 1",
   "bind 4 0.0.0.0 7"];
-// Short sends and packets take another path through the code than a broadcast; the bytes must be at the same places.
-// These rows are worked out by hand: MH_ALIGN puts the bytes of a send at the end of a first mbuf, at a multiple of 4,
-// and M_PREPEND the headers in front of them or at the end of an mbuf of their own; an arriving packet begins at the
-// front of an mbuf or cluster, and its headers are cut off there (volume 2, chapter 2).
-const BROADCAST = ["socket", "setsockopt 3 broadcast 1"];
+// A short send from a bound socket takes another path through the code than a broadcast, and so does a short packet; the
+// bytes must be at the same places. These rows are worked out by hand: MH_ALIGN puts the bytes of a send at the end of a
+// first mbuf, at a multiple of 4, and M_PREPEND the headers in front of them or at the end of an mbuf of their own. An
+// arriving packet begins at the front of an mbuf or cluster, and its headers are cut off there (volume 2, chapter 2).
+const BOUND = ["socket", "bind 3 0.0.0.0 9"], BROADCAST = [...BOUND, "setsockopt 3 broadcast 1"];
 const PATHS = [
-  [["socket", `sendto 3 10.0.0.2 7 ${SENT(2)}`], "; H96+30"],
+  [[...BOUND, `sendto 3 10.0.0.2 7 ${SENT(2)}`], "; H96+30"],
   [[...BROADCAST, `sendto 3 10.0.0.255 7 ${SENT(2)}`], "; H96+30"],
-  [["socket", `sendto 3 10.0.0.2 7 ${SENT(71)}`], "; H28+99"],
+  [[...BOUND, `sendto 3 10.0.0.2 7 ${SENT(71)}`], "; H28+99"],
   [[...BROADCAST, `sendto 3 10.0.0.255 7 ${SENT(71)}`], "; H28+99"],
-  [["socket", `sendto 3 10.0.0.2 7 ${SENT(208)}`], "; H100+28 56+208x1"],
+  [[...BOUND, `sendto 3 10.0.0.2 7 ${SENT(208)}`], "; H100+28 56+208x1"],
   [[...BROADCAST, `sendto 3 10.0.0.255 7 ${SENT(208)}`], "; H100+28 56+208x1"],
   [["socket", "bind 3 0.0.0.0 7", RX('"hi"', "", "10.0.0.255:7")], "H28+16 56+2"],
   [["socket", "bind 3 0.0.0.0 7", RX("@1472", "", "10.0.0.255:7")], "H28+16 28+1472x1"],
