@@ -9,6 +9,7 @@ import os
 import pathlib
 import re
 import shutil
+import subprocess
 import tempfile
 
 import pytest
@@ -267,6 +268,106 @@ def test_strict_finds_them_behind_a_byte_order_mark_as_objects(bsdplay):
     found = [json.loads(it) for it in ended.stdout.splitlines() if b'"fault"' in it]
     numbers = [it["number"] for it in found if "nothing is expected" in it["fault"]]
     same("status and lines", (ended.returncode, numbers), (1, [5, 6, 7, 9]))
+
+
+# ---- which word was wrong, and what is no mark ---------------------------------------------------------------------
+
+FRAGMENTS = "--mtu 576\nsocket => ok 3\nsendto 3 10.0.0.2 5000 @1400 => ok 1400\nshow queue => {}\n"
+
+
+@pytest.mark.parametrize(
+    "reply, note",
+    [
+        ("3 packets, the next of 572 bytes", ""),
+        ("3 packets ..", ""),
+        ("3, packets the next of 572 bytes.", ""),
+        ("2 packets ..", "; 3 is right, not 2"),
+        ("3 packets, the next of 576 bytes", "; 572 is right, not 576"),
+        ("3 packets", "; the is missing"),
+        ("3 packets, the next of 572 bytes each", "; each is too much"),
+    ],
+)
+def test_punctuation_is_ignored_and_the_wrong_word_is_named(reply, note, bsdplay, tmp_path):
+    """`show queue` replies `3 packets, the next of 572 bytes`."""
+    key, hand = tmp_path / "key.txt", tmp_path / "ann.txt"
+    key.write_text(FRAGMENTS.format("3 packets .."), encoding="utf-8")
+    hand.write_text(FRAGMENTS.format(reply), encoding="utf-8")
+    ended = run(bsdplay, "--grade", "--key", key, hand)
+    assert ended.stdout.decode().rstrip("\n").endswith(note or "3 right, 0 wrong, 0 missing"), ended.stdout
+    same("status", ended.returncode, 1 if note else 0)
+
+
+@pytest.mark.parametrize("form", [[], ["--csv"]], ids=["text", "csv"])
+def test_a_failed_write_is_no_mark(form, bsdplay, tmp_path):
+    (tmp_path / "key.txt").write_text("socket => ok 3\n", encoding="utf-8")
+    words = [bsdplay, "--grade", *form, "--key", tmp_path / "key.txt", tmp_path / "key.txt"]
+    with open("/dev/full", "wb") as full:
+        ended = subprocess.run(list(map(str, words)), stdout=full, stderr=subprocess.PIPE, check=False)
+    same("status and message", (ended.returncode, ended.stderr),
+         (4, b"bsdplay: write failed: not all grades are printed\n"))  # fmt: skip
+
+
+def limited(kilobytes, *words):
+    """Runs a command that has this much memory."""
+    asked = ["bash", "-c", f'ulimit -v {kilobytes}; ulimit -c 0; exec "$@"', "bash", *map(str, words)]
+    return subprocess.run(asked, capture_output=True, check=False, timeout=300)
+
+
+# A pool of 65,535 mbufs and 4,096 clusters takes 17 MB.
+LARGE = "--mbufs 65535 --clusters 4096 => ok\nsocket => ok 3\n"
+
+
+@pytest.mark.parametrize("kilobytes", [16_000, 7_000])
+def test_want_of_memory_is_no_mark(kilobytes, bsdplay, tmp_path):
+    """Neither of a hand-in nor of a key: the same file is both here, or the key is a small one."""
+    small, large = tmp_path / "small.txt", tmp_path / "large.txt"
+    small.write_text("socket => ok 3\n", encoding="utf-8")
+    large.write_text(LARGE, encoding="utf-8")
+    same("with memory", run(bsdplay, "--grade", "--key", large, large).returncode, 0)
+    for key in (large, small):
+        ended = limited(kilobytes, bsdplay, "--grade", "--key", key, large)
+        same(f"status and marks: {ended.stderr}", (ended.returncode, ended.stdout), (3, b""))
+        assert b"no memory" in ended.stderr
+
+
+# ---- exercises that are played -------------------------------------------------------------------------------------
+
+
+@pytest.mark.parametrize("how", ["file", "input", "strict", "json", "crlf"])
+@pytest.mark.parametrize("key", EACH_KEY)
+def test_an_exercise_is_played_up_to_its_first_open_line(key, how, bsdplay, tmp_path):
+    """No reply is given away, and what is open is counted: by the lines of the exercise."""
+    text = (EXERCISES / key).read_bytes()
+    if how == "crlf":
+        text = text.replace(b"\n", b"\r\n")
+    (tmp_path / "hand.txt").write_bytes(text)
+    lines = text.decode().splitlines()
+    replies = [at for at, it in enumerate(lines, 1) if it.endswith("=> ?") and not it.startswith("#")]
+    questions = [it for it in lines if it.startswith("#?")]
+    words = {"strict": ["--strict"], "json": ["--json"]}.get(how, [])
+    ended = run(bsdplay, *words, script=text) if how == "input" else run(bsdplay, *words, tmp_path / "hand.txt")
+    name = "-" if how == "input" else str(tmp_path / "hand.txt")
+    first = f"bsdplay: {name}:{replies[0]}: this reply is open: write what you expect instead of ?\n"
+    counts = f"bsdplay: {name}: open replies: {len(replies)}, open questions: {len(questions)}\n"
+    same("status and messages", (ended.returncode, ended.stderr.decode()), (1, first + counts))
+    assert not re.search(rb"got|=> (?!ok$)[^?]", ended.stdout, re.M), ended.stdout
+
+
+def test_open_questions_are_counted_if_all_replies_are_there(bsdplay):
+    ended = run(bsdplay, "--quiet", script="socket => ok 3\n#? How many sockets => ?\n#? Why => 1\n")
+    same("status, output and messages", (ended.returncode, ended.stdout, ended.stderr.decode()),
+         (1, b"ok 3\n", "bsdplay: -: open replies: 0, open questions: 1\n"))  # fmt: skip
+
+
+def test_lines_are_played_as_soon_as_they_are_written(bsdplay):
+    """A program that writes a line and waits for its reply isn't kept waiting, although each line is looked at."""
+    with subprocess.Popen([bsdplay, "--quiet"], stdin=subprocess.PIPE, stdout=subprocess.PIPE) as child:
+        for line, reply in ((b"socket # why?\n", b"ok 3\n"), (b"bind 3 0.0.0.0 7 => ok\n", b"ok\n")):
+            child.stdin.write(line)
+            child.stdin.flush()
+            same("reply", child.stdout.readline(), reply)
+        child.stdin.close()
+        same("status", child.wait(), 0)
 
 
 def test_strict_finds_a_carry_without_an_expectation(bsdplay):

@@ -88,6 +88,11 @@ impl<R: Read> Ahead<R> {
         }
     }
 
+    /// Returns the script that it reads.
+    pub(crate) fn inner(&self) -> &R {
+        &self.inner
+    }
+
     /// Requests the line `summary` after the script.
     pub(crate) fn ask_for_summary(&mut self) {
         self.summary = true;

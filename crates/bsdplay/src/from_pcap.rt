@@ -57,8 +57,11 @@ fn print_file(rt: &HostRuntime, name: &str, details: Details) -> io::Result<u8>
     let mut lines = Lines::begin(Silent(rt.stdout()), line, buffers);
     let outcome = play_file(rt.alloc(), &mut lines, file.as_slice(), details);
     let (_writer, whole) = lines.end();
-    let status = report(rt, name, outcome)?;
-    Ok(if whole { status } else { UNREAD })
+    if !whole {
+        eprintln!(rt; "bsdplay: {name}: write failed")?;
+        return Ok(UNREAD);
+    }
+    report(rt, name, outcome)
 }
 
 /// Prints the capture that the command line names as a script, with the records and the ticks that the options request.

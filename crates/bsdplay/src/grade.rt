@@ -1,14 +1,19 @@
 //! Hand-ins that are graded, by a key or by what they expect themselves.
-use crate::hand_in::{load, play_quietly, unmarked};
+use crate::difference::put_difference;
+use crate::hand_in::{REFUSED, load, play_quietly, unmarked};
 use crate::sweep::first_fault;
 use crate::{UNREAD, USAGE};
 use clap::ArgMatches;
 use csv::Writer;
 use play_grade::{Marker, Marks, Verdict};
+use play_script::RunFault;
 use std::io::{self, Write};
 
 /// The status if a hand-in doesn't pass, or the key itself doesn't.
 const FAILED: u8 = 1;
+
+/// The status if a hand-in or the key can't be played because host memory is refused.
+const NO_MEMORY: u8 = 3;
 
 /// The report on a hand-in.
 #[derive(Clone, Copy)]
@@ -164,51 +169,94 @@ fn refuse_key(rt: &HostRuntime, name: &str, verdict: &Verdict, written: &[u8]) -
     )
 }
 
-/// Whether a key passes itself; if not, it's said why.
-fn is_key(rt: &HostRuntime, grader: &mut Grader, name: &str, key: &[u8]) -> io::Result<bool> {
-    let verdict = grader.grade(rt, None, name, key);
-    if verdict.is_passed() {
-        return Ok(true);
-    }
-    refuse_key(rt, name, &verdict, grader.written.as_slice())?;
-    Ok(false)
+/// Whether host memory was refused while a script was played: to the player, or to a machine of its settings. Then its
+/// replies aren't marked.
+fn lacks_memory(verdict: &Verdict, fault: &[u8]) -> bool {
+    matches!(verdict.played.outcome, Err(RunFault::Memory)) || fault.ends_with(b": no memory")
 }
 
-/// Grades a hand-in, prints the report, and returns its status.
+/// Returns the status if a key doesn't pass itself, after saying why. `None`: it passes.
+fn refused_key(
+    rt: &HostRuntime,
+    grader: &mut Grader,
+    name: &str,
+    key: &[u8],
+) -> io::Result<Option<u8>> {
+    let verdict = grader.grade(rt, None, name, key);
+    if verdict.is_passed() {
+        return Ok(None);
+    }
+    if lacks_memory(
+        &verdict,
+        first_fault(grader.written.as_slice(), name.as_bytes()),
+    ) {
+        eprintln!(rt; "bsdplay: {name}: no memory: no hand-in is graded")?;
+        return Ok(Some(NO_MEMORY));
+    }
+    refuse_key(rt, name, &verdict, grader.written.as_slice())?;
+    Ok(Some(FAILED))
+}
+
+/// Says that a report can't be written, and returns the status.
+fn report_unwritten(rt: &HostRuntime) -> io::Result<u8> {
+    eprintln!(rt; "bsdplay: write failed: not all grades are printed")?;
+    Ok(UNREAD)
+}
+
+/// Says that a hand-in isn't graded, and returns the status.
+fn report_refused(rt: &HostRuntime, name: &str) -> io::Result<Option<u8>> {
+    eprintln!(rt; "bsdplay: {name}: no memory: it isn't graded")?;
+    Ok(Some(NO_MEMORY))
+}
+
+/// Grades a hand-in, prints the report, and returns its status. `None`: the report can't be written.
 fn grade_file<W: Write + Drop>(
     rt: &HostRuntime,
     grader: &mut Grader,
     key: Option<&[u8]>,
     reports: &mut Reports<W>,
     name: &str,
-) -> u8 {
+) -> io::Result<Option<u8>> {
     let file = match load(rt, name) {
         Ok(file) => file,
         Err(why) => {
+            if why.as_bytes() == REFUSED.as_bytes() {
+                return report_refused(rt, name);
+            }
             let report = Report {
                 name,
                 word: "unread",
                 marks: None,
                 note: why.as_bytes(),
             };
-            reports.add(&report);
-            return UNREAD;
+            return Ok(if reports.add(&report) {
+                Some(UNREAD)
+            } else {
+                None
+            });
         }
     };
     let verdict = grader.grade(rt, key, name, unmarked(file.as_slice()));
+    let fault = first_fault(grader.written.as_slice(), name.as_bytes());
+    if lacks_memory(&verdict, fault) {
+        return report_refused(rt, name);
+    }
+    let mut note = Vec::new(rt.alloc());
+    note.extend_from_slice(fault)?;
+    put_difference(&mut note, fault)?;
     let report = Report {
         name,
         word: word_of(&verdict),
         marks: Some(verdict.marks),
-        note: first_fault(grader.written.as_slice(), name.as_bytes()),
+        note: note.as_slice(),
     };
-    if !reports.add(&report) {
-        UNREAD
+    Ok(if !reports.add(&report) {
+        None
     } else if verdict.is_passed() {
-        0
+        Some(0)
     } else {
-        FAILED
-    }
+        Some(FAILED)
+    })
 }
 
 /// Grades all hand-ins, and returns the greatest status.
@@ -225,8 +273,12 @@ fn grade_all<W: Write + Drop>(
     };
     let (mut worst, mut all, mut passed) = (0, 0u64, 0u64);
     for name in names {
-        let status = grade_file(rt, grader, key, reports, name);
-        all = all.saturating_add(1);
+        let Some(status) = grade_file(rt, grader, key, reports, name)? else {
+            return report_unwritten(rt);
+        };
+        if status != NO_MEMORY {
+            all = all.saturating_add(1);
+        }
         if status == 0 {
             passed = passed.saturating_add(1);
         }
@@ -246,8 +298,8 @@ fn grade_with(
     found: &ArgMatches<'_>,
 ) -> io::Result<u8> {
     if let Some((name, key)) = key {
-        if !is_key(rt, grader, name, key)? {
-            return Ok(FAILED);
+        if let Some(status) = refused_key(rt, grader, name, key)? {
+            return Ok(status);
         }
     }
     let key = key.map(|(_, key)| key);
@@ -257,7 +309,7 @@ fn grade_with(
     }
     let mut table = Writer::from_writer(rt.stdout());
     if write_head(&mut table).is_err() {
-        return Ok(UNREAD);
+        return report_unwritten(rt);
     }
     grade_all(rt, grader, key, &mut Reports::Table(table), found)
 }
@@ -283,7 +335,11 @@ pub(crate) fn grade(rt: &HostRuntime, found: &ArgMatches<'_>) -> io::Result<u8> 
         Ok(file) => grade_by(rt, Some((name, unmarked(file.as_slice()))), found),
         Err(why) => {
             eprintln!(rt; "bsdplay: {name}: {why}: no hand-in is graded without its key")?;
-            Ok(UNREAD)
+            Ok(if why.as_bytes() == REFUSED.as_bytes() {
+                NO_MEMORY
+            } else {
+                UNREAD
+            })
         }
     }
 }

@@ -11,6 +11,9 @@ const LONGEST: usize = 65_536;
 /// The mark at the beginning of a text in UTF-8 that some editors write.
 const MARK: &[u8] = b"\xef\xbb\xbf";
 
+/// The message if host memory is refused.
+pub(crate) const REFUSED: &str = "no memory";
+
 /// Reads a file that is graded. On error, returns the message.
 pub(crate) fn load(rt: &HostRuntime, name: &str) -> Result<Vec<u8>, &'static str> {
     let Ok(file) = fs::open(rt, name) else {
@@ -27,7 +30,7 @@ pub(crate) fn load(rt: &HostRuntime, name: &str) -> Result<Vec<u8>, &'static str
             }
         }
         Err(CaptureFault::TooLong) => Err("longer than 65536 bytes"),
-        Err(CaptureFault::Memory) => Err("no memory"),
+        Err(CaptureFault::Memory) => Err(REFUSED),
         Err(_) => Err("it can't be read"),
     }
 }

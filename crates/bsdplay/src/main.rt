@@ -3,6 +3,7 @@
 #![tactic(auto)]
 
 mod choice;
+mod difference;
 mod folder;
 mod form;
 mod formats;
@@ -16,6 +17,7 @@ mod options;
 mod records;
 mod strict;
 mod sweep;
+mod unsolved;
 mod why;
 
 use choice::Ahead;
@@ -36,12 +38,13 @@ use std::process::ExitCode;
 use std::{env, fs, io};
 use strict::{print_blank, print_lacks};
 use sweep::{Seeds, seed_in, seeds_in, sweep};
+use unsolved::{Open, Unsolved};
 use why::{print_why, why_command};
 
 /// The status if the command line can't be read.
 const USAGE: u8 = 2;
 
-/// The status if nothing is expected of a line, and `--strict` wants it.
+/// The status if nothing is expected of a line, and `--strict` wants it, or if something is open in an exercise.
 const LACKS: u8 = 1;
 
 /// The status if a script can't be opened, or something can't be printed.
@@ -116,12 +119,11 @@ fn manner_of<'a>(found: &'a ArgMatches<'_>, form: Form) -> Option<Manner<'a>> {
 /// Plays a script for each of some seeds. It has to have many machines.
 fn play_seeds<R: Read + Drop>(
     rt: &HostRuntime,
-    source: R,
+    reader: &mut Ahead<R>,
     name: &str,
     manner: Manner<'_>,
     seeds: Seeds,
 ) -> io::Result<u8> {
-    let mut reader = Ahead::over(source);
     if !reader.has_hosts() {
         eprintln!(rt; "bsdplay: {name}: it has no hosts, so it has no seeds")?;
         return Ok(USAGE);
@@ -188,24 +190,53 @@ fn play_strictly<R: Read + Drop>(
 }
 
 /// Plays a script: on many machines if it begins with a host, otherwise on one.
+fn play_reader<R: Read + Drop>(
+    rt: &HostRuntime,
+    reader: &mut Ahead<R>,
+    name: &str,
+    manner: Manner<'_>,
+) -> io::Result<u8> {
+    if let Some(seeds) = manner.seeds {
+        return play_seeds(rt, reader, name, manner, seeds);
+    }
+    if reader.has_hosts() {
+        return play_wired(rt, reader, name, manner);
+    }
+    let style = Style {
+        form: manner.form,
+        name: name.as_bytes(),
+    };
+    play_one(rt, reader, name, style, manner.capture)
+}
+
+/// Says what is open in an exercise, and returns whether anything is.
+fn report_open(rt: &HostRuntime, name: &str, open: Open) -> io::Result<bool> {
+    if let Some(first) = open.first {
+        eprintln!(rt;
+            "bsdplay: {name}:{first}: this reply is open: write what you expect instead of ?"
+        )?;
+    }
+    if open.replies == 0 && open.questions == 0 {
+        return Ok(false);
+    }
+    eprintln!(rt;
+        "bsdplay: {name}: open replies: {}, open questions: {}",
+        open.replies, open.questions
+    )?;
+    Ok(true)
+}
+
+/// Plays a script up to its first open line, and says what is open in it.
 fn play_source<R: Read + Drop>(
     rt: &HostRuntime,
     source: R,
     name: &str,
     manner: Manner<'_>,
 ) -> io::Result<u8> {
-    if let Some(seeds) = manner.seeds {
-        return play_seeds(rt, source, name, manner, seeds);
-    }
-    let mut reader = Ahead::over(source);
-    if reader.has_hosts() {
-        return play_wired(rt, &mut reader, name, manner);
-    }
-    let style = Style {
-        form: manner.form,
-        name: name.as_bytes(),
-    };
-    play_one(rt, &mut reader, name, style, manner.capture)
+    let mut reader = Ahead::over(Unsolved::over(rt.alloc(), source));
+    let status = play_reader(rt, &mut reader, name, manner)?;
+    let open = report_open(rt, name, reader.inner().open())?;
+    Ok(if open && status == 0 { LACKS } else { status })
 }
 
 /// Plays a script, and checks that its lines have expectations if that is requested.

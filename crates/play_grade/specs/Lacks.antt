@@ -1,5 +1,5 @@
 -- Lines without an expectation (this project's own).
-use Rattle.std.specs.Prelude.{ℕ, ◌||◌, not, Bool, false, List, [], ◌∷◌, if◌then◌else◌, codes, bytes_eq}
+use Rattle.std.specs.Prelude.{ℕ, ◌||◌, not, Bool, false, List, [], ◌∷◌, if◌then◌else◌, codes, bytes_eq, Option, Some, None}
 use Rattle.flat_model.specs.Machine.Count.{more_by}
 use Rattle.flat_model.specs.Scripts.Grammar.{words}
 use Rattle.play_script.specs.Settings.{has_dashes}
@@ -28,6 +28,21 @@ lacks_answer (Asks shown plain wanted) = if is_setup plain then false else not (
 -- a line makes a request and has no expectation, or it is a question without an answer
 abbrev pub lacks : List ℕ → Bool
 lacks line = lacks_answer (asked_on line)
+
+-- the answer is the placeholder of an exercise
+abbrev pub is_placeholder : Option (List ℕ) → Bool
+is_placeholder None = false
+is_placeholder (Some text) = bytes_eq text (codes "?")
+
+abbrev pub awaits_answer : Reading → Bool
+awaits_answer Nothing = false
+awaits_answer TooLong = false
+awaits_answer (Faulty error) = false
+awaits_answer (Asks shown plain wanted) = is_placeholder wanted
+
+-- a line or a question expects `?`
+abbrev pub awaits : List ℕ → Bool
+awaits line = awaits_answer (asked_on line)
 
 -- ---- a script's own marks: each line that makes a request is right if it has an answer, and otherwise missing
 

@@ -41,6 +41,18 @@ impl Marker {
         }
     }
 
+    /// Returns whether a line, or a question, expects `?`: a student has yet to find its reply or its answer.
+    pub fn awaits(&mut self, line: &[u8]) -> bool
+        ensures { result ≡ lacks.awaits line.now }
+    {
+        match self.asked.read(line, &mut self.reader) {
+            Kind::Asks => {
+                self.asked.line.expects && bytes_of(&self.asked.line.wanted) == b"?".as_slice()
+            }
+            Kind::Nothing | Kind::TooLong | Kind::Faulty(_) => false,
+        }
+    }
+
     /// Returns the marks with one more line.
     fn own_counted(&mut self, line: &[u8], number: u64, marks: Marks) -> Marks
         ensures { result ≡ lacks.own_counted (asked_on line.now) number marks }
