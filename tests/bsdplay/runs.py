@@ -3,6 +3,7 @@ from __future__ import annotations
 
 import json
 import pathlib
+import re
 import subprocess
 from typing import Any, Sequence
 
@@ -35,6 +36,12 @@ def objects(program: pathlib.Path, lines: Sequence[str], *words: object) -> list
     if ended.returncode not in (0, 1) or ended.stderr:
         pytest.fail(f"bsdplay: status {ended.returncode}: {ended.stderr.decode(errors='replace')}", pytrace=False)
     return [json.loads(it) for it in ended.stdout.decode("ascii").splitlines()]
+
+
+def listed(words: str) -> list[int]:
+    """Returns the record numbers in a list such as `1, 3 to 5 and 7`."""
+    ranges = re.findall(r"(\d+)(?: to (\d+))?", words)
+    return [it for first, last in ranges for it in range(int(first), int(last or first) + 1)]
 
 
 def same(asked: object, came: object, wanted: object) -> None:

@@ -9,6 +9,7 @@ import subprocess
 
 import pytest
 
+from tests.bsdplay.runs import listed
 from tests.packets import HERE, MORE, PEER, datagram, fragment, ip
 from tests.pcaps import header, record
 
@@ -76,7 +77,7 @@ def test_records_of_an_unfinished_datagram(bsdplay):
     parts = [piece(7, 0, 7, more=True), other, piece(7, 16, 23, more=True), piece(7, 32, 39, more=True)]
     lines = why(bsdplay, [(0, it) for it in parts]).splitlines()
     told = f"    unfinished: datagram 7 of {WAY} lacks bytes 8 to 15, bytes 24 to 31, all from byte 40 on, "
-    assert told + "with records 1, 3, 4" in lines
+    assert told + "with records 1, 3 and 4" in lines
 
 
 def test_a_flood_of_first_fragments(bsdplay):
@@ -138,7 +139,7 @@ def test_no_packet_vanishes(seed, bsdplay):
     ended = [number for it in told for number in it["records"]]
     for it in rows.values():
         if found := re.search(r"with records ([^=]*)", it["became"]):
-            ended += [int(word) for word in re.findall(r"\d+", found[1]) if int(word) != it["number"]]
+            ended += [number for number in listed(found[1]) if number != it["number"]]
     kept = [number for number, it in rows.items() if it["became"].startswith("kept")]
     assert sorted(ended) == kept
     assert all(it["cause"] or "delivered" in it["became"] for number, it in rows.items() if number not in kept)

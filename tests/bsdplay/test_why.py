@@ -17,7 +17,7 @@ import sys
 
 import pytest
 
-from tests.bsdplay.runs import run, same
+from tests.bsdplay.runs import listed, run, same
 from tests.cases import TOP
 from tests.packets import HERE
 
@@ -226,7 +226,7 @@ def records_in(became):
     if "is whole with records " not in became:
         return None
     words = became.split("is whole with records ")[1].split(" => ")[0]
-    return sorted(int(it) for it in words.replace(" and ", ", ").split(", "))
+    return sorted(listed(words))
 
 
 def other_checksum(it, row, layer, cause):

@@ -1,5 +1,5 @@
-"""The capture for a golden file of `bsdplay why`: a packet for each cause, a datagram in overlapping fragments, and one
-in more fragments than a line lists. `python3 -m tests.bsdplay.why_causes` writes it again."""
+"""The capture for a golden file of `bsdplay why`: a packet for each cause, a datagram in overlapping fragments, and two
+datagrams in turns, each in more fragments than a line lists. `python3 -m tests.bsdplay.why_causes` writes it again."""
 from __future__ import annotations
 
 import pathlib
@@ -63,8 +63,9 @@ def packets() -> list[tuple[bytes, int | None]]:
         datagram(b"hello", (5000, 0), ident=4),
         datagram(b"hello", (5000, 0), (PEER, ALL), ident=5),
     ]
+    in_turns = [it for pair in zip(many(60), many(61)) for it in pair]
     cut = datagram(bytes(100), ident=6)
-    return [(it, None) for it in (*alone, *overlapping(0x1234, 50), *many(60))] + [(cut, 60)]
+    return [(it, None) for it in (*alone, *overlapping(0x1234, 50), *in_turns)] + [(cut, 60)]
 
 
 def capture() -> bytes:

@@ -12,6 +12,7 @@ mod grade;
 mod hand_in;
 mod help;
 mod hosts;
+mod kinds;
 mod one;
 mod options;
 mod records;

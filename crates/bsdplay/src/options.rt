@@ -124,11 +124,17 @@ pub(crate) static OPTIONS: [LongOption; 15] = [
 ];
 
 /// The options of `why`.
-pub(crate) static WHY_OPTIONS: [LongOption; 5] = [
+pub(crate) static WHY_OPTIONS: [LongOption; 10] = [
     LongOption {
         id: "A",
         long: "addr",
         help: "The host's address (default: the one that most datagrams go to)",
+        action: ArgAction::Set,
+    },
+    LongOption {
+        id: "B",
+        long: "bcast",
+        help: "The broadcast address of its network (default: that of 256 addresses)",
         action: ArgAction::Set,
     },
     LongOption {
@@ -150,9 +156,33 @@ pub(crate) static WHY_OPTIONS: [LongOption; 5] = [
         action: ArgAction::SetTrue,
     },
     LongOption {
+        id: "offload",
+        long: "offload",
+        help: "Fill in checksums that were left to the sender's card, and go on with the later checks",
+        action: ArgAction::SetTrue,
+    },
+    LongOption {
+        id: "dropped",
+        long: "dropped",
+        help: "Print only packets that were dropped",
+        action: ArgAction::SetTrue,
+    },
+    LongOption {
+        id: "A:P",
+        long: "flow",
+        help: "Print only packets from or to this address and port",
+        action: ArgAction::Set,
+    },
+    LongOption {
+        id: "WHAT",
+        long: "fail-on",
+        help: "Status 1 if there is such a case: packet, offload or unfinished, or several with commas",
+        action: ArgAction::Set,
+    },
+    LongOption {
         id: "json",
         long: "json",
-        help: "Print a JSON object for each record, and no summary",
+        help: "Print a JSON object for each record, and one for the summary",
         action: ArgAction::SetTrue,
     },
 ];

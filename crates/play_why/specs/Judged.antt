@@ -1,5 +1,5 @@
 -- The steps of the machine that judges a capture's records, and the verdicts (this project's own).
-use Rattle.std.specs.Prelude.{◌≡◌, ℕ, ◌+◌, ◌-◌, ◌/◌, ◌*◌, ◌==◌, ◌||◌, Bool, List, [], ◌∷◌, length, nat_lt, if◌then◌else◌, max, min, not, Option, Some, None, replicate}
+use Rattle.std.specs.Prelude.{◌≡◌, ℕ, ◌+◌, ◌-◌, ◌/◌, ◌*◌, ◌==◌, ◌||◌, Bool, List, [], ◌∷◌, length, nat_lt, if◌then◌else◌, max, min, Option, Some, None, replicate}
 use Rattle.params.specs.declared.TheConstants.{IP_HEADER, LIMITED_BROADCAST, LOOPBACK, MAX_CLUSTERS, MAX_MBUFS}
 use Rattle.flat_model.specs.Amounts.Choice.{Choice}
 use Rattle.flat_model.specs.Machine.Count.{more_by}
@@ -7,22 +7,22 @@ use Rattle.flat_model.specs.Machine.Event.{Event, Reply, Comes, Done, Tick}
 use Rattle.flat_model.specs.Machine.State.{State, boot}
 use Rattle.flat_model.specs.Packets.Header.{u32_at}
 use Rattle.flat_model.specs.declared.config.Config.{Config}
-use Rattle.flat_model.specs.declared.counters.Counters.{Counters}
 use Rattle.ip_reass.specs.Questions.{nth_unfinished}
 use Rattle.ip_reass.specs.declared.questions.UnfinishedDatagram.{UnfinishedDatagram}
 use Rattle.net_stack.specs.Stack.{state_of}
-use Rattle.sock_calls.specs.Questions.{readable}
 use Rattle.stack_call.specs.Moves.{StackSteps}
-use Rattle.play_text.specs.Fates.{fate_of, is_kept}
+use Rattle.play_text.specs.Fates.{fate_of}
 use Rattle.play_why.specs.Findings.{IsVerdict}
 use Rattle.play_why.specs.Kept.{AreNone, Expires, Gathers, GathersOf, Joins, Reclaims, Remembers, TakesLost}
 use Rattle.play_why.specs.Objects.{IsPrinted}
-use Rattle.play_why.specs.Sockets.{BindsIf, Drains, IsUnbound, wanted_port}
+use Rattle.play_why.specs.Sockets.{Drains, IsUnbound, Prepares}
 use Rattle.play_why.specs.Verdicts.{judged, lost_after, none_dropped, none_lost}
 use Rattle.play_why.specs.declared.judge.Arrival.{Arrival}
 use Rattle.play_why.specs.declared.judge.Judge.{Judge}
 use Rattle.play_why.specs.declared.judge.Totals.{Totals}
 use Rattle.play_why.specs.declared.layout.Layout.{Layout}
+use Rattle.play_why.specs.declared.outcome.Outcome.{Outcome}
+use Rattle.play_why.specs.declared.outcome.Outcome.TheVariants.{Delivered, Kept, Refused, Offload, Dropped}
 use Rattle.play_why.specs.declared.parts.Loss.{Loss}
 use Rattle.play_why.specs.declared.parts.Lost.{Lost}
 use Rattle.play_why.specs.declared.parts.Parts.{Parts}
@@ -74,14 +74,14 @@ ticks_to time passed = min (ticks_due time - passed) 61
 -- ---- all records
 
 abbrev pub none_came : Totals
-none_came = record { packets = 0; delivered = 0; kept = 0; dropped = 0 }
+none_came = record { packets = 0; delivered = 0; kept = 0; refused = 0; offload = 0; dropped = 0 }
 
 -- a judge before the first record; if `only` has a port, only this port may be bound
-pub record IsNew (form : Layout) (ours : ℕ) (only : Option ℕ) (judge : Judge) : Type 0 where
-  pub machine : state_of judge.host.stack ≡ boot (machine_for ours (broadcast_of ours))
+pub record IsNew (form : Layout) (ours broadcast : ℕ) (only : Option ℕ) (judge : Judge) : Type 0 where
+  pub machine : state_of judge.host.stack ≡ boot (machine_for ours broadcast)
   pub layout : judge.layout ≡ form
   pub address : judge.host.address ≡ ours
-  pub broadcast : judge.broadcast ≡ broadcast_of ours
+  pub broadcast_is : judge.broadcast ≡ broadcast
   pub ports : IsUnbound only judge.ports
   pub parts : AreNone judge.parts
   pub text : judge.text ≡ []
@@ -97,15 +97,13 @@ is_for judge p =
     nat_lt (length p) IP_HEADER
     || (u32_at 16 p == judge.host.address || (u32_at 16 p == judge.broadcast || u32_at 16 p == LIMITED_BROADCAST))
 
--- one more packet, which was delivered, kept as a fragment, or dropped
-abbrev pub counted_as : Bool → Bool → Totals → Totals
-counted_as delivered kept t =
-    if delivered then record t { packets = more_by 1 t.packets; delivered = more_by 1 t.delivered }
-    else if kept then record t { packets = more_by 1 t.packets; kept = more_by 1 t.kept }
-    else record t { packets = more_by 1 t.packets; dropped = more_by 1 t.dropped }
-
-abbrev pub totals_after : State → Counters → Counters → Totals → Totals
-totals_after here a b t = counted_as (not (readable here == 0)) (is_kept a b) t
+-- one more packet
+abbrev pub counted_as : Outcome → Totals → Totals
+counted_as Delivered t = record t { packets = more_by 1 t.packets; delivered = more_by 1 t.delivered }
+counted_as Kept t = record t { packets = more_by 1 t.packets; kept = more_by 1 t.kept }
+counted_as Refused t = record t { packets = more_by 1 t.packets; refused = more_by 1 t.refused }
+counted_as Offload t = record t { packets = more_by 1 t.packets; offload = more_by 1 t.offload }
+counted_as Dropped t = record t { packets = more_by 1 t.packets; dropped = more_by 1 t.dropped }
 
 -- ---- a record
 
@@ -116,6 +114,8 @@ pub record IsOf (r : Arrival) (parts : Parts) (seen : Seen) : Type 0 where
   pub captured : seen.captured ≡ r.captured
   pub packet : seen.packet.now ≡ r.packet.now
   pub whole : seen.whole.now ≡ parts.whole.bytes
+  pub filled : seen.filled ≡ r.filled
+  pub refused : seen.refused ≡ r.refused
 
 -- The ticks passed that were due at a time. If datagrams expired, their fragments are lost.
 pub record HasPassed (old : Judge) (time : ℕ) (new : Judge) : Type 0 where
@@ -132,11 +132,12 @@ pub record HasPassed (old : Judge) (time : ℕ) (new : Judge) : Type 0 where
   pub address : new.host.address ≡ old.host.address
   pub broadcast : new.broadcast ≡ old.broadcast
 
--- A record was judged. The records of the other fragments of its datagram were gathered, and the port that it wants was
--- bound; then its packet arrived. If that completed a datagram that was dropped, its bytes are those of its fragments
--- in the order in which they arrived. The verdict is what happened in this one step, and the table counts it. Then
--- each socket was read. If buffers were reclaimed, the fragments of other datagrams are lost; its own is kept if the
--- stack keeps it, and those of its datagram are forgotten if that is complete.
+-- A record was judged. The records of the other fragments of its datagram were gathered, and the port that it wants
+-- was bound, or closed if the host refused the packet; then its packet arrived. If that completed a datagram that was
+-- dropped, its bytes are those of its fragments in the order in which they arrived. The verdict is what happened in
+-- this one step, and the table counts it. Then each socket was read. If buffers were reclaimed, the fragments of other
+-- datagrams are lost; its own is kept if the stack keeps it, and those of its datagram are forgotten if that is
+-- complete.
 pub record IsJudged (old : Judge) (r : Arrival) (verdict : Verdict) (new : Judge) : Type 0 where
   pub gathered : Parts
   pub joined : Parts
@@ -145,14 +146,14 @@ pub record IsJudged (old : Judge) (r : Arrival) (verdict : Verdict) (new : Judge
   pub here : State
   pub seen : Seen
   pub gathers : Gathers r.packet.now old.parts gathered
-  pub opens : BindsIf old.ports (wanted_port old.ports r.packet.now) new.ports (state_of old.host.stack) ready
+  pub opens : Prepares r.refused r.packet.now old.ports new.ports (state_of old.host.stack) ready
   pub comes : StackSteps ready (Comes r.packet.now) Done here
   pub joins : Joins r.packet.now ready.counters here.counters gathered joined
   pub is : IsOf r joined seen
   pub verdict_is : IsVerdict seen ready.counters here.counters here old.host.address verdict
   pub prints : IsPrinted old.layout r.time verdict new.text
   pub counts : new.verdicts ≡ judged seen ready.counters here.counters old.verdicts
-  pub totals : new.totals ≡ totals_after here ready.counters here.counters old.totals
+  pub totals : new.totals ≡ counted_as verdict.outcome old.totals
   pub takes : Drains new.ports.bound.items here (state_of new.host.stack)
   pub reclaims : Reclaims r.packet.now ready.counters here.counters joined spared
   pub remembers : Remembers (fate_of ready.counters here.counters) r.number r.packet.now spared new.parts

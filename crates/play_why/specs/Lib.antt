@@ -1,4 +1,5 @@
 pub mod Values
+pub mod Offload
 pub mod Keys
 pub mod Joined
 pub mod Kept
@@ -7,4 +8,5 @@ pub mod Objects
 pub mod Verdicts
 pub mod Sockets
 pub mod Judged
+pub mod Refusals
 pub mod Shares

@@ -1,6 +1,7 @@
 -- The sockets of a judge's machine: one for each port to which the datagrams of a capture go (this project's own).
 use Rattle.std.specs.Prelude.{◌≡◌, ℕ, ◌+◌, ◌%◌, ◌==◌, ◌||◌, ◌&&◌, Bool, false, not, nat_lt, Option, Some, None}
-use Rattle.std.specs.Prelude.{List, [], ◌∷◌, ◌++◌, length, slice_index, slice_index_or, slice_set, if◌then◌else◌}
+use Rattle.std.specs.List.{filter}
+use Rattle.std.specs.Prelude.{List, [], ◌∷◌, ◌++◌, length, slice_index, if◌then◌else◌}
 use Rattle.params.specs.declared.TheConstants.{IP_MAX_PACKET, IP_UDP_HEADERS, PROTOCOL_UDP}
 use Rattle.flat_model.specs.Amounts.Choice.{Choice}
 use Rattle.flat_model.specs.Machine.Event.{Reply, Bind, Close, Done, Open, Opened, Receive, Refused}
@@ -45,7 +46,6 @@ wanted_port ports p = wanted_of ports (front_port p)
 -- no port is bound yet
 pub record IsUnbound (port : Option ℕ) (ports : Ports) : Type 0 where
   pub bound : ports.bound.items ≡ []
-  pub next : ports.next ≡ 0
   pub only : ports.only ≡ port
 
 -- a socket is closed, whatever the machine replies
@@ -74,31 +74,62 @@ TriesToBind port None old new = CantBind port old new
 abbrev pub are_all_bound : Ports → Bool
 are_all_bound ports = not (nat_lt (length ports.bound.items) MOST_PORTS)
 
-abbrev pub ClosesAt : List Bound → ℕ → State → State → Type 0
-ClosesAt bound place old new =
-    (oldest : Bound) × (slice_index_or bound place oldest ≡ oldest) × ClosesSocket oldest.fd old new
+pub record ClosesOldest (bound later : List Bound) (old new : State) : Type 0 where
+  pub oldest : Bound
+  pub is : bound ≡ oldest ∷ later
+  pub closes : ClosesSocket oldest.fd old new
+
+pub record MakesSpace (ports later : Ports) (old new : State) : Type 0 where
+  pub only : later.only ≡ ports.only
+  pub closes :
+      Choice (are_all_bound ports) (ClosesOldest ports.bound.items later.bound.items old new)
+      ((later.bound.items ≡ ports.bound.items) × (new ≡ old))
 
 -- the sockets, with the new one
-abbrev pub bound_after : Ports → Option Bound → List Bound
-bound_after ports None = ports.bound.items
-bound_after ports (Some b) =
-    if are_all_bound ports then slice_set ports.bound.items (ports.next % MOST_PORTS) b else ports.bound.items ++ b ∷ []
+abbrev pub bound_after : List Bound → Option Bound → List Bound
+bound_after bound None = bound
+bound_after bound (Some b) = bound ++ b ∷ []
 
 -- a socket is bound to the port, unless the machine returns an error
 pub record BindsFor (ports : Ports) (port : ℕ) (later : Ports) (old new : State) : Type 0 where
+  pub fewer : Ports
   pub bound : Option Bound
   pub freed : State
-  pub closes :
-      Choice (are_all_bound ports) (ClosesAt ports.bound.items (ports.next % MOST_PORTS) old freed) (freed ≡ old)
+  pub makes : MakesSpace ports fewer old freed
   pub tries : TriesToBind port bound freed new
-  pub bound_is : later.bound.items ≡ bound_after ports bound
-  pub next : later.next ≡ (if are_all_bound ports then ports.next % MOST_PORTS + 1 else ports.next)
+  pub bound_is : later.bound.items ≡ bound_after fewer.bound.items bound
   pub only : later.only ≡ ports.only
 
 -- the wanted port is bound; without one, nothing changes
 abbrev pub BindsIf : Ports → Option ℕ → Ports → State → State → Type 0
 BindsIf ports None later old new = (later ≡ ports) × (new ≡ old)
 BindsIf ports (Some port) later old new = BindsFor ports port later old new
+
+-- ---- a packet that the host refused
+
+abbrev pub descriptor_of : ℕ → List Bound → Option ℕ
+descriptor_of port [] = None
+descriptor_of port (b ∷ bs) = if b.port == port then Some b.fd else descriptor_of port bs
+
+pub record FreesPort (fd port : ℕ) (ports later : Ports) (old new : State) : Type 0 where
+  pub closes : ClosesSocket fd old new
+  pub bound : later.bound.items ≡ filter (λ (b : Bound). not (b.port == port)) ports.bound.items
+  pub only : later.only ≡ ports.only
+
+abbrev pub ClosesBy : Option ℕ → ℕ → Ports → Ports → State → State → Type 0
+ClosesBy None port ports later old new = (later ≡ ports) × (new ≡ old)
+ClosesBy (Some fd) port ports later old new = FreesPort fd port ports later old new
+
+-- the socket that is bound to its port is closed, if there is one
+abbrev pub ClosesFor : Option ℕ → Ports → Ports → State → State → Type 0
+ClosesFor None ports later old new = (later ≡ ports) × (new ≡ old)
+ClosesFor (Some port) ports later old new =
+    ClosesBy (descriptor_of port ports.bound.items) port ports later old new
+
+-- the port that a packet wants is bound; if the host refused the packet, its port is closed
+abbrev pub Prepares : Option ℕ → List ℕ → Ports → Ports → State → State → Type 0
+Prepares None p ports later old new = BindsIf ports (wanted_port ports p) later old new
+Prepares (Some number) p ports later old new = ClosesFor (front_port p) ports later old new
 
 -- ---- how the sockets are read
 

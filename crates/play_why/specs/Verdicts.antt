@@ -11,7 +11,7 @@ use Rattle.play_text.specs.declared.table.Row.{Row}
 use Rattle.play_text.specs.declared.table.Table.{Table}
 use Rattle.play_why.specs.Findings.{blame_of}
 use Rattle.play_why.specs.declared.blame.Blame.{Blame}
-use Rattle.play_why.specs.declared.blame.Blame.TheVariants.{Packet, Capture, Card}
+use Rattle.play_why.specs.declared.blame.Blame.TheVariants.{Packet, Capture, Card, Host}
 use Rattle.play_why.specs.declared.parts.Loss.{Loss}
 use Rattle.play_why.specs.declared.parts.Loss.TheVariants.{Expired, Reclaimed}
 use Rattle.play_why.specs.declared.seen.Seen.{Seen}
@@ -22,12 +22,19 @@ abbrev pub same_blame : Blame → Blame → Bool
 same_blame Packet Packet = true
 same_blame Packet Capture = false
 same_blame Packet Card = false
+same_blame Packet Host = false
 same_blame Capture Packet = false
 same_blame Capture Capture = true
 same_blame Capture Card = false
+same_blame Capture Host = false
 same_blame Card Packet = false
 same_blame Card Capture = false
 same_blame Card Card = true
+same_blame Card Host = false
+same_blame Host Packet = false
+same_blame Host Capture = false
+same_blame Host Card = false
+same_blame Host Host = true
 
 -- the packet was dropped for this cause, with this to blame
 abbrev pub is_blamed : Blame → Seen → Counters → Counters → Why → Bool
@@ -53,7 +60,7 @@ causes_judged r a b t = record { rows = map (row_judged r a b) t.rows }
 
 -- no packet was dropped
 abbrev pub none_dropped : Verdicts
-none_dropped = record { causes = no_drops; cut = never; card = never }
+none_dropped = record { causes = no_drops; cut = never; card = never; filled = never; refused = never }
 
 -- after a record
 abbrev pub judged : Seen → Counters → Counters → Verdicts → Verdicts
@@ -61,6 +68,8 @@ judged r a b v = record {
   causes = causes_judged r a b v.causes;
   cut = blamed_on Capture r a b v.cut;
   card = blamed_on Card r a b v.card;
+  filled = if r.filled then once_more r.number v.filled else v.filled;
+  refused = blamed_on Host r a b v.refused;
 }
 
 -- ---- fragments that were kept, and dropped later

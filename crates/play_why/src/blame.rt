@@ -1,4 +1,4 @@
-//! Who is to blame for a drop: the packet, the capture or the sender's card.
+//! Who is to blame for a drop: the packet, the capture, the sender's card or the host.
 ghost use Rattle.std.specs.Prelude.{◌≡◌, ◌≤◌, length};
 ghost use Rattle.params.specs.declared.TheConstants.{IP_MAX_PACKET};
 ghost use Rattle.play_why.specs.Findings as findings;
@@ -20,6 +20,8 @@ pub enum Blame {
     Capture,
     /// The sender's card, which should have filled in the checksum after the packet was captured.
     Card,
+    /// The host, which refused the packet with an ICMP error.
+    Host,
 }
 
 /// Returns what a packet carries, by its total length.
@@ -76,6 +78,16 @@ fn blame_sum(packet: &[u8], datagram: &[u8]) -> Blame
     }
 }
 
+/// Returns who is to blame if no socket is bound to the port of a packet.
+fn blame_port(refused: Option<u64>) -> Blame
+    ensures { result ≡ findings.blame_port refused }
+{
+    match refused {
+        Some(_) => Blame::Host,
+        None => Blame::Packet,
+    }
+}
+
 /// Returns who is to blame for a cause.
 #[tactic(auto, unfolding(crate::specs::Findings::blame_of))]
 pub(crate) fn blame_of(seen: &Seen<'_>, why: Why) -> Blame
@@ -85,6 +97,7 @@ pub(crate) fn blame_of(seen: &Seen<'_>, why: Why) -> Blame
     match why {
         Why::TooSmall | Why::TooShort => blame_short(seen),
         Why::UdpBadSum => blame_sum(seen.packet, datagram_of(seen)),
+        Why::UdpNoPort => blame_port(seen.refused),
         _ => Blame::Packet,
     }
 }

@@ -1,5 +1,5 @@
 //! The judge of the records of a capture, one after another.
-ghost use Rattle.std.specs.Prelude.{◌≡◌, ◌≤◌, IfOk, MatchResult, None, length, replicate};
+ghost use Rattle.std.specs.Prelude.{◌≡◌, ◌≤◌, IfOk, MatchResult, length, replicate};
 ghost use Rattle.params.specs.declared.TheConstants.{IP_MAX_PACKET};
 ghost use Rattle.flat_model.specs.Machine.Event.{Tick};
 ghost use Rattle.net_stack.specs.Boots.{IsUnbooted};
@@ -17,6 +17,7 @@ use crate::host::{Host, arrive, counters_of};
 use crate::lacks::{End, put_unfinished};
 use crate::layout::Layout;
 use crate::object::{Strings, put_object};
+use crate::outcome::Outcome;
 use crate::parts::{Loss, Parts};
 use crate::ports::Ports;
 use crate::scratch::Scratch;
@@ -28,8 +29,8 @@ use flat_model::{Config, Counters};
 use flat_plain::u32_at;
 use net_stack::{BootFault, Stack};
 use params::{IP_HEADER, LIMITED_BROADCAST, LOOPBACK, MAX_CLUSTERS, MAX_MBUFS};
-use play_text::Piece::{Address, Long, Text};
-use play_text::{Fate, add, fate_of, is_kept};
+use play_text::Piece::{Address, Either, Long, Text};
+use play_text::{Fate, add, fate_of};
 use script_loop::Buffer;
 use std::alloc::{AllocError, Global};
 
@@ -51,6 +52,10 @@ pub struct Arrival<'a> {
     pub captured: u32,
     /// The packet, with its IP header first.
     pub packet: &'a [u8],
+    /// Whether its UDP checksum was left to the sender's card, and is filled in here.
+    pub filled: bool,
+    /// The record of the ICMP error with which the host refused it, if there is one.
+    pub refused: Option<u64>,
 }
 
 /// What happened to all packets.
@@ -59,7 +64,20 @@ struct Totals {
     packets: u64,
     delivered: u64,
     kept: u64,
+    refused: u64,
+    offload: u64,
     dropped: u64,
+}
+
+/// What else a capture has, for the summary as a JSON object.
+#[derive(Clone, Copy)]
+pub struct Others {
+    /// Packets for other machines.
+    pub elsewhere: u64,
+    /// Records without IPv4.
+    pub without: u64,
+    /// Datagrams that are unfinished at the end.
+    pub unfinished: u64,
 }
 
 /// A host at which the packets of a capture arrive, and the last report. It must be consumed by `end`.
@@ -78,8 +96,8 @@ pub struct Judge {
     ticks: u64,
 }
 
-/// Returns the broadcast address of a network of 256 addresses.
-fn broadcast_of(ours: u32) -> u32
+/// Returns the broadcast address of the network of 256 addresses that has this address.
+pub fn broadcast_of(ours: u32) -> u32
     ensures { result ≡ judged.broadcast_of ours }
 {
     let last = ours / 256 * 256 + 255;
@@ -126,6 +144,8 @@ fn seen_by<'a>(parts: &'a Parts, arrival: &Arrival<'_>, packet: &'a [u8]) -> See
         captured: arrival.captured,
         packet,
         whole: parts.bytes(),
+        filled: arrival.filled,
+        refused: arrival.refused,
     }
 }
 
@@ -159,28 +179,48 @@ fn remember(
     Ok(())
 }
 
+/// Appends the front of the summary as an object.
+fn put_host(text: &mut Buffer<FATE>, ours: u32) {
+    add(
+        text,
+        &[
+            Text(b"{\"summary\":{\"host\":\""),
+            Address(ours),
+            Text(b"\","),
+        ],
+    );
+}
+
+/// Appends members for what else a capture has.
+fn put_others(text: &mut Buffer<FATE>, others: Others) {
+    add(
+        text,
+        &[
+            Text(b",\"unfinished\":"),
+            Long(others.unfinished),
+            Text(b",\"elsewhere\":"),
+            Long(others.elsewhere),
+            Text(b",\"without_ipv4\":"),
+            Long(others.without),
+        ],
+    );
+}
+
 impl Totals {
-    /// Counts one more packet, which was delivered, kept as a fragment, or dropped.
-    fn counted(self, is_delivered: bool, kept_as_fragment: bool) -> Totals
-        ensures { result ≡ judged.counted_as is_delivered kept_as_fragment self }
+    /// Counts one more packet.
+    fn counted(self, outcome: Outcome) -> Totals
+        ensures { result ≡ judged.counted_as outcome self }
     {
         let mut totals = self;
         totals.packets = self.packets.saturating_add(1);
-        if is_delivered {
-            totals.delivered = self.delivered.saturating_add(1);
-        } else if kept_as_fragment {
-            totals.kept = self.kept.saturating_add(1);
-        } else {
-            totals.dropped = self.dropped.saturating_add(1);
+        match outcome {
+            Outcome::Delivered => totals.delivered = self.delivered.saturating_add(1),
+            Outcome::Kept => totals.kept = self.kept.saturating_add(1),
+            Outcome::Refused => totals.refused = self.refused.saturating_add(1),
+            Outcome::Offload => totals.offload = self.offload.saturating_add(1),
+            Outcome::Dropped => totals.dropped = self.dropped.saturating_add(1),
         }
         totals
-    }
-
-    /// Counts one more packet. `here` is the machine after it.
-    fn after(self, here: &Stack, before: &Counters, after: &Counters) -> Totals
-        ensures { result ≡ judged.totals_after (state_of here.now) before.now after.now self }
-    {
-        self.counted(here.readable() != 0, is_kept(before, after))
     }
 
     /// Appends the line with all packets.
@@ -192,32 +232,73 @@ impl Totals {
                 Address(ours),
                 Text(b": "),
                 Long(self.packets),
-                Text(b" packets. Delivered: "),
+                Either(
+                    self.packets == 1,
+                    b" packet. Delivered: ",
+                    b" packets. Delivered: ",
+                ),
                 Long(self.delivered),
                 Text(b". Kept as fragments: "),
                 Long(self.kept),
-                Text(b". Dropped: "),
+            ],
+        );
+        if self.refused != 0 {
+            add(
+                text,
+                &[Text(b". Refused by the host: "), Long(self.refused)],
+            );
+        }
+        if self.offload != 0 {
+            add(text, &[Text(b". Left to the card: "), Long(self.offload)]);
+        }
+        add(
+            text,
+            &[Text(b". Dropped: "), Long(self.dropped), Text(b".\n")],
+        );
+    }
+
+    /// Appends the members of a JSON object for them.
+    fn put_members(&self, text: &mut Buffer<FATE>) {
+        add(
+            text,
+            &[
+                Text(b"\"packets\":"),
+                Long(self.packets),
+                Text(b",\"delivered\":"),
+                Long(self.delivered),
+                Text(b",\"kept\":"),
+                Long(self.kept),
+                Text(b",\"refused\":"),
+                Long(self.refused),
+            ],
+        );
+        add(
+            text,
+            &[
+                Text(b",\"offload\":"),
+                Long(self.offload),
+                Text(b",\"dropped\":"),
                 Long(self.dropped),
-                Text(b".\n"),
             ],
         );
     }
 }
 
 impl Judge {
-    /// A machine with this address, at which no packet has arrived. Each port is bound when a datagram for it arrives,
-    /// or only `port`. Fails with `BadConfig` if no machine can have the address, otherwise with `Memory`.
+    /// A machine with this address in a network with this broadcast address, at which no packet has arrived. Each port
+    /// is bound when a datagram for it arrives, or only `port`. Fails with `BadConfig` if no machine can have these
+    /// addresses, otherwise with `Memory`.
     pub fn new(
         alloc: Global,
         layout: Layout,
         ours: u32,
+        broadcast: u32,
         port: Option<u16>,
     ) -> Result<Judge, BootFault>
         ensures { MatchResult result
-            (IsNew layout ours port)
-            (IsUnbooted (judged.machine_for ours (judged.broadcast_of ours))) }
+            (IsNew layout ours broadcast port)
+            (IsUnbooted (judged.machine_for ours broadcast)) }
     {
-        let broadcast = broadcast_of(ours);
         let stack = Stack::boot(alloc, config_of(ours, broadcast))?;
         let (Ok(parts), Ok(scratch), Ok(text)) = (
             Parts::new(alloc),
@@ -243,6 +324,8 @@ impl Judge {
                 packets: 0,
                 delivered: 0,
                 kept: 0,
+                refused: 0,
+                offload: 0,
                 dropped: 0,
             },
             losses: Losses::none(),
@@ -272,8 +355,8 @@ impl Judge {
         let _ = stack.end();
     }
 
-    /// Returns whether a packet is for this machine: it goes to its address, to the broadcast address of its network of
-    /// 256 addresses or to 255.255.255.255; or it's too short to say.
+    /// Returns whether a packet is for this machine: it goes to its address, to the broadcast address of its network or
+    /// to 255.255.255.255; or it's too short to say.
     pub fn is_ours(&self, packet: &[u8]) -> bool
         ensures { result ≡ judged.is_for self.now packet.now }
     {
@@ -309,7 +392,8 @@ impl Judge {
     {
         let packet = arrival.packet;
         self.parts.gather(packet)?;
-        self.ports.open_for(&mut self.host.stack, packet)?;
+        self.ports
+            .prepare(&mut self.host.stack, packet, arrival.refused)?;
         let before = counters_of(&self.host.stack);
         arrive(
             &mut self.host.stack,
@@ -337,8 +421,7 @@ impl Judge {
             &mut self.scratch.strings,
         );
         self.verdicts.count_record(&seen, &before, &after);
-        let totals = self.totals.after(&self.host.stack, &before, &after);
-        self.totals = totals;
+        self.totals = self.totals.counted(verdict.outcome);
         self.ports
             .drain(&mut self.host.stack, self.scratch.packet.as_mut_slice());
         self.parts.reclaim(packet, &before, &after)?;
@@ -353,15 +436,27 @@ impl Judge {
         self.text.as_slice()
     }
 
-    /// Reports on all packets, in lines: how many arrived, what happened to them, and for each cause how many were
-    /// dropped and the first record. `text` then returns the lines.
-    pub fn report_totals(&mut self)
+    /// Reports on all packets: how many arrived, what happened to them, and for each cause how many were dropped and
+    /// the first record. `text` then returns the lines, or an object, which has `others` too.
+    pub fn report_totals(&mut self, others: Others)
         ensures { self.new ≡ record (self.old) { text = self.new.text } }
     {
         self.text.clear();
-        self.totals.put(self.host.address, &mut self.text);
-        self.verdicts.put(&mut self.text);
-        self.losses.put(&mut self.text);
+        match self.layout {
+            Layout::Lines => {
+                self.totals.put(self.host.address, &mut self.text);
+                self.verdicts.put(&mut self.text);
+                self.losses.put(&mut self.text);
+            }
+            Layout::Objects => {
+                put_host(&mut self.text, self.host.address);
+                self.totals.put_members(&mut self.text);
+                self.losses.put_members(&mut self.text);
+                put_others(&mut self.text, others);
+                self.verdicts.put_members(&mut self.text);
+                add(&mut self.text, &[Text(b"}}\n")]);
+            }
+        }
     }
 
     /// Reports on the first datagram that was dropped unfinished and that wasn't reported yet. Returns why it was

@@ -2,8 +2,8 @@
 //! their fragments. No contract specifies the words.
 use crate::FATE;
 use crate::layout::Layout;
+use crate::listed::{Listed, add_listed};
 use crate::parts::Loss;
-use crate::sentences::MOST_LISTED;
 use flat_model::FragmentKey;
 use net_stack::Stack;
 use play_text::Piece::{Either, Long, Number, Text, Way};
@@ -55,22 +55,19 @@ fn add_end(text: &mut Buffer<FATE>, machine: &Stack, end: End) {
     }
 }
 
-/// Appends the records of the first 64 fragments, and how many more there are.
+/// Appends the records of the fragments.
 fn add_records(text: &mut Buffer<FATE>, numbers: &[u64]) {
     add(
         text,
         &[Either(numbers.len() == 1, b" with record", b" with records")],
     );
-    for (place, number) in numbers.iter().enumerate() {
-        if place < MOST_LISTED {
-            let front = Either(place == 0, b" ", b", ");
-            add(text, &[front, Long(*number)]);
-        }
-    }
-    let rest = numbers.len().saturating_sub(MOST_LISTED);
-    if rest != 0 {
-        add(text, &[Text(b" and "), Long(rest as u64), Text(b" more")]);
-    }
+    add_listed(
+        text,
+        Listed {
+            numbers,
+            last: None,
+        },
+    );
 }
 
 /// Returns the word for what happened to a datagram in a JSON object.

@@ -1,6 +1,6 @@
 //! The sockets of the machine: one for each destination port in a capture.
-ghost use Rattle.std.specs.Prelude.{◌≡◌, IfOk, length, true};
-ghost use Rattle.params.specs.declared.TheConstants.{IP_MAX_PACKET};
+ghost use Rattle.std.specs.Prelude.{◌≡◌, ◌==◌, ◌≤◌, filter, not, IfOk, IfSome, length, true};
+ghost use Rattle.params.specs.declared.TheConstants.{IP_MAX_PACKET, IP_UDP_HEADERS};
 ghost use Rattle.flat_model.specs.Machine.Event.{Bind, Open};
 ghost use Rattle.flat_model.specs.Machine.Replies.{done_reply, opened_reply};
 ghost use Rattle.net_stack.specs.Stack.{state_of};
@@ -26,16 +26,16 @@ struct Bound {
 /// The ports that are bound, and their sockets.
 #[derive(Drop)]
 pub(crate) struct Ports {
+    /// In the order in which they were bound.
     bound: Vec<Bound>,
-    /// The index of the one that is closed next, once there are 60.
-    next: usize,
     /// The only port that may be bound, if the caller chose one.
     only: Option<u16>,
 }
 
 /// Returns the destination port of a packet that carries the first bytes of a UDP datagram.
-fn port_in(packet: &[u8]) -> Option<u16>
-    ensures { result ≡ sockets.front_port packet.now }
+pub(crate) fn port_in(packet: &[u8]) -> Option<u16>
+    ensures is { result ≡ sockets.front_port packet.now }
+    ensures least { IfSome result (λ port. IP_UDP_HEADERS ≤ length packet.now) }
 {
     if packet.len() < IP_UDP_HEADERS as usize || packet[0] != 69 || packet[9] != PROTOCOL_UDP {
         return None;
@@ -95,6 +95,20 @@ fn bound_to(machine: &mut Stack, port: u16) -> Option<Bound>
     }
 }
 
+/// Returns whether a socket is bound to a port.
+fn is_at(bound: &Bound, port: u16) -> bool
+    ensures { result ≡ (bound.now.port == port) }
+{
+    bound.port == port
+}
+
+/// Removes the socket of a port.
+fn retain_others(bound: &mut Vec<Bound>, port: u16)
+    ensures { bound.new.items ≡ filter (λ (b : Bound). not (b.port == port)) bound.old.items }
+{
+    bound.retain(|it| !is_at(it, port));
+}
+
 impl Ports {
     /// No port is bound yet. It allocates no memory.
     pub(crate) fn new(alloc: Global, only: Option<u16>) -> Ports
@@ -102,7 +116,6 @@ impl Ports {
     {
         Ports {
             bound: Vec::new(alloc),
-            next: 0,
             only,
         }
     }
@@ -141,16 +154,13 @@ impl Ports {
         }
     }
 
-    /// Closes the socket that was bound first, and binds a new one to a port.
-    fn bind_in_place(&mut self, machine: &mut Stack, port: u16)
-        requires { sockets.are_all_bound self.old ≡ true }
-        ensures { sockets.BindsFor self.old port self.new (state_of machine.old) (state_of machine.new) }
+    /// Closes the socket that was bound first, if 60 are bound.
+    fn make_space(&mut self, machine: &mut Stack)
+        ensures { sockets.MakesSpace self.old self.new (state_of machine.old) (state_of machine.new) }
     {
-        let place = self.next % MOST_PORTS;
-        close(machine, self.bound[place].fd);
-        self.next = place + 1;
-        if let Some(bound) = bound_to(machine, port) {
-            self.bound[place] = bound;
+        if self.bound.len() >= MOST_PORTS {
+            let oldest = self.bound.remove(0);
+            close(machine, oldest.fd);
         }
     }
 
@@ -159,16 +169,61 @@ impl Ports {
         ensures { IfOk result
             (λ u. sockets.BindsFor self.old port self.new (state_of machine.old) (state_of machine.new)) }
     {
-        if self.bound.len() >= MOST_PORTS {
-            self.bind_in_place(machine, port);
-        } else if let Some(bound) = bound_to(machine, port) {
+        self.make_space(machine);
+        if let Some(bound) = bound_to(machine, port) {
             self.bound.push(bound)?;
         }
         Ok(())
     }
 
+    /// Returns the descriptor of the socket that is bound to a port.
+    fn descriptor_of(&self, port: u16) -> Option<u32>
+        ensures { result ≡ sockets.descriptor_of port self.now.bound.items }
+    {
+        let mut rest = self.bound.as_slice();
+        'bound: while let [bound, left @ ..] = rest {
+            if bound.port == port {
+                return Some(bound.fd);
+            }
+            rest = left;
+        }
+        None
+    }
+
+    /// Closes the socket that is bound to the destination port of a packet, if there is one.
+    fn close_for(&mut self, machine: &mut Stack, packet: &[u8])
+        ensures { sockets.ClosesFor (sockets.front_port packet.now) self.old self.new (state_of machine.old)
+            (state_of machine.new) }
+    {
+        let Some(port) = port_in(packet) else {
+            return;
+        };
+        let Some(fd) = self.descriptor_of(port) else {
+            return;
+        };
+        close(machine, fd);
+        retain_others(&mut self.bound, port);
+    }
+
+    /// Binds a socket for a packet, or closes the one that it would arrive at if the host refused the packet.
+    pub(crate) fn prepare(
+        &mut self,
+        machine: &mut Stack,
+        packet: &[u8],
+        refused: Option<u64>,
+    ) -> Result<(), AllocError>
+        ensures { IfOk result (λ u. sockets.Prepares refused packet.now self.old self.new (state_of machine.old)
+            (state_of machine.new)) }
+    {
+        match refused {
+            Some(_) => self.close_for(machine, packet),
+            None => self.open_for(machine, packet)?,
+        }
+        Ok(())
+    }
+
     /// Binds a socket to the destination port of a packet if it isn't bound yet.
-    pub(crate) fn open_for(&mut self, machine: &mut Stack, packet: &[u8]) -> Result<(), AllocError>
+    fn open_for(&mut self, machine: &mut Stack, packet: &[u8]) -> Result<(), AllocError>
         ensures { IfOk result (λ u. sockets.BindsIf self.old (sockets.wanted_port self.old packet.now) self.new
             (state_of machine.old) (state_of machine.new)) }
     {

@@ -13,4 +13,8 @@ pub(crate) struct Seen<'a> {
     pub(crate) packet: &'a [u8],
     /// The reassembled datagram without an IP header, if the packet completed one that was dropped; otherwise empty.
     pub(crate) whole: &'a [u8],
+    /// Whether its UDP checksum was left to the sender's card, and filled in before it arrived.
+    pub(crate) filled: bool,
+    /// The record of the ICMP error with which the host refused it, if there is one.
+    pub(crate) refused: Option<u64>,
 }

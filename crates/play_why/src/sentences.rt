@@ -5,18 +5,16 @@ ghost use Rattle.params.specs.declared.TheConstants.{IP_MAX_PACKET};
 use crate::FATE;
 use crate::blame::Blame;
 use crate::finding::Finding;
+use crate::listed::{Listed, add_listed};
 use crate::seen::Seen;
 use crate::values::Value;
 use crate::verdict::Verdict;
 use crate::words::rule_for;
 use flat_plain::{u16_at, u32_at};
 use params::IP_HEADER;
-use play_text::Piece::{Address, Amount, Either, Long, Number, Range, Text};
+use play_text::Piece::{Address, Amount, Long, Number, Range, Text};
 use play_text::{Fate, add, add_packet, add_time, words_for};
 use script_loop::Buffer;
-
-/// How many records of other fragments a line lists.
-pub(crate) const MOST_LISTED: usize = 64;
 
 /// The context in which a record is printed.
 #[derive(Clone, Copy)]
@@ -132,18 +130,15 @@ pub(crate) fn add_values<const N: usize>(text: &mut Buffer<N>, verdict: &Verdict
 
 /// Adds the records of a datagram's fragments, of which the last one completed it.
 fn add_records<const N: usize>(text: &mut Buffer<N>, earlier: &[u64], last: u64) {
-    for (place, number) in earlier.iter().enumerate() {
-        if place < MOST_LISTED {
-            let front = Either(place == 0, b" with records ", b", ");
-            add(text, &[front, Long(*number)]);
-        }
-    }
-    let more = earlier.len().saturating_sub(MOST_LISTED);
-    if more != 0 {
-        add(text, &[Text(b", "), Long(more as u64), Text(b" more")]);
-    }
     if !earlier.is_empty() {
-        add(text, &[Text(b" and "), Long(last)]);
+        add(text, &[Text(b" with records")]);
+        add_listed(
+            text,
+            Listed {
+                numbers: earlier,
+                last: Some(last),
+            },
+        );
     }
 }
 
@@ -169,6 +164,9 @@ fn add_fragment<const N: usize>(text: &mut Buffer<N>, report: &Report<'_>) {
 
 /// Adds what happened to a packet. Each part begins with ` => `.
 pub(crate) fn add_became<const N: usize>(text: &mut Buffer<N>, report: &Report<'_>) {
+    if report.verdict.filled {
+        add(text, &[Text(b" => checksum filled in for the card")]);
+    }
     add_fragment(text, report);
     for delivered in report.verdict.delivered {
         if let Some(it) = delivered {
@@ -182,10 +180,24 @@ pub(crate) fn add_became<const N: usize>(text: &mut Buffer<N>, report: &Report<'
     }
     for finding in report.verdict.findings {
         if let Some(it) = finding {
-            let cause = Text(words_for(it.why).as_bytes());
-            add(text, &[Text(b" => dropped: "), cause, Text(b": ")]);
-            add_value(text, it.value);
+            add_drop(text, it, report.verdict.refused);
         }
+    }
+}
+
+/// Adds that a packet was dropped, or why this doesn't count as a drop.
+fn add_drop<const N: usize>(text: &mut Buffer<N>, finding: Finding, refused: Option<u64>) {
+    let cause = Text(words_for(finding.why).as_bytes());
+    match finding.blame {
+        Blame::Packet | Blame::Capture => {
+            add(text, &[Text(b" => dropped: "), cause, Text(b": ")]);
+        }
+        Blame::Card => add(text, &[Text(b" => left to the card: "), cause, Text(b": ")]),
+        Blame::Host => add(text, &[Text(b" => refused by the host: ")]),
+    }
+    add_value(text, finding.value);
+    if let (Blame::Host, Some(number)) = (finding.blame, refused) {
+        add(text, &[Text(b" (record "), Long(number), Text(b")")]);
     }
 }
 
@@ -211,6 +223,13 @@ fn add_reason(text: &mut Buffer<FATE>, seen: &Seen<'_>, finding: Finding) {
             &[
                 Text(b"    not wrong on the wire: this is the sum of the pseudo header alone, "),
                 Text(b"to which the sender's card adds the rest (checksum offload)\n"),
+            ],
+        ),
+        Blame::Host => add(
+            text,
+            &[
+                Text(b"    the host answered with an ICMP error, "),
+                Text(b"\"port unreachable\" (RFC 1122, section 4.1.3.1)\n"),
             ],
         ),
     }

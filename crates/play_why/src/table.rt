@@ -9,7 +9,10 @@ use crate::blame::{Blame, blame_of};
 use crate::parts::Loss;
 use crate::seen::Seen;
 use flat_model::{Counters, Why};
-use play_text::{CAUSES, Count, Row, Table, add_count, add_table, causes, rose};
+use play_text::Piece::{Either, Long, Text};
+use play_text::{
+    CAUSES, Count, Piece, Row, Table, add, add_count, add_table, causes, rose, words_for,
+};
 use script_loop::Buffer;
 
 /// For which causes packets were dropped.
@@ -21,6 +24,10 @@ pub struct Verdicts {
     pub cut: Count,
     /// The packets whose checksum was left to the sender's card.
     pub card: Count,
+    /// Those whose checksum was filled in instead of the card.
+    pub filled: Count,
+    /// The packets that the host refused.
+    pub refused: Count,
 }
 
 /// Returns whether a packet was dropped for a cause for which this one is to blame.
@@ -33,6 +40,7 @@ fn is_blamed(blame: Blame, seen: &Seen<'_>, before: &Counters, after: &Counters,
             (Blame::Packet, Blame::Packet) => true,
             (Blame::Capture, Blame::Capture) => true,
             (Blame::Card, Blame::Card) => true,
+            (Blame::Host, Blame::Host) => true,
             _ => false,
         }
 }
@@ -95,6 +103,8 @@ impl Verdicts {
             causes: Table::new(),
             cut: Count::never(),
             card: Count::never(),
+            filled: Count::never(),
+            refused: Count::never(),
         }
     }
 
@@ -106,9 +116,11 @@ impl Verdicts {
         self.causes = causes_judged(self.causes, seen, before, after);
         self.cut = blamed(Blame::Capture, seen, before, after, self.cut);
         self.card = blamed(Blame::Card, seen, before, after, self.card);
+        self.filled = counted_if(self.filled, seen.filled, seen.number);
+        self.refused = blamed(Blame::Host, seen, before, after, self.refused);
     }
 
-    /// Appends a line for each cause for which a packet was dropped.
+    /// Appends a line for each cause for which a packet was dropped, and those for packets that are apart from drops.
     pub(crate) fn put(&self, text: &mut Buffer<FATE>) {
         add_table(text, &self.causes);
         add_count(
@@ -116,12 +128,71 @@ impl Verdicts {
             self.cut,
             b"cut by the capture's snap length: no fault of the packet",
         );
-        add_count(
+        add_apart(
+            text,
+            self.refused,
+            b" refused by the host: its ICMP error is in the capture (first: record ",
+        );
+        add_apart(
             text,
             self.card,
-            b"checksum left to the sender's card: no fault on the wire",
+            b" left to the card: no fault on the wire; --offload goes on as if it were right (first: record ",
+        );
+        add_apart(
+            text,
+            self.filled,
+            b" with the checksum filled in that was left to the card (first: record ",
         );
     }
+
+    /// Appends the members of a JSON object for the causes.
+    pub(crate) fn put_members(&self, text: &mut Buffer<FATE>) {
+        add(text, &[Text(b",\"causes\":[")]);
+        let mut is_first = true;
+        for row in &self.causes.rows {
+            let words = Text(words_for(row.why).as_bytes());
+            is_first = add_member(text, is_first, row.count, words);
+        }
+        let words = Text(b"cut by the capture's snap length");
+        let _ = add_member(text, is_first, self.cut, words);
+        add(text, &[Text(b"]")]);
+    }
+}
+
+/// Appends a line for packets that are apart from drops, unless there are none.
+fn add_apart(text: &mut Buffer<FATE>, count: Count, what: &[u8]) {
+    if count.count != 0 {
+        add(
+            text,
+            &[
+                Text(b"    "),
+                Long(count.count),
+                Text(what),
+                Long(count.first),
+                Text(b")\n"),
+            ],
+        );
+    }
+}
+
+/// Appends a cause to a JSON array, unless no packet was dropped for it. Returns whether the next one is the first.
+fn add_member(text: &mut Buffer<FATE>, is_first: bool, count: Count, words: Piece<'_>) -> bool {
+    if count.count == 0 {
+        return is_first;
+    }
+    add(
+        text,
+        &[
+            Either(is_first, b"{\"cause\":\"", b",{\"cause\":\""),
+            words,
+            Text(b"\",\"count\":"),
+            Long(count.count),
+            Text(b",\"first\":"),
+            Long(count.first),
+            Text(b"}"),
+        ],
+    );
+    false
 }
 
 /// How many fragments were kept, and dropped later.
@@ -176,6 +247,19 @@ impl Losses {
             text,
             self.reclaimed,
             b"kept fragment of a datagram that was dropped for its buffers",
+        );
+    }
+
+    /// Appends the members of a JSON object for them.
+    pub(crate) fn put_members(&self, text: &mut Buffer<FATE>) {
+        add(
+            text,
+            &[
+                Text(b",\"expired\":"),
+                Long(self.expired.count),
+                Text(b",\"reclaimed\":"),
+                Long(self.reclaimed.count),
+            ],
         );
     }
 }

@@ -3,8 +3,10 @@ ghost use Rattle.net_stack.specs.Stack.{state_of};
 ghost use Rattle.play_why.specs.Findings.{IsSeen, IsVerdict};
 
 use crate::delivered::{Delivered, deliveries_of};
+use crate::ends::{Ends, ends_of};
 use crate::finding::{Counted, Finding, findings_of};
 use crate::host::Host;
+use crate::outcome::{Outcome, outcome_of};
 use crate::seen::Seen;
 use crate::sums::COVERED;
 use params::MAX_SOCKETS;
@@ -18,6 +20,14 @@ pub struct Verdict {
     pub number: u64,
     /// What happened to its fragment.
     pub fate: Fate,
+    /// What happened to it, in one word.
+    pub outcome: Outcome,
+    /// Where it comes from and where it goes, if it has a header of 20 bytes.
+    pub ends: Option<Ends>,
+    /// Whether its UDP checksum was left to the sender's card, and filled in before it arrived.
+    pub filled: bool,
+    /// The record of the ICMP error with which the host refused it, if there is one.
+    pub refused: Option<u64>,
     /// What was delivered to each socket, that of the lowest descriptor first.
     pub delivered: [Option<Delivered>; MAX_SOCKETS as usize],
     /// Why it was dropped: the finding for each cause, in the order of `play_text::causes`.
@@ -40,6 +50,10 @@ impl Verdict {
         Verdict {
             number: seen.number,
             fate: fate_of(counted.before, counted.after),
+            outcome: outcome_of(seen, counted, &host.stack),
+            ends: ends_of(seen.packet),
+            filled: seen.filled,
+            refused: seen.refused,
             delivered: deliveries_of(&host.stack),
             findings: findings_of(seen, counted, host.address, covered),
         }

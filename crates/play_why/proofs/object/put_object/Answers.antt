@@ -8,8 +8,13 @@ returns c = record {
   values = c.bytes_of-shown.result.now;
   is =
       rw (
-        c.put_tail.ensures,
+        c.put_end.ensures,
+        c.put_tail.ensures.items,
+        c.put_numbers.ensures.items,
+        c.put_words.ensures.items,
+        c.put_ends.ensures.items,
         c.put_head.ensures.items,
+        c.first_of-first.ensures,
         c.bytes_of-cause.ensures.is,
         c.put_causes.ensures,
         c.bytes_of-fault.ensures.is,

@@ -3,7 +3,6 @@ use Rattle.flat_model.specs.declared.counters.Counters.{Counters}
 use Rattle.net_stack.specs.Stack.{state_of}
 use Rattle.play_text.specs.Fates.{fate_of}
 use Rattle.play_why.specs.Findings.{IsVerdict}
-use Rattle.play_why.specs.Judged.{totals_after}
 use Rattle.play_why.specs.Kept.{Joins, Reclaims, Remembers}
 use Rattle.play_why.specs.Verdicts.{judged}
 use Rattle.play_why.proofs.judge.Judge.receive.Goals as goal
@@ -12,7 +11,7 @@ pub returns : goal.returns
 returns c =
     let old = c.args.self.now in
     let packet = c.args.arrival.now.packet.now in
-    let ready = state_of c.open_for.new.machine in
+    let ready = state_of c.prepare.new.machine in
     let here = state_of c.arrive.new.machine in
     let before = c.counters_of-before in
     let after = c.counters_of-after in
@@ -25,7 +24,7 @@ returns c =
       here = here;
       seen = seen;
       gathers = c.in_ok-gather.ensures;
-      opens = c.in_ok-open_for.ensures;
+      opens = c.in_ok-prepare.ensures;
       comes = c.arrive.ensures;
       joins =
           subst (λ (a : Counters). Joins packet a here.counters c.gather.new.self c.join.new.self) before.ensures
@@ -39,9 +38,7 @@ returns c =
       prints = c.put_record.ensures;
       counts =
           c.count_record.ensures ∙ ap₂ (λ (a b : Counters). judged seen a b old.verdicts) before.ensures after.ensures;
-      totals =
-          c.after-totals.ensures ∙ ap₂ (λ (a b : Counters). totals_after here a b old.totals) before.ensures
-          after.ensures;
+      totals = search rules;
       takes = search rules;
       reclaims =
           subst (λ (a : Counters). Reclaims packet a here.counters c.join.new.self c.reclaim.new.self) before.ensures
