@@ -117,8 +117,8 @@ class Host(Stack):
         to = 0 if gateway is None else number_of(gateway)
         self._link = Link((ctypes.c_uint8 * 6)(*hardware), self._mask, to, bool(probe))
         self._has_gateway = gateway is not None
-        self._last = number_of(addr) | hosts
-        super().__init__(addr, text_of(self._last) if bcast is None else bcast, mtu, mbufs, clusters, first_id)
+        last = number_of(addr) | hosts
+        super().__init__(addr, text_of(last) if bcast is None else bcast, mtu, mbufs, clusters, first_id)
 
     def _memory_size(self) -> int:
         return LIBRARY.ether_memory(self._config)
@@ -127,8 +127,9 @@ class Host(Stack):
         own, to = self._config.addr, self._link.gateway
         if self._has_gateway and ((to ^ own) & self._mask or to in (0, own, self._config.bcast)):
             raise ValueError(f"gateway is a neighbour, on the network of {text_of(own)}: {text_of(to)} isn't")
-        if self._config.bcast != self._last:
-            why = f"bcast is {text_of(self._last)}, the last address of the network of mask"
+        last = own | ~self._mask & 0xFFFFFFFF
+        if self._config.bcast != last:
+            why = f"bcast is {text_of(last)}, the last address of the network of mask"
             raise ValueError(f"{why}, and {text_of(self._config.bcast)} isn't")
         config, link = ctypes.byref(self._config), ctypes.byref(self._link)
         self._frame_room = ctypes.create_string_buffer(ETHER_ROOM)
