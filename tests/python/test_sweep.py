@@ -79,11 +79,13 @@ def test_cores(tmp_path, monkeypatch):
 
 
 @pytest.mark.needs("distributed")
-def test_cluster():
+def test_cluster(capsys):
     distributed = importlib.import_module("distributed")
     with distributed.LocalCluster(n_workers=2, threads_per_worker=1, dashboard_address=None) as cluster:
         with distributed.Client(cluster) as client:
-            assert bsdudp.sweep(lossy_run, range(20), client) == [lossy_run(seed) for seed in range(20)]
+            results = bsdudp.sweep(lossy_run, range(20), client, progress=True)
+            assert results == [lossy_run(seed) for seed in range(20)]
+            assert re.search(r"\[#{30}\] 20 of 20 seeds, \d+ s, 0 s left \n$", capsys.readouterr().err)
             worker = next(iter(cluster.workers.values()))
             victim = client.run(os.getpid, workers=[worker.worker_address])[worker.worker_address]
             threading.Timer(0.3, os.kill, (victim, 9)).start()
