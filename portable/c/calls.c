@@ -166,7 +166,8 @@ static int end_link(struct bsdudp *stack)
     return answer_of(core_ether_end(&it, LINK));
 }
 
-int bsdudp_link_fault(const struct bsdudp_config *config, const struct bsdudp_link *link); /* of composed.c */
+/* Of composed.c, which follows. */
+static int bsdudp_link_fault(const struct bsdudp_config *config, const struct bsdudp_link *link);
 
 static int boot_host_at(struct bsdudp *stack, const struct bsdudp_config *given, const struct bsdudp_link *link,
                         u8 *memory, size_t len)
