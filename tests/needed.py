@@ -50,6 +50,13 @@ def links(*words: str) -> Callable[[], bool]:
     return known
 
 
+def fuzzes() -> bool:
+    """Returns whether clang has libFuzzer's runtime."""
+    words = ["clang", "-fsanitize=fuzzer", "-x", "c", "-", "-o", "/dev/null"]
+    text = b"int LLVMFuzzerTestOneInput(const unsigned char *a, unsigned long b) { return !a + !b > 1; }"
+    return command("clang")() and not subprocess.run(words, input=text, capture_output=True, check=False).returncode
+
+
 def runs(*words: str) -> Callable[[], bool]:
     """Returns whether a command ends with status 0."""
 
@@ -107,6 +114,7 @@ TOOLS = {
     "arm-none-eabi": Tool(command("arm-none-eabi-gcc"), "gcc-arm-none-eabi libnewlib-arm-none-eabi"),
     "dpkg-source": Tool(command("dpkg-source"), "dpkg-dev"),
     "cc -m32": Tool(links("-m32"), "lib32gcc-12-dev libc6-dev-i386"),
+    "libfuzzer": Tool(fuzzes, "clang libclang-rt-14-dev"),
     "clang": Tool(command("clang"), "clang"),
     "arm-linux-gnueabihf": Tool(command("arm-linux-gnueabihf-gcc"), "gcc-arm-linux-gnueabihf libc6-dev-armhf-cross"),
     "aarch64-linux-gnu": Tool(command("aarch64-linux-gnu-gcc"), "gcc-aarch64-linux-gnu libc6-dev-arm64-cross"),
