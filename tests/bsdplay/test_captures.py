@@ -23,6 +23,7 @@ IPV4, ARP = ADDRESSES + b"\x08\0", ADDRESSES + b"\x08\x06" + bytes(28)
 LINKS = {
     0: (b"\2\0\0\0" + PACKET, b"\x1e\0\0\0" + PACKET, b"\2\0\0"),
     1: (IPV4 + PACKET + bytes(16), ARP, ADDRESSES),
+    9: (b"\0\x21" + PACKET, b"\xff\3\0\x21" + PACKET, b"\0\x57" + PACKET, b"\xff\3\0"),
     12: (PACKET, b"\x60" + PACKET, b""),
     101: (PACKET, b"\x60" + PACKET, b""),
     113: (bytes(14) + b"\x08\0" + PACKET, bytes(14) + b"\x86\xdd" + PACKET, bytes(15)),
@@ -43,6 +44,8 @@ def is_ipv4(link, frame):
         return True
     if link == 0:
         return frame[:4] in (b"\2\0\0\0", b"\0\0\0\2")
+    if link == 9:
+        return frame.removeprefix(b"\xff\3")[:2] == b"\0\x21"
     at, size = {1: (12, 14), 113: (14, 16), 276: (0, 20)}[link]
     return len(frame) >= size and frame[at : at + 2] == b"\x08\0"
 

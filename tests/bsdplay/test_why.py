@@ -27,7 +27,7 @@ FIELDS = ("frame.number", "ip.checksum.status", "ip.checksum", "ip.checksum_calc
           "udp.checksum", "udp.checksum_calculated", "ip.fragment", "ip.reassembled_in", "frame.len", "frame.cap_len",
           "frame.protocols", "ip.proto", "ip.flags.mf", "ip.frag_offset")  # fmt: skip
 # tshark's protocols of a record in which IPv4 directly follows a link header that bsdplay knows.
-DIRECT = re.compile(r"(eth:ethertype(:vlan:ethertype)*|raw|null|loop|sll(:ethertype)?):ip(:|$)")
+DIRECT = re.compile(r"(eth:ethertype(:vlan:ethertype)*|ppp|raw|null|loop|sll(:ethertype)?):ip(:|$)")
 BAD, GOOD, NONE = "0", "1", "3"
 SENT = (0, 1, 2, 100, 1472, 1473, 3000, 9000, 40_000)
 
@@ -342,7 +342,7 @@ def may_have_datagrams(path: pathlib.Path):
     (link,) = struct.unpack(">H" if data[:1] == b"\xa1" else "<H", data[22:24] if data[:1] == b"\xa1" else data[20:22])
     if link == 1:
         return b"\x08\x00\x45" in data and re.search(rb"\x08\x00" + COMPARED, data, re.DOTALL)
-    return link in (0, 12, 14, 101, 108, 113, 228, 276) and re.search(COMPARED, data, re.DOTALL)
+    return link in (0, 9, 12, 14, 101, 108, 113, 228, 276) and re.search(COMPARED, data, re.DOTALL)
 
 
 def busiest(rows):

@@ -189,6 +189,23 @@ def test_other_records_are_counted_by_kind(bsdplay, tmp_path):
         "Records for other machines: 0. Without IPv4: 2 (1 IPv6, 1 ARP).")  # fmt: skip
 
 
+# ---- link types ------------------------------------------------------------------------------------------------------
+
+
+@pytest.mark.needs("scapy")
+@pytest.mark.parametrize("framing", [b"", b"\xff\x03"], ids=["plain", "as HDLC"])
+def test_ppp_is_read(framing, bsdplay, tmp_path):
+    """ns-3's point-to-point devices write such captures. The protocol may have one byte."""
+    from scapy.all import IP, UDP, PPP, Raw  # noqa: PLC0415
+
+    packet = IP(src=PEER, dst=HERE, id=7) / UDP(sport=5000, dport=7) / Raw(b"hello")
+    frames = [framing + bytes(PPP(proto=0x21) / packet), framing + b"\x21" + bytes(packet),
+              framing + bytes(PPP(proto=0xC021)) + bytes(8), framing + bytes(PPP(proto=0x57)) + bytes(40), framing]  # fmt: skip
+    text = why(bsdplay, tmp_path, frames, link=9).stdout.decode()
+    assert text.count("udp 10.0.0.2:5000 > 10.0.0.1:7, 5 bytes, id 7 => delivered to port 7: 5 bytes") == 2, text
+    assert "Without IPv4: 3 (1 IPv6, 1 other frames, 1 cut in the link header)." in text, text
+
+
 # ---- time ------------------------------------------------------------------------------------------------------------
 
 
@@ -297,10 +314,10 @@ def test_the_first_4096_refusals_are_read_ahead(errors, verdict, bsdplay, tmp_pa
     assert [it["verdict"] for it in rows.values()] == [verdict]
 
 
-def interface(count):
-    """Returns a pcapng file that describes interfaces without a link header, and has a packet of the last one."""
+def interface(count, link=101):
+    """Returns a pcapng file that describes interfaces of a link type, and has a packet of the last one."""
     section = struct.pack("<IIIHHqI", 0x0A0D0D0A, 28, 0x1A2B3C4D, 1, 0, -1, 28)
-    described = struct.pack("<IIHHII", 1, 20, 101, 0, 0, 20)
+    described = struct.pack("<IIHHII", 1, 20, link, 0, 0, 20)
     packet = datagram(b"hi") + bytes(2)
     block = struct.pack("<IIIIIII", 6, 32 + len(packet), count - 1, 0, 0, len(packet) - 2, len(packet) - 2)
     return section + described * count + block + packet + struct.pack("<I", 32 + len(packet))

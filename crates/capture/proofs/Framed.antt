@@ -5,11 +5,11 @@ use Rattle.std.proofs.lemmas.Bool.{le-ltb}
 use Rattle.std.proofs.lemmas.List.{take_at, drop_at, drop-append-le, get_or_append_left, length-append, length-drop}
 use Rattle.std.proofs.Math.Seq.{drop-append_seam, drop-append-add}
 use Rattle.capture.specs.File.{number_of}
-use Rattle.capture.specs.Frames.{unpadded, after, by_protocol, packet_in_frame, IsPacket, IsTagged, CarriesIpv4}
+use Rattle.capture.specs.Frames.{unpadded, after, by_ppp, by_protocol, packet_in_frame, IsPacket, IsTagged, CarriesIpv4}
 use Rattle.capture.specs.declared.pcap.header.Order.TheVariants.{Big}
 use Rattle.capture.specs.declared.pcap.link.NoPacket.{NoPacket}
 use Rattle.capture.specs.declared.pcap.link_type.LinkType.{LinkType}
-use Rattle.capture.specs.declared.pcap.link_type.LinkType.TheVariants.{Null, Ethernet, Raw, Loop, LinuxCooked, Ipv4, LinuxCooked2}
+use Rattle.capture.specs.declared.pcap.link_type.LinkType.TheVariants.{Null, Ethernet, Ppp, Raw, Loop, LinuxCooked, Ipv4, LinuxCooked2}
 
 abbrev ok : List ℕ → Result (List ℕ) NoPacket
 ok x = Ok x
@@ -109,6 +109,16 @@ raw : (packet padding : List ℕ) → IsPacket packet → packet_in_frame Raw (p
 raw [] padding p = let long = p.header in absurd (omega arith)
 raw (b ∷ bs) padding p = rw p.version (found (b ∷ bs) padding p)
 
+full_protocol : (packet padding : List ℕ) → IsPacket packet → by_ppp (0 ∷ 0x21 ∷ (packet ++ padding)) ≡ Ok packet
+full_protocol packet padding p =
+    let long : ltb (length (0x21 ∷ (packet ++ padding))) 1 ≡ false = le-ltb _ _ (omega arith) in
+    rw long (found packet padding p)
+
+short_protocol : (packet padding : List ℕ) → IsPacket packet
+    → packet_in_frame Ppp (0x21 ∷ (packet ++ padding)) ≡ Ok packet
+short_protocol [] padding p = let long = p.header in absurd (omega arith)
+short_protocol (b ∷ bs) padding p = found (b ∷ bs) padding p
+
 pub carried : (link : LinkType) (frame packet padding : List ℕ) → IsPacket packet
     → CarriesIpv4 link frame (packet ++ padding) → packet_in_frame link frame ≡ Ok packet
 carried Ethernet frame packet padding p c =
@@ -118,6 +128,17 @@ carried LinuxCooked frame packet padding p c =
     ap (packet_in_frame LinuxCooked) c.4
     ∙ subst (λ (n : ℕ). by_protocol n (n + 2) (c.0 ++ c.1) ≡ ok packet) c.2 (in_front c.0 c.1 packet padding p c.3)
 carried LinuxCooked2 frame packet padding p c = ap (packet_in_frame LinuxCooked2) c.2 ∙ cooked c.0 packet padding c.1 p
+carried Ppp frame packet padding p c =
+    elim c [
+      | inl e ↦ ap (packet_in_frame Ppp) e ∙ full_protocol packet padding p
+      | inr s ↦ elim s [
+        | inl e ↦ ap (packet_in_frame Ppp) e ∙ full_protocol packet padding p
+        | inr t ↦ elim t [
+          | inl e ↦ ap (packet_in_frame Ppp) e ∙ short_protocol packet padding p
+          | inr e ↦ ap (packet_in_frame Ppp) e ∙ found packet padding p
+        ]
+      ]
+    ]
 carried Null frame packet padding p c =
     elim c [
       | inl e ↦ ap (packet_in_frame Null) e ∙ low_family packet padding p

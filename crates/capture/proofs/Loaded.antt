@@ -1,5 +1,5 @@
 -- How records of classic files are read.
-use Rattle.std.proofs.Common.{◌≡◌, ℕ, ◌+◌, ◌<◌, ◌≤◌, List, [], ◌++◌, length, take, drop, Option, Some, Ok, Err, refl, sym, ap, subst, ◌∙◌, append-nil, length-drop, arith, inl, inr}
+use Rattle.std.proofs.Common.{◌≡◌, ℕ, ◌+◌, ◌%◌, ◌^◌, ◌<◌, ◌≤◌, List, [], ◌++◌, length, take, drop, Option, Some, Ok, Err, refl, sym, ap, subst, ◌∙◌, append-nil, length-drop, arith, inl, inr}
 use Rattle.std.proofs.lemmas.List.{length-append, take_all}
 use Rattle.std.specs.Int.{w32}
 use Rattle.std.specs.Io.KnownBytes.{IsAtEnd}
@@ -79,7 +79,14 @@ all_of_record o buffer rest ended r is len read =
 -- the place of a record's packet
 abbrev pub of_record : Header → Captured → ℕ → ℕ → Found
 of_record h r time len =
-    record { time = Some time; original_len = r.original; link = Some h.link; from = 16; len = len }
+    record {
+      time = Some time;
+      original_len = r.original;
+      link_number = h.link_field % 2 ^ 16;
+      link = Some h.link;
+      from = 16;
+      len = len;
+    }
 
 -- a record was read, and its packet is in the buffer
 pub record_read : (h : Header) (old new : Option (List ℕ)) (buffer bytes rest : List ℕ) (r : Captured) (time len : ℕ)
@@ -92,7 +99,13 @@ record_read h old new buffer bytes rest r time len same loaded fits spelled size
     let found : take len (drop 16 buffer) ≡ r.bytes =
     ap (λ (n : ℕ). take n (drop 16 buffer)) len_is ∙ record_found h.order r buffer all in
     let packet : ℕ → List ℕ → Packet =
-    λ t xs. record { time = Some t; original = r.original; link = Some h.link; bytes = xs } in
+    λ t xs. record {
+      time = Some t;
+      original = r.original;
+      link_number = h.link_field % 2 ^ 16;
+      link = Some h.link;
+      bytes = xs;
+    } in
     (r, fits, loaded.0, all, ap (packet time) found ∙ ap (λ (t : ℕ). packet t r.bytes) time_is)
 
 pub record_inside : (h : Header) (buffer bytes rest : List ℕ) (r : Captured) (ended : Type 0) (time len : ℕ)

@@ -114,7 +114,7 @@ no_record o BytesCut bytes at r x cut f e =
 no_record o HeaderCut bytes at r x cut f e = cut
 no_record o BadMagic bytes at r x cut f e = cut
 no_record o BadVersion bytes at r x cut f e = cut
-no_record o BadLinkType bytes at r x cut f e = cut
+no_record o (BadLinkType n) bytes at r x cut f e = cut
 
 -- these bytes don't begin with a record
 pub record NoRecord (o : Order) (bytes : List ℕ) : Type 0 where
@@ -165,7 +165,7 @@ cut_len o BytesCut bytes at cut = omega (arith, early_len o bytes cut.1)
 cut_len o HeaderCut bytes at cut = absurd cut
 cut_len o BadMagic bytes at cut = absurd cut
 cut_len o BadVersion bytes at cut = absurd cut
-cut_len o BadLinkType bytes at cut = absurd cut
+cut_len o (BadLinkType n) bytes at cut = absurd cut
 
 same_cut : (o : Order) (why other : Why) (bytes : List ℕ) (at at' : ℕ) → IsCut why o bytes at → IsCut other o bytes at'
     → (why ≡ other) × (at ≡ at')

@@ -45,7 +45,7 @@ fault why offset = record { why = why; offset = offset }
 
 -- its fields, with the link type that the last of them names
 abbrev pub fields_of : Order → Resolution → Option LinkType → List ℕ → Result Header Fault
-fields_of o r None file = Err (fault BadLinkType 20)
+fields_of o r None file = Err (fault (BadLinkType (number_of o w32 (drop 20 file) % 2 ^ 16)) 20)
 fields_of o r (Some link) file = Ok (record {
   order = o;
   resolution = r;

@@ -1,12 +1,12 @@
--- The IPv4 packet in a frame (tcpdump.org/linktypes.html, IEEE 802.3 and 802.1Q).
-use Rattle.std.specs.Prelude.{◌≡◌, ℕ, ◌/◌, ◌≤◌, ◌⊎◌, List, [], ◌∷◌, ◌++◌, length, slice_index, take, drop, Result, Ok, Err, nat_lt, ◌==◌, ◌||◌, if◌then◌else◌}
+-- The IPv4 packet in a frame (tcpdump.org/linktypes.html, IEEE 802.3 and 802.1Q, RFC 1661 and 1662).
+use Rattle.std.specs.Prelude.{◌≡◌, ℕ, ◌/◌, ◌%◌, ◌&&◌, ◌≤◌, ◌⊎◌, List, [], ◌∷◌, ◌++◌, length, slice_index, take, drop, Result, Ok, Err, nat_lt, ◌==◌, ◌||◌, if◌then◌else◌}
 use Rattle.std.specs.Int.{w16, w32}
 use Rattle.capture.specs.File.{number_of}
 use Rattle.capture.specs.declared.pcap.header.Order.TheVariants.{Little, Big}
 use Rattle.capture.specs.declared.pcap.link.NoPacket.{NoPacket}
 use Rattle.capture.specs.declared.pcap.link.NoPacket.TheVariants.{FrameCut, OtherProtocol, OtherFamily, OtherVersion}
 use Rattle.capture.specs.declared.pcap.link_type.LinkType.{LinkType}
-use Rattle.capture.specs.declared.pcap.link_type.LinkType.TheVariants.{Null, Ethernet, Raw, Loop, LinuxCooked, Ipv4, LinuxCooked2}
+use Rattle.capture.specs.declared.pcap.link_type.LinkType.TheVariants.{Null, Ethernet, Ppp, Raw, Loop, LinuxCooked, Ipv4, LinuxCooked2}
 
 infixl 10 ◌>>=◌
 abbrev pub ◌>>=◌ : {A B : Type 0} → Result A NoPacket → (A → Result B NoPacket) → Result B NoPacket
@@ -52,6 +52,23 @@ by_family family frame =
     if nat_lt (length frame) 4 then Err FrameCut else
     if family frame == 2 then Ok (unpadded (drop 4 frame)) else Err (OtherFamily (family frame))
 
+-- a PPP frame (RFC 1661, section 2) without its address and control bytes, ff 03, if it has them (RFC 1662, section
+-- 3.1)
+abbrev pub unframed : List ℕ → List ℕ
+unframed [] = []
+unframed (a ∷ []) = a ∷ []
+unframed (a ∷ b ∷ rest) = if (a == 0xff) && (b == 3) then rest else a ∷ b ∷ rest
+
+-- The packet after a PPP protocol, which is 0x0021 for IPv4. A peer may agree to leave out the protocol's high byte;
+-- its low byte is odd (RFC 1661, section 6.5).
+abbrev pub by_ppp : List ℕ → Result (List ℕ) NoPacket
+by_ppp [] = Err FrameCut
+by_ppp (b ∷ bs) =
+    if b % 2 == 1 then (if b == 0x21 then Ok (unpadded bs) else Err (OtherProtocol b))
+    else if nat_lt (length bs) 1 then Err FrameCut
+    else if number_of Big w16 (b ∷ bs) == 0x21 then Ok (unpadded (drop 1 bs))
+    else Err (OtherProtocol (number_of Big w16 (b ∷ bs)))
+
 -- a packet without a link header, by its version
 abbrev pub by_version : List ℕ → Result (List ℕ) NoPacket
 by_version [] = Err FrameCut
@@ -62,6 +79,7 @@ abbrev pub packet_in_frame : LinkType → List ℕ → Result (List ℕ) NoPacke
 packet_in_frame Ethernet frame = by_protocol 12 14 frame
 packet_in_frame LinuxCooked frame = by_protocol 14 16 frame
 packet_in_frame LinuxCooked2 frame = by_protocol 0 20 frame
+packet_in_frame Ppp frame = by_ppp (unframed frame)
 packet_in_frame Null frame = by_family host_family frame
 packet_in_frame Loop frame = by_family (number_of Big w32) frame
 packet_in_frame Raw frame = by_version frame
@@ -90,6 +108,9 @@ CarriesIpv4 LinuxCooked frame carried =
     (front after : List ℕ) × (length front ≡ 14) × IsTagged after carried × (frame ≡ front ++ after)
 CarriesIpv4 LinuxCooked2 frame carried =
     (others : List ℕ) × (length others ≡ 18) × (frame ≡ 8 ∷ 0 ∷ (others ++ carried))
+CarriesIpv4 Ppp frame carried =
+    (frame ≡ 0 ∷ 0x21 ∷ carried) ⊎ (frame ≡ 0xff ∷ 3 ∷ 0 ∷ 0x21 ∷ carried) ⊎ (frame ≡ 0x21 ∷ carried)
+    ⊎ (frame ≡ 0xff ∷ 3 ∷ 0x21 ∷ carried)
 CarriesIpv4 Null frame carried = (frame ≡ 2 ∷ 0 ∷ 0 ∷ 0 ∷ carried) ⊎ (frame ≡ 0 ∷ 0 ∷ 0 ∷ 2 ∷ carried)
 CarriesIpv4 Loop frame carried = frame ≡ 0 ∷ 0 ∷ 0 ∷ 2 ∷ carried
 CarriesIpv4 Raw frame carried = frame ≡ carried

@@ -1,5 +1,5 @@
 -- What a capture says of a packet, and what the blocks of a pcapng file say (draft-ietf-opsawg-pcapng, section 4).
-use Rattle.std.specs.Prelude.{◌≡◌, ◌⊎◌, ℕ, ◌+◌, ◌<◌, ◌≤◌, ◌*◌, ◌/◌, ◌^◌, ◌-◌, min, List, [], ◌∷◌, ◌++◌, length, take, drop, get_or, nat_lt, ◌==◌, if◌then◌else◌, Option, Some, None, Result, Ok, Err}
+use Rattle.std.specs.Prelude.{◌≡◌, ◌⊎◌, ℕ, ◌+◌, ◌<◌, ◌≤◌, ◌*◌, ◌/◌, ◌%◌, ◌^◌, ◌-◌, min, List, [], ◌∷◌, ◌++◌, length, take, drop, get_or, nat_lt, ◌==◌, if◌then◌else◌, Option, Some, None, Result, Ok, Err}
 use Rattle.capture.specs.Records.{Captured, nanoseconds}
 use Rattle.capture.specs.declared.pcap.header.Header.{Header}
 use Rattle.capture.specs.declared.pcap.header.Order.{Order}
@@ -20,10 +20,11 @@ use Rattle.capture.specs.declared.fault.Why.{Why}
 use Rattle.capture.specs.declared.fault.Why.TheVariants.{Body, NoInterface, TooManyInterfaces}
 
 -- what was captured of a packet: when, in nanoseconds since 1970 if the capture says it, how many bytes it had, the
--- link type of its bytes if pcap knows it, and the bytes
+-- number of its bytes' link type, the link type if pcap knows it, and the bytes
 pub record Packet : Type 0 where
   pub time : Option ℕ
   pub original : ℕ
+  pub link_number : ℕ
   pub link : Option LinkType
   pub bytes : List ℕ
 
@@ -36,6 +37,7 @@ abbrev pub classic_packet : Header → Captured → Packet
 classic_packet h r = record {
   time = Some (nanoseconds h.resolution r.seconds r.fraction);
   original = r.original;
+  link_number = h.link_field % 2 ^ 16;
   link = Some h.link;
   bytes = r.bytes;
 }
@@ -84,6 +86,7 @@ by_enhanced k b (Ok e) =
       Some (record {
         time = Some (nanoseconds_of e.ticks (interface_at k e.interface).ticks_per_second);
         original = e.original;
+        link_number = (interface_at k e.interface).link_number;
         link = (interface_at k e.interface).link;
         bytes = e.bytes;
       }),
@@ -98,6 +101,7 @@ by_plain k b (Ok p) = Ok (
   Some (record {
     time = None;
     original = p.original;
+    link_number = (interface_at k 0).link_number;
     link = (interface_at k 0).link;
     bytes = p.bytes;
   }),
@@ -123,6 +127,7 @@ abbrev pub found_in : List ℕ → Found → Packet
 found_in bytes f = record {
   time = f.time;
   original = f.original_len;
+  link_number = f.link_number;
   link = f.link;
   bytes = take f.len (drop f.from bytes);
 }

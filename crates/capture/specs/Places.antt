@@ -99,7 +99,13 @@ start rest = record {
 
 -- the packet of a record
 abbrev pub packet_in : Record → List ℕ → Packet
-packet_in r bytes = record { time = r.time; original = r.original_len; link = r.link; bytes = bytes }
+packet_in r bytes = record {
+  time = r.time;
+  original = r.original_len;
+  link_number = r.link_number;
+  link = r.link;
+  bytes = bytes;
+}
 
 -- what a step returns for what was found, in the buffer after the read
 abbrev pub StepGives : Place → List ℕ → Result (Option Found) FaultAt → Result (Option Record) Fault → Reading → Type 0

@@ -26,6 +26,7 @@ const ENHANCED_PACKET: u32 = 6;
 pub(crate) struct Found {
     pub(crate) time: Option<u64>,
     pub(crate) original_len: u32,
+    pub(crate) link_number: u16,
     pub(crate) link: Option<LinkType>,
     pub(crate) from: usize,
     pub(crate) len: usize,
@@ -86,6 +87,7 @@ impl Blocks {
         Ok(Found {
             time: Some(nanoseconds(packet.ticks, interface.ticks_per_second)),
             original_len: packet.original_len,
+            link_number: interface.link_number,
             link: interface.link,
             from: 20,
             len: packet.bytes.len(),
@@ -107,6 +109,7 @@ impl Blocks {
             Ok(packet) => Ok(Found {
                 time: None,
                 original_len: packet.original_len,
+                link_number: interface.link_number,
                 link: interface.link,
                 from: 4,
                 len: packet.bytes.len(),

@@ -59,6 +59,7 @@ pub(crate) fn read_record<S: Source>(
         Ok((record, _rest)) => Ok(Some(Found {
             time: Some(header.nanoseconds(&record)),
             original_len: record.original_len,
+            link_number: (header.link_field % 65_536) as u16,
             link: Some(header.link),
             from: RECORD_HEADER,
             len: record.bytes.len(),

@@ -26,7 +26,9 @@ pub struct Record {
     pub time: Option<u64>,
     /// How many bytes it had. Not checked: it may be less than what was captured.
     pub original_len: u32,
-    /// The link type of its bytes, if `pcap` knows it.
+    /// The number of the link type of its bytes.
+    pub link_number: u16,
+    /// The link type, if `pcap` knows it.
     pub link: Option<LinkType>,
 }
 
@@ -213,6 +215,7 @@ impl<S: Source> Records<S> {
                     number: self.course.number,
                     time: found.time,
                     original_len: found.original_len,
+                    link_number: found.link_number,
                     link: found.link,
                 }))
             }

@@ -7,18 +7,22 @@ use Rattle.flat_model.specs.Machine.Count.{more_by}
 use Rattle.flat_model.specs.Machine.Event.{Event, Comes}
 use Rattle.capture.specs.File.{IsHeader, file_header_bytes, header_for, our_header, number_of}
 use Rattle.capture.specs.Frames.{unpadded}
+use Rattle.capture.specs.Types.{link_type_of}
 use Rattle.capture.specs.Records.{FitsFields, Reads, Whole, records_bytes}
 use Rattle.capture.specs.declared.pcap.header.Order.TheVariants.{Big}
 use Rattle.capture.specs.declared.pcap.link_type.LinkType.{LinkType}
-use Rattle.capture.specs.declared.pcap.link_type.LinkType.TheVariants.{Null, Ethernet, Raw, Loop, LinuxCooked, Ipv4, LinuxCooked2}
+use Rattle.capture.specs.declared.pcap.link_type.LinkType.TheVariants.{Null, Ethernet, Ppp, Raw, Loop, LinuxCooked, Ipv4, LinuxCooked2}
 use Rattle.play_pcap.specs.Acts.{act_event}
 use Rattle.play_pcap.specs.Events.{record_acts, played, taken}
 use Rattle.play_pcap.specs.Traces.{IsPass, Pass, file_of, passes_bytes, record_of}
 
 header_is : (link : LinkType) → IsHeader (header_for link)
+unfolding link_type_of
 header_is Null =
     record { time_zone = lit< tt; accuracy = lit< tt; snap_len = lit< tt; link_field = lit< tt; link = refl }
 header_is Ethernet =
+    record { time_zone = lit< tt; accuracy = lit< tt; snap_len = lit< tt; link_field = lit< tt; link = refl }
+header_is Ppp =
     record { time_zone = lit< tt; accuracy = lit< tt; snap_len = lit< tt; link_field = lit< tt; link = refl }
 header_is Raw =
     record { time_zone = lit< tt; accuracy = lit< tt; snap_len = lit< tt; link_field = lit< tt; link = refl }

@@ -10,7 +10,7 @@ abbrev pub why_words : Why → List ℕ
 why_words HeaderCut = codes "file header cut short"
 why_words BadMagic = codes "bad magic number"
 why_words BadVersion = codes "unknown version"
-why_words BadLinkType = codes "unknown link type"
+why_words (BadLinkType number) = codes "unknown link type"
 why_words RecordCut = codes "record header cut short"
 why_words BytesCut = codes "record cut short"
 

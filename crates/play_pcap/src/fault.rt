@@ -30,7 +30,7 @@ pub(crate) fn words_for(why: Why) -> &'static str
         Why::HeaderCut => "file header cut short",
         Why::BadMagic => "bad magic number",
         Why::BadVersion => "unknown version",
-        Why::BadLinkType => "unknown link type",
+        Why::BadLinkType(_) => "unknown link type",
         Why::RecordCut => "record header cut short",
         Why::BytesCut => "record cut short",
     }

@@ -1,5 +1,5 @@
 -- The sockets of a judge's machine: one for each port to which the datagrams of a capture go (this project's own).
-use Rattle.std.specs.Prelude.{◌≡◌, ℕ, ◌+◌, ◌%◌, ◌==◌, ◌||◌, ◌&&◌, Bool, false, not, nat_lt, Option, Some, None}
+use Rattle.std.specs.Prelude.{◌≡◌, ℕ, ◌%◌, ◌==◌, ◌||◌, ◌&&◌, Bool, false, not, nat_lt, Option, Some, None}
 use Rattle.std.specs.List.{filter}
 use Rattle.std.specs.Prelude.{List, [], ◌∷◌, ◌++◌, length, slice_index, if◌then◌else◌}
 use Rattle.params.specs.declared.TheConstants.{IP_MAX_PACKET, IP_UDP_HEADERS, PROTOCOL_UDP}

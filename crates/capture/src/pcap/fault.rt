@@ -18,9 +18,9 @@ pub enum Why {
     /// Its version isn't 2.4.
     #[error("unknown version")]
     BadVersion,
-    /// Its link type isn't one of [`crate::pcap::LinkType`].
-    #[error("unknown link type")]
-    BadLinkType,
+    /// Its link type, which has this number, isn't one of [`crate::pcap::LinkType`].
+    #[error("unknown link type {0}")]
+    BadLinkType(u16),
     /// The last whole record is followed by 1 to 15 bytes; a record's header has 16.
     #[error("record header cut short")]
     RecordCut,

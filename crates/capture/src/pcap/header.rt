@@ -74,8 +74,9 @@ pub(crate) fn read_header(file: &[u8]) -> Result<Header, Fault>
         return Err(Why::BadVersion.at(4));
     }
     let link_field = u32_at(order, file, 20);
-    let Some(link) = LinkType::of((link_field % 65_536) as u16) else {
-        return Err(Why::BadLinkType.at(20));
+    let number = (link_field % 65_536) as u16;
+    let Some(link) = LinkType::of(number) else {
+        return Err(Why::BadLinkType(number).at(20));
     };
     Ok(Header {
         order,

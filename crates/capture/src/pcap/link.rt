@@ -3,7 +3,7 @@ ghost use Rattle.std.specs.Prelude.{◌≡◌, ◌+◌, ◌≤◌};
 ghost use Rattle.std.specs.Int.{w32};
 ghost use Rattle.capture.specs.File.{ReturnsBy, number_of};
 ghost use Rattle.capture.specs.declared.pcap.header.Order.TheVariants.{Big};
-ghost use Rattle.capture.specs.Frames.{after, by_family, by_protocol, by_version, host_family, packet_in_frame, unpadded, untagged};
+ghost use Rattle.capture.specs.Frames.{after, by_family, by_ppp, by_protocol, by_version, host_family, packet_in_frame, unframed, unpadded, untagged};
 
 use crate::pcap::link_type::LinkType;
 use byteorder::{BigEndian, ByteOrder, LittleEndian};
@@ -15,7 +15,8 @@ pub enum NoPacket {
     /// The frame ends within its link-layer header, or within a VLAN tag; or a raw packet has no bytes.
     #[error("frame cut short")]
     FrameCut,
-    /// The protocol (the "ethertype"), after at most two VLAN tags, isn't that of IPv4, 0x0800.
+    /// The protocol (the "ethertype"), after at most two VLAN tags, isn't that of IPv4, 0x0800; or PPP's protocol isn't
+    /// 0x0021.
     #[error("protocol {0:#06x}")]
     OtherProtocol(u16),
     /// The protocol family isn't that of IPv4, 2.
@@ -33,6 +34,9 @@ const IPV4: u16 = 0x0800;
 const VLAN: u16 = 0x8100;
 
 const OUTER_VLAN: u16 = 0x88a8;
+
+/// The protocol of IPv4 in PPP (RFC 1332, section 2).
+const PPP_IPV4: u16 = 0x0021;
 
 /// The protocol family of IPv4.
 const FAMILY_IPV4: u32 = 2;
@@ -123,6 +127,41 @@ fn after_family(frame: &[u8]) -> Result<&[u8], NoPacket>
     Ok(without_padding(&frame[4..]))
 }
 
+/// Returns a PPP frame without its address and control bytes, which it need not have (RFC 1662, section 3.1).
+fn without_framing(frame: &[u8]) -> &[u8]
+    ensures { result.now ≡ unframed frame.now }
+{
+    match frame {
+        [0xff, 3, rest @ ..] => rest,
+        _ => frame,
+    }
+}
+
+/// Returns the packet after a PPP protocol, whose high byte may be left out if the low byte is odd (RFC 1661, section
+/// 6.5).
+fn after_ppp(frame: &[u8]) -> Result<&[u8], NoPacket>
+    ensures { ReturnsBy (λ p. p.now) result (by_ppp frame.now) }
+{
+    let [first, rest @ ..] = frame else {
+        return Err(NoPacket::FrameCut);
+    };
+    if *first % 2 == 1 {
+        if u16::from(*first) == PPP_IPV4 {
+            return Ok(without_padding(rest));
+        }
+        return Err(NoPacket::OtherProtocol(u16::from(*first)));
+    }
+    if rest.is_empty() {
+        return Err(NoPacket::FrameCut);
+    }
+    let protocol = BigEndian::read_u16(frame);
+    if protocol == PPP_IPV4 {
+        Ok(without_padding(&rest[1..]))
+    } else {
+        Err(NoPacket::OtherProtocol(protocol))
+    }
+}
+
 /// Returns a packet, if its version is that of IPv4.
 fn of_version(frame: &[u8]) -> Result<&[u8], NoPacket>
     ensures { ReturnsBy (λ p. p.now) result (by_version frame.now) }
@@ -137,7 +176,7 @@ fn of_version(frame: &[u8]) -> Result<&[u8], NoPacket>
 /// Returns the IPv4 packet in a frame of a link type, without the link layer's header before it and without padding
 /// after its total length. A packet that is cut short, or whose header is malformed, is returned as it is: the receiver
 /// tests it. Fails with `FrameCut` if the frame ends within the link layer's header; otherwise, if the frame has no
-/// IPv4 packet, with `OtherProtocol` (Ethernet and Linux cooked), `OtherFamily` (Null and Loop) or `OtherVersion`
+/// IPv4 packet, with `OtherProtocol` (Ethernet, PPP and Linux cooked), `OtherFamily` (Null and Loop) or `OtherVersion`
 /// (Raw).
 pub fn ipv4_packet(link: LinkType, frame: &[u8]) -> Result<&[u8], NoPacket>
     ensures { ReturnsBy (λ p. p.now) result (packet_in_frame link frame.now) }
@@ -146,6 +185,7 @@ pub fn ipv4_packet(link: LinkType, frame: &[u8]) -> Result<&[u8], NoPacket>
         LinkType::Ethernet => in_frame(frame, 12, 14),
         LinkType::LinuxCooked => in_frame(frame, 14, 16),
         LinkType::LinuxCooked2 => in_frame(frame, 0, 20),
+        LinkType::Ppp => after_ppp(without_framing(frame)),
         LinkType::Null => after_host_family(frame),
         LinkType::Loop => after_family(frame),
         LinkType::Raw => of_version(frame),

@@ -9,6 +9,8 @@ pub enum LinkType {
     Null,
     /// 1: an Ethernet frame, without preamble.
     Ethernet,
+    /// 9: a PPP frame, with or without its address and control bytes, which are ff 03.
+    Ppp,
     /// 12, 14 and 101: an IPv4 or IPv6 packet, by its version.
     Raw,
     /// 108: four bytes of protocol family, the high byte first, then the packet.
@@ -23,12 +25,14 @@ pub enum LinkType {
 
 impl LinkType {
     /// Returns the link type with a number, or `None` if the reader doesn't know it.
+    #[tactic(auto, unfolding(crate::specs::Types::link_type_of))]
     pub fn of(number: u16) -> Option<LinkType>
         ensures { result ≡ link_type_of number }
     {
         match number {
             0 => Some(LinkType::Null),
             1 => Some(LinkType::Ethernet),
+            9 => Some(LinkType::Ppp),
             12 | 14 | 101 => Some(LinkType::Raw),
             108 => Some(LinkType::Loop),
             113 => Some(LinkType::LinuxCooked),
@@ -45,6 +49,7 @@ impl LinkType {
         match self {
             LinkType::Null => 0,
             LinkType::Ethernet => 1,
+            LinkType::Ppp => 9,
             LinkType::Raw => 101,
             LinkType::Loop => 108,
             LinkType::LinuxCooked => 113,

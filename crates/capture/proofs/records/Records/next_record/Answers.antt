@@ -34,6 +34,7 @@ returns-in-Ok-Some g c =
       number = c.saturating_add-self-inside.result;
       time = found.time;
       original_len = found.original_len;
+      link_number = found.link_number;
       link = found.link;
     } in
     let at = moved mid new.feed.buffer c.saturating_add-self-inside.result
