@@ -1,6 +1,6 @@
 "use strict";
 // The data that this browser keeps: your scripts by name, exercises that were begun, and the script that was open last.
-// If it stores nothing, the page remembers them until it's left, and says so.
+// What it can't store, the page remembers until it's left, and says so.
 
 const KEPT = "bsdudp.", unstored = new Map();
 
@@ -27,10 +27,19 @@ function kept(name) {
 // ---- your scripts
 
 const FIRST_NAME = "Your script";
-const ownNames = () => kept("names") || [];
+const isKept = name => kept(name) !== null;
+const ownNames = () => (kept("names") || []).filter(name => isKept(`script.${name}`));
 const ownScript = name => kept(`script.${name}`);
 
-// Keeps a script of yours. An empty one has no place in the list.
+// Keeps a script of yours, and returns its name: another one if the same script was changed in another window, so that
+// its text isn't `stored` any more. An empty script has no place in the list.
+function keepBeside(name, stored, script) {
+  const there = ownScript(name), isOther = there && there.text !== stored && there.text !== script.text;
+  const free = isOther ? freeName(name, script.text) : name;
+  keepOwn(free, script);
+  return free;
+}
+
 function keepOwn(name, script) {
   const isEmpty = !script.text.trim(), names = ownNames();
   if (isEmpty === names.includes(name)) keep("names", isEmpty ? names.filter(it => it !== name) : [...names, name]);

@@ -5,9 +5,10 @@ const byId = id => document.getElementById(id);
 
 const page = {
   mode: "run",
-  // the lesson, exercise or example that is open, or the name of a script of yours
+  // the lesson, exercise or example that is open, or the name of a script of yours and its text as it was kept last
   known: null,
   mine: null,
+  stored: "",
   // the sizes of a pool of chains, or the settings of a machine
   options: { ...DEFAULTS },
   steps: [],
@@ -273,8 +274,8 @@ function showMachine() {
 function open(mode, { name = "", text = "", mine = FIRST_NAME, options = DEFAULTS, place = 0 }) {
   const known = scriptNamed(mode, name) || null;
   showStart(false);
-  Object.assign(page, { mode, known, mine: known ? null : freeName(mine, text), guesses: new Map(), drawsAll: false,
-    options: known ? optionsOf(known.words) : { ...DEFAULTS, ...options } });
+  Object.assign(page, { mode, known, mine: known ? null : freeName(mine, text), stored: text, guesses: new Map(),
+    drawsAll: false, options: known ? optionsOf(known.words) : { ...DEFAULTS, ...options } });
   byId("left-there").textContent = "";
   const own = known && (known.kind === "exercises" ? kept(`text.${known.name}`) || unsolved(known.text) : known.text);
   byId("script").value = known ? own : text;
@@ -303,10 +304,11 @@ function showLeft(how) {
 
 // This browser keeps your scripts, the exercises that were begun, and the name of the script that was open last.
 function keepText() {
-  const { mode, known, mine, options } = page, text = byId("script").value;
-  keep("last", { mode, name: known ? known.name : "", mine });
-  if (mine) keepOwn(mine, { mode, text, options });
+  const { mode, known, mine, stored, options } = page, text = byId("script").value;
+  if (mine) Object.assign(page, { mine: keepBeside(mine, stored, { mode, text, options }), stored: text });
   else if (isExercise() && text !== unsolved(known.text)) keep(`text.${known.name}`, text);
+  if (page.mine !== mine) showTitle();
+  keep("last", { mode, name: known ? known.name : "", mine: page.mine });
   showUnstored();
 }
 

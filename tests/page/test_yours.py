@@ -163,6 +163,30 @@ def test_without_storage_scripts_are_kept_until_the_page_is_left(browser):
     assert browser.run("byId('unstored').getClientRects().length") == 0
 
 
+def test_a_full_storage_is_said_and_leaves_no_name_without_a_script(browser):
+    write(browser, MINE)
+    fill = "try { localStorage.setItem(n, 'x'.repeat(n)); } catch (it) { continue; }"
+    browser.run(f"for (let n = 1 << 22; n > 4096; n >>= 1) {{ {fill} }}")
+    long = "# a long comment\n" * 5000
+    browser.run(f"openOwn(''); byId('script').value = {json.dumps(long)}; later(); clearTimeout(timer); replay(0)")
+    assert browser.run("byId('unstored').getClientRects().length") == 1
+    assert choose(browser, "Your script") == MINE and choose(browser, "Your script 2") == long
+    browser.run("unstored.clear()")
+    reload(browser)
+    assert names(browser) == ["Your script", "a new script"]
+    browser.run("localStorage.clear()")
+
+
+def test_a_script_that_two_windows_change_becomes_two(browser):
+    write(browser, MINE)
+    other = json.dumps({"mode": "run", "text": "tick\n", "options": {}})
+    browser.run(f"localStorage.setItem('bsdudp.script.Your script', {json.dumps(other)})")
+    type_at_end(browser, "close 3\n")
+    assert browser.run("byId('head-script').textContent") == "Your script 2"
+    assert choose(browser, "Your script") == "tick\n"
+    assert choose(browser, "Your script 2") == MINE + "close 3\n"
+
+
 def pressed(browser, button):
     browser.run(f"byId('{button}').click()")
     return browser.run("byId('asks').open")
