@@ -1,5 +1,6 @@
-"""The program, the host on an Ethernet, lwIP, gVisor, libslirp, passt, DPDK, and Linux over a TUN device and on a wire
-have exactly the deviations in conform/known."""
+"""The program, the host on an Ethernet, lwIP, gVisor, libslirp, passt, ns-3, DPDK, and Linux over a TUN device and on a
+wire have exactly the deviations in conform/known. Of passt and ns-3 it's tried with a part of the cases, which takes
+seconds."""
 import os
 import re
 import subprocess
@@ -19,7 +20,13 @@ PEERS = {
     "lwip": ["apt-get"],
     "libslirp": ["apt-get", "glib", "pkg-config"],
     "gvisor": ["go", "gvisor"],
+    "ns3": ["c++", "ns-3 3.37"],
     "dpdk": ["dpdk"],
+}
+# The rules that are tried, if not all are.
+RULES = {
+    "ns3": ("ip.", "icmp.", "udp.len", "udp.checksum", "frag.udp", "socket.", "send.checksum"),
+    "passt": ("ip.", "udp.", "frag.hole", "frag.key", "frag.udp"),
 }
 
 
@@ -29,7 +36,8 @@ def deviates(judged, tmp_path, pytestconfig):
 
     def compare(name, *adapter, **environment):
         new = tmp_path / f"{name}.txt"
-        status, said = judged("--timeout", 120, "--write-baseline", new, *adapter, **environment)
+        rules = [word for it in RULES.get(name, ()) for word in ("--only", it)]
+        status, said = judged("--timeout", 120, "--write-baseline", new, *rules, *adapter, **environment)
         assert new.exists(), f"{name} couldn't be judged: status {status}: {said[-1500:]}"
         wanted, came = ((it / f"{name}.txt").read_text(encoding="utf-8").splitlines() for it in (KNOWN, tmp_path))
         if wanted[0] != came[0]:
@@ -77,9 +85,8 @@ def test_peer(name, deviates, peers):
 @ON_LINUX
 @pytest.mark.needs("passt")
 def test_passt(deviates):
-    """Without most rules of fragments, which it takes for datagrams: it opens a socket for each."""
-    rules = [word for it in ("ip.", "udp.", "frag.hole", "frag.key", "frag.udp") for word in ("--only", it)]
-    deviates("passt", *rules, "--", *ADAPTER, "bsdudp_conform.adapters.passt")
+    """Most rules of fragments are left out: it takes each for a datagram, and opens a socket for it."""
+    deviates("passt", "--", *ADAPTER, "bsdudp_conform.adapters.passt")
 
 
 @pytest.mark.long
