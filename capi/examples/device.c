@@ -1,9 +1,10 @@
 /* A device: a CoAP server and a TFTP server on a host of an Ethernet, in one loop without an operating system. CoAP has
-   the resources /led, /stats, /flash, /ram and /.well-known/core; TFTP has the files "flash" and "ram". device.h lists
-   what it takes of a machine. */
+   the resources /led, /stats, /drops, /flash, /ram and /.well-known/core; TFTP has the files "flash" and "ram". device.h
+   lists what it takes of a machine. */
 #include "device.h"
 
 #include "coap.h"
+#include "drops.h"
 #include "tftp.h"
 
 #include <string.h>
@@ -13,7 +14,7 @@ enum { FLASH, RAM, FILES };
 static struct bsdudp host;
 static struct tftp_file files[FILES];
 static uint32_t ticks;
-static char led = '0', text[160];
+static char led = '0', text[512];
 
 /* Frames and messages share a buffer: the stack copies a frame before a server writes there. A frame begins 2 bytes
    after an aligned place, so that the packet in it is aligned: memcpy takes words then. */
@@ -63,6 +64,16 @@ static void get_stats(struct coap_content *content)
     *content = (struct coap_content){(const uint8_t *)text, (uint32_t)(at - text), (uint8_t)ticks};
 }
 
+static void get_drops(struct coap_content *content)
+{
+    const uint32_t len = drops_text(&host, text, sizeof text);
+    uint32_t i;
+    uint8_t sum = 0; /* a new version if the text is another one */
+    for (i = 0; i < len; i++)
+        sum = (uint8_t)(sum * 31 + text[i]);
+    *content = (struct coap_content){(const uint8_t *)text, len, sum};
+}
+
 static void get_file(const struct tftp_file *file, struct coap_content *content)
 {
     *content = (struct coap_content){file->bytes, file->len, file->version};
@@ -73,14 +84,14 @@ static void get_ram(struct coap_content *content) { get_file(files + RAM, conten
 
 static void get_links(struct coap_content *content)
 {
-    static const char links[] = "</led>;ct=0,</stats>;ct=0,</flash>;ct=42,</ram>;ct=42";
+    static const char links[] = "</led>;ct=0,</stats>;ct=0,</drops>;ct=0,</flash>;ct=42,</ram>;ct=42";
     *content = (struct coap_content){(const uint8_t *)links, sizeof links - 1, 0};
 }
 
 static const struct coap_resource resources[] = {
     {"/led", COAP_TEXT, get_led, put_led},     {"/stats", COAP_TEXT, get_stats, NULL},
-    {"/flash", COAP_BYTES, get_flash, NULL},   {"/ram", COAP_BYTES, get_ram, NULL},
-    {"/.well-known/core", COAP_LINKS, get_links, NULL},
+    {"/drops", COAP_TEXT, get_drops, NULL},    {"/flash", COAP_BYTES, get_flash, NULL},
+    {"/ram", COAP_BYTES, get_ram, NULL},       {"/.well-known/core", COAP_LINKS, get_links, NULL},
 };
 enum { RESOURCES = sizeof resources / sizeof resources[0] };
 
@@ -90,18 +101,58 @@ static struct tftp tftp = {.host = &host, .files = files, .count = FILES, .buffe
 
 /* ---- the loop */
 
+/* Prints why the device doesn't start. Returns the status. */
+static int failed(const char *what, const char *why, int status)
+{
+    port_say(what);
+    port_say(why);
+    port_say("\n");
+    return status;
+}
+
 static int start(const struct device *it)
 {
     int status = port_start(it->link.mac);
+    if (status < 0)
+        return failed("no card", "", status);
     files[FLASH] = (struct tftp_file){"flash", it->flash, NULL, it->flash_len, 0, 0};
     files[RAM] = (struct tftp_file){"ram", it->ram, it->ram, 0, it->ram_len, 0};
-    if (status == 0)
-        status = bsdudp_ether_boot_in(&host, &it->config, &it->link, it->memory, it->memory_len);
-    if (status == 0)
-        status = coap_start(&coap, it->config.addr);
+    status = bsdudp_ether_boot_in(&host, &it->config, &it->link, it->memory, it->memory_len);
+    if (status < 0)
+        return failed("no host: ", bsdudp_boot_strerror(status, &it->config, &it->link), status);
+    status = coap_start(&coap, it->config.addr);
     if (status == 0)
         status = tftp_start(&tftp, it->config.addr);
-    return status;
+    return status < 0 ? failed("no server: ", bsdudp_strerror(status), status) : 0;
+}
+
+/* Prints once a minute what was dropped since boot, if there is more of it. */
+static void tell_drops(void)
+{
+    static uint8_t told;
+    struct coap_content now;
+    if (ticks % 120 != 0)
+        return;
+    get_drops(&now);
+    if (now.len > 0 && now.version != told)
+        port_say(text);
+    told = now.version;
+}
+
+void device_announce(const struct device *it)
+{
+    /* an ARP request for the own address: Ethernet, IPv4, 6 and 4 bytes, request */
+    static const uint8_t middle[] = {8, 6, 0, 1, 8, 0, 6, 4, 0, 1};
+    const uint32_t ip = it->config.addr;
+    const uint8_t own[] = {(uint8_t)(ip >> 24), (uint8_t)(ip >> 16), (uint8_t)(ip >> 8), (uint8_t)ip};
+    memset(frame, 0, 42);
+    memset(frame, 0xff, 6);
+    memcpy(frame + 6, it->link.mac, 6);
+    memcpy(frame + 12, middle, sizeof middle);
+    memcpy(frame + 22, it->link.mac, 6);
+    memcpy(frame + 28, own, sizeof own);
+    memcpy(frame + 38, own, sizeof own);
+    port_send(frame, 42);
 }
 
 static void greet(const struct device *it)
@@ -126,6 +177,7 @@ int device_run(const struct device *it)
             bsdudp_tick(&host);
             coap_tick(&coap);
             tftp_tick(&tftp);
+            tell_drops();
         }
         len = port_receive(frame);
         if (len > 0)

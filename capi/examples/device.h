@@ -40,4 +40,8 @@ struct device {
    stack as a number below 0; -1 also if there is no card. */
 int device_run(const struct device *device);
 
+/* Announces the device's address to its neighbours (RFC 5227, 2.3): for a driver whose link has come up again. Call it
+   between two rounds of the loop, for example in port_receive before it stores a frame. */
+void device_announce(const struct device *device);
+
 #endif

@@ -1,5 +1,5 @@
 /* The device of device.c as a program of Linux: a host 10.0.0.1 on the TAP device tap0, whose file "flash" is FILE.
-       cc -std=gnu99 device_tap.c device.c coap.c tftp.c -I PREFIX/include PREFIX/lib/libbsdudp.a &&
+       cc -std=gnu99 device_tap.c device.c coap.c tftp.c drops.c -I PREFIX/include PREFIX/lib/libbsdudp.a &&
            sudo ./a.out tap0 FILE
    Then give Linux its address, `ip addr add 10.0.0.2/24 dev tap0; ip link set tap0 up`, and try
    `coap-client-notls -m get coap://10.0.0.1/stats` and `curl tftp://10.0.0.1/flash`. After FILE may follow how many

@@ -1,8 +1,8 @@
 /* A target for libFuzzer: an input is a list of calls on a stack, or on a host if its first byte is odd. Each call has
-   two bytes: which one, and its argument; a packet or a frame takes the next bytes, whose number follows. At the end the
-   pool must be whole. Built with the library of `portable/core --sanitized x86_64`, it checks each access to memory:
+   two bytes: which one, and its argument. A packet or a frame takes the next bytes, after how it's made and its length.
+   At the end the pool must be whole. The library of `portable/core --sanitized x86_64 LIBRARY` checks each access:
 
-       clang -g -O1 -fsanitize=fuzzer,address -I ../include fuzz.c LIBRARY/libbsdudp.a -o fuzz && ./fuzz -max_len=2048 */
+     clang -g -O1 -fsanitize=fuzzer,address -I../include fuzz.c LIBRARY/libbsdudp.a -o fuzz && ./fuzz -max_len=2048 */
 #include "bsdudp.h"
 
 #include <stdlib.h>

@@ -47,7 +47,6 @@ int main(void)
     const struct device device = {{BSDUDP_IP(10, 0, 0, 1), BSDUDP_IP(10, 0, 0, 255), MBUFS, CLUSTERS, 1500, 1},
                                   {{2, 0, 0, 0, 0, 1}, 0xffffff00, BSDUDP_IP(10, 0, 0, 2), 0},
                                   memory, sizeof memory, flash_start, (uint32_t)(flash_end - flash_start), ram, RAM};
-    if (device_run(&device) < 0)
-        port_say("no card, or no host\n");
+    device_run(&device); /* it says why it doesn't start */
     return 1;
 }

@@ -95,7 +95,7 @@ def flash() -> bytes:
 def tap(folder: pathlib.Path, flash: bytes, request: pytest.FixtureRequest, tick: float = 0.5) -> Device:
     """The device as a Linux program."""
     archive = request.getfixturevalue("library").archive
-    sources = [TOP / f"capi/examples/{it}.c" for it in ("device_tap", "device", "coap", "tftp")]
+    sources = [TOP / f"capi/examples/{it}.c" for it in ("device_tap", "device", "coap", "tftp", "drops")]
     words = ["-std=gnu99", "-Wall", "-Wextra", "-Werror", "-pedantic", "-Wsign-conversion", f"-I{TOP}/capi/include"]
     sanitized = ["-g", "-fsanitize=address,undefined", "-fno-sanitize-recover=all"]
     made(os.environ.get("CC", "cc"), *words, *sanitized, *sources, archive, "-o", folder / "device")

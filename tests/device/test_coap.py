@@ -5,7 +5,7 @@ import time
 
 import pytest
 
-from tests.device.conftest import COAP, run
+from tests.device.conftest import COAP, DEVICE, LINUX, run
 
 try:
     from scapy.contrib import coap as scapy
@@ -67,7 +67,23 @@ def coap(method, path, *words):
 
 
 def test_lists_its_resources(device):
-    assert set(re.findall(r"</([^>]*)>", coap("get", ".well-known/core"))) == {"led", "stats", "flash", "ram"}
+    assert set(re.findall(r"</([^>]*)>", coap("get", ".well-known/core"))) == {"led", "stats", "drops", "flash", "ram"}
+
+
+def test_says_what_was_dropped(device):
+    """Datagrams for a closed port are in /drops, and so is the neighbour that sent them."""
+
+    def number(name):
+        found = re.search(rf"(?m)^{name} (\d+)$", coap("get", "drops"))
+        return int(found[1]) if found else 0
+
+    with socket.socket(socket.AF_INET, socket.SOCK_DGRAM) as it:
+        before = number("udp.noport")
+        for _ in range(3):
+            it.sendto(b"nobody", (DEVICE, 9))
+        assert number("udp.noport") == before + 3
+    assert re.search(rf"(?m)^neighbour {re.escape(LINUX)}$", coap("get", "drops"))
+    assert "udp.noport" not in coap("get", "stats")
 
 
 @pytest.mark.parametrize("way", [[], ["-N"]], ids=["confirmable", "not confirmable"])
