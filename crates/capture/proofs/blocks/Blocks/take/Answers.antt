@@ -18,12 +18,15 @@ returns-in-Ok-Some-clause-takes c =
       block,
       record { next = first.found; head = first.headed; rest = c.in_ok-block._rest.now; spelled = first.spelled },
       says ∙ ap (λ (xs : List ℕ).
-          Ok (new, Some (record {
-            time = found.time;
-            original = found.original_len;
-            link_number = found.link_number;
-            link = found.link;
-            bytes = xs;
-          })))
+          Ok (
+            new,
+            Some (record {
+              time = found.time;
+              original = found.original_len;
+              link_number = found.link_number;
+              link = found.link;
+              bytes = xs;
+            }),
+          ))
           (sym at),
     )
