@@ -1,6 +1,6 @@
 /* A device: a CoAP server and a TFTP server on a host of an Ethernet, in one loop without an operating system. CoAP has
-   the resources /led, /stats, /drops, /flash, /ram and /.well-known/core; TFTP has the files "flash" and "ram". device.h
-   lists what it takes of a machine. */
+   the resources /led, /stats, /drops, /flash, /ram and /.well-known/core; TFTP has the files "flash" and "ram".
+   device.h lists what it takes of a machine. */
 #include "device.h"
 
 #include "coap.h"

@@ -35,11 +35,16 @@ static void put_line(struct text *to, const char *name, uint64_t number)
 
 static void put_counters(struct bsdudp *host, struct text *to)
 {
+    const char *name;
     uint64_t value;
     uint32_t i;
-    for (i = 0; i < BSDUDP_COUNTERS; i++)
-        if (bsdudp_counter_cause(i) != NULL && bsdudp_counter(host, i, &value) == 0)
-            put_line(to, bsdudp_counter_name(i), value);
+    for (i = 0; (name = bsdudp_counter_name(i)) != NULL; i++) {
+        if (bsdudp_counter_cause(i) == NULL || bsdudp_counter(host, i, &value) < 0)
+            continue;
+        if (strcmp(name, "ip.noproto") == 0) /* a ping that gets its reply is no drop */
+            bsdudp_ether_noproto(host, &value);
+        put_line(to, name, value);
+    }
 }
 
 static void put_tallies(struct bsdudp *host, struct text *to)

@@ -379,6 +379,17 @@ int bsdudp_ether_address(struct bsdudp *stack);
    -BSDUDP_EOPNOTSUPP if it holds a bare stack. */
 int bsdudp_ether_tallies(struct bsdudp *stack, struct bsdudp_tallies *tallies);
 
+/* Reads into `*value` how many datagrams were dropped because of their protocol: ip.noproto without the echo requests
+   that got a reply. The stack counts each ICMP message in ip.noproto before the host looks at it. Those that reported
+   an error, and so may have reached bsdudp_ether_last_error, are included here, too.
+
+   Returns 0.
+
+   Errors, with `*value` unchanged:
+   -BSDUDP_ENXIO if the handle holds no stack.
+   -BSDUDP_EOPNOTSUPP if it holds a bare stack. */
+int bsdudp_ether_noproto(struct bsdudp *stack, uint64_t *value);
+
 /* Reads the neighbour at index `i` of the host's table into `*neighbour`. Indices begin at 0, and there are at most 32
    neighbours. The last one is the newest entry.
 

@@ -30,6 +30,19 @@ int bsdudp_tick_until(struct bsdudp *stack, uint64_t now, uint64_t *due)
     return (int)(*due - now);
 }
 
+int bsdudp_ether_noproto(struct bsdudp *stack, uint64_t *value)
+{
+    enum { IP_NOPROTO = 15 };
+    struct bsdudp_tallies tallies;
+    uint64_t counted = 0;
+    int answer = bsdudp_ether_tallies(stack, &tallies);
+    if (answer == 0)
+        answer = bsdudp_counter(stack, IP_NOPROTO, &counted);
+    if (answer == 0)
+        *value = counted - tallies.echoes;
+    return answer;
+}
+
 /* ---- the settings of boot */
 
 enum fault {

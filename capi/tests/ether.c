@@ -139,8 +139,10 @@ static int answers(struct bsdudp *s, int answer)
 {
     struct bsdudp_tallies tallies;
     struct bsdudp_neighbour neighbour;
+    uint64_t value = 99;
     tallies.ignored = 99;
     neighbour.ip = 99;
+    WANT(bsdudp_ether_noproto(s, &value) == answer && value == 99, 1);
     WANT(bsdudp_ether_address(s), answer);
     WANT(bsdudp_ether_last_error(s, BSDUDP_FIRST_FD), answer);
     WANT(bsdudp_ether_receive(s, frame, 14), answer);
@@ -329,6 +331,7 @@ static int tallied(void)
     struct bsdudp_addr near_ = {0x0a000009, 9}, far_ = {BSDUDP_IP(192, 168, 1, 1), 9};
     struct bsdudp_config c = config();
     struct bsdudp_link alone = own_link;
+    uint64_t value;
     int k;
     WANT(bsdudp_end(&host), 0);
     alone.gateway = 0;
@@ -376,6 +379,8 @@ static int tallied(void)
     WANT(it.unresolved, 8);
     WANT(it.too_long, 0);
     WANT(it.echoes, 9);
+    WANT(bsdudp_counter(&host, 15, &value) == 0 && value == 9 + 7, 1);
+    WANT(bsdudp_ether_noproto(&host, &value) == 0 && value == 7, 1); /* their replies were dropped */
     WANT(it.unreachable, 10);
     WANT(it.limited, 12);
     WANT(it.martians, 13);
