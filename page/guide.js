@@ -201,6 +201,31 @@ function answerAsk(place, text, answer, k) {
   (mark && mark.matches(".yes") && next ? next : byId(`ask-${k}`)).focus();
 }
 
+// The key's line for each step of an exercise: the next one with the same call, as the program finds it.
+function keysOf() {
+  const keys = new Map();
+  let next = 0;
+  if (!isExercise()) return keys;
+  for (const line of readNotes(page.known.text).lines) {
+    const { asked, wanted } = partsOf(line);
+    const i = page.notes.lines.findIndex((it, at) => at >= next && partsOf(it).asked === asked);
+    if (wanted === null || i < 0) continue;
+    keys.set(i, line);
+    next = i + 1;
+  }
+  return keys;
+}
+
+// What the key says of a predicted reply that comes, if it wants more words of it; or null.
+function partOfKey({ isMet, expected, number }) {
+  const key = isMet && expected !== null && page.keys.get(number - 1);
+  if (!key || page.engine.marks(key, page.notes.lines[number - 1]).right) return null;
+  const [words, given] = [partsOf(key).wanted, expected].map(text => text.split(/\s+/));
+  const same = words.findIndex((word, i) => i >= given.length || !isSameWord(given[i], word));
+  return `The key wants the whole reply: ${plural(Math.max(same, 0), "word")} of ${words.length} `
+    + `${same === 1 ? "is" : "are"} right here.`;
+}
+
 // The result of `bsdplay --grade` for an exercise with its key.
 function gradeOf() {
   const { right, wrong, missing } = page.engine.marks(page.known.text, page.text);

@@ -31,17 +31,21 @@ const MOST_BELOW = 30;
 
 // The expected reply of a line, and whether it was met.
 function expectedView(step) {
+  const part = partOfKey(step);
+  if (part) return verdict("wait", "It comes. ", part);
   if (step.isMet) return verdict("yes", "As expected.");
   const told = differenceOf(step.wanted || step.expected, step.says || step.reply);
   return verdict("no", "Expected: ", h("code", {}, step.expected), told ? `; ${told}.` : ".");
 }
 
+const bareWord = word => word.replace(/[,.:;]$/, "");
+const isSameWord = (wanted, word) => wanted === "_" || bareWord(wanted) === bareWord(word);
+
 // The first word of an expectation that isn't the reply's, as `bsdplay --grade` says it. A mark at the end of a word
 // isn't compared.
 function differenceOf(wanted, reply) {
-  const [words, came] = [wanted, reply].map(text => text.split(" ")), bare = word => word.replace(/[,.:;]$/, "");
-  const isSame = (word, i) => i < came.length && (word === "_" || bare(word) === bare(came[i]));
-  const i = words.findIndex((word, at) => !isSame(word, at)), quoted = word => `“${cut(word, 40)}”`;
+  const [words, came] = [wanted, reply].map(text => text.split(" ")), quoted = word => `“${cut(word, 40)}”`;
+  const i = words.findIndex((word, at) => at >= came.length || !isSameWord(word, came[at]));
   if (i < 0) return came.length > words.length ? `${quoted(came[words.length])} is missing` : "";
   if (words[i] === ".." && i === words.length - 1) return "";
   return i < came.length ? `${quoted(came[i])} is right, not ${quoted(words[i])}` : `${quoted(words[i])} is too much`;

@@ -72,8 +72,8 @@ const badgesOf = step => step.changed.map(({ host, name, by, isLost }) =>
     `${host ? `${host} ` : ""}+${by} ${name}`));
 
 // Whether the expected reply of a line was met.
-const markOf = step => isMetShown(step) && (step.isMet
-  ? h("span", { class: "badge came" }, "✓ expected")
+const markOf = step => isMetShown(step) && (partOfKey(step) ? h("span", { class: "badge card" }, "✓ in part")
+  : step.isMet ? h("span", { class: "badge came" }, "✓ expected")
   : h("span", { class: "badge drop" }, "✗ expected ", step.expected));
 
 // A line of the script: its note, its meaning, its reply and its counters; or only the line, if a question about it
@@ -223,6 +223,7 @@ function replay(place) {
   const { code, ...traced } = page.config.wrong ? { code: 0, steps: [] } : PLAYS[page.mode].trace(page);
   Object.assign(page, { hosts: null, own: null, ends: null }, traced);
   byId("trouble").textContent = page.config.wrong ? `--${page.config.wrong}: no number in its range` : FAULTS[code];
+  page.keys = keysOf();
   showGutter();
   byId("command").textContent = page.mode === "chain" ? `bsdudp chain${optionWords(page.options)}`
     : "bsdplay script.txt";

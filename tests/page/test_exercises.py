@@ -151,7 +151,7 @@ def test_a_check_without_an_answer_says_so(name, hint, at_width):
 @pytest.mark.parametrize(
     "guess, said",
     [
-        ("3 packets ..", "As expected."),
+        ("3 packets ..", "It comes. The key wants the whole reply: 2 words of 7 are right here."),
         ("3 packets the next of 572 bytes.", "As expected."),
         ("2 packets ..", "Expected: 2 packets ..; “3” is right, not “2”."),
         ("3 packets", "Expected: 3 packets; “the” is missing."),
@@ -166,3 +166,24 @@ def test_a_guess_is_judged_by_its_words(guess, said, at_width):
     place = browser.run("page.steps.findIndex(it => it.line === 'show queue')")
     browser.run(f"expectHere({place}, {json.dumps(guess)}); select({place})")
     assert said in browser.run("byId('look').querySelector('.lead').textContent")
+
+
+@pytest.mark.parametrize(
+    "guess, said",
+    [
+        ("from ..", "It comes. The key wants the whole reply: 1 word of 4 is right here."),
+        ("from 10.0.0.2 5000 ..", "It comes. The key wants the whole reply: 3 words of 4 are right here."),
+        ('from 10.0.0.2 5000 "a"', "As expected."),
+        ("from 10.0.0.2 5000 61", "As expected."),
+    ],
+)
+def test_a_guess_that_leaves_out_words_is_told_how_many_are_right(guess, said, at_width):
+    """The key expects `from 10.0.0.2 5000 "a"`, and `..` doesn't count as an answer (docs/teaching.md, Grading)."""
+    browser = at_width(1280)
+    browser.run("open('run', { name: 'exercise_01_which_socket' }); anew()")
+    place = browser.run("page.steps.findIndex(it => it.line === 'recvfrom 5 100')")
+    browser.run(f"expectHere({place}, {json.dumps(guess)}); select({place})")
+    assert said in browser.run("byId('look').querySelector('.lead').textContent")
+    is_all = said == "As expected."
+    assert ("✓ in part" in browser.run(f"byId('rows').children[{place}].textContent")) is not is_all
+    assert ("1 right, 0 wrong" in browser.run("byId('score').textContent")) is is_all
