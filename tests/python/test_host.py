@@ -134,12 +134,21 @@ def test_packets_dont_pass_the_link_by():
         {"gateway": "10.0.0.1"},
         {"gateway": "10.0.0.255"},
         {"mask": "255.255.255"},
+        {"mask": "255.0.255.0"},
+        {"mac": "00:00:00:00:00:00"},
+        {"mask": "255.255.0.0", "bcast": "10.0.0.255"},
+        {"bcast": "10.0.255.255"},
         {"addr": "127.0.0.1"},
     ],
 )
 def test_wrong_arguments_are_refused(words):
     with pytest.raises(ValueError):
         bsdudp.Host(**words)
+
+
+def test_broadcast_address_follows_from_the_mask():
+    assert bsdudp.Host("10.0.0.1", mask="255.255.0.0").bcast == "10.0.255.255"
+    assert bsdudp.Host("10.0.0.1", mask="255.255.255.252", bcast="10.0.0.3").bcast == "10.0.0.3"
 
 
 def test_frames_are_bytes_or_have_an_ethernet_layer():
