@@ -124,6 +124,12 @@ def programs() -> Iterator[tuple[str, File]]:
         yield f"bin/{name}", (program.read_bytes(), True)
 
 
+def completions() -> Iterator[tuple[str, File]]:
+    """Yields the completion in bash of each program, which bash-completion loads by the program's name."""
+    for name in PROGRAMS:
+        yield f"share/bash-completion/completions/{name}", ((TOP / "dist/completion").read_bytes(), False)
+
+
 def judge() -> Iterator[tuple[str, File]]:
     """Yields the command bsdudp-conform with its package, and the adapters of other stacks."""
     starter = (TOP / "conform/bsdudp-conform").read_bytes()
