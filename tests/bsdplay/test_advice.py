@@ -29,7 +29,7 @@ MACHINE = {
     "sendot 3 10.0.0.2 7 -": "`sendot` is no command (`sendto`?)",
     "setsokopt 3 broadcast 1": "`setsokopt` is no command (`setsockopt`?)",
     "quit": "`quit` is no command",
-    "carry": "`carry` is no command",
+    "carry": "`carry` is for many hosts and belongs to none: such a script begins with `host NAME`",
     "abcdefghijklmnopqrstuvwxyzabcdefgh": "`abcdefghijklmnopqrstuvwxyzabcdef..` is no command",
     "bind 3 localhost 7": "`localhost` is no ADDR (as 10.0.0.2): `bind FD ADDR PORT`",
     "bind 3 10.0.0.1 70000": "`70000` is no PORT (0 to 65535): `bind FD ADDR PORT`",
@@ -71,7 +71,7 @@ WIRE = {
     "a: error x": "`x` is no FD (0 to 4294967295): `error FD`",
     "a: show wire": "`wire` is no WHAT (sockets, unfinished, queue, counters, pool, neighbours, link): `show WHAT`",
     "a: sokcet": "`sokcet` is no command (`socket`?)",
-    "a: carry": "`carry` is no command",
+    "a: carry": "`carry` is for many hosts and belongs to none: such a script begins with `host NAME`",
     "a: close": "FD (0 to 4294967295) is missing: `close FD`",
     "a: rx pcap a.pcap": "no capture is played in to one of many hosts",
     "a: --mtu 576": "a host's settings stand in its line `host`",
@@ -163,8 +163,8 @@ def test_a_byte_order_mark_in_the_second_line_is_part_of_a_word(bsdplay):
 
 # The error for a third host after 10.0.0.1 and 10.0.0.2.
 JOINS = {
-    "host c --addr 10.0.0.2": "another host's addresses stand in the way",
-    "host c --addr 10.0.0.255": "another host's addresses stand in the way",
+    "host c --addr 10.0.0.2": "hosts differ in `--addr` (default 10.0.0.1), and none has another's as --bcast",
+    "host c --addr 10.0.0.255": "hosts differ in `--addr` (default 10.0.0.1), and none has another's as --bcast",
     "host c --addr 10.0.0.3 --mtu 67": "bad config",
     "host c --addr 10.0.0.3 --mbufs 0": "bad sizes",
     "host c ether --addr 10.0.0.3": "either all hosts are on an Ethernet, or none is",
@@ -174,6 +174,24 @@ JOINS = {
 @pytest.mark.parametrize("line", JOINS)
 def test_a_host_that_cannot_join_is_explained(line, bsdplay):
     same(line, advice(bsdplay, HOSTS[:2], line), [f"-:3: {JOINS[line]}"])
+
+
+# Lines of many hosts where they can't be: the lines before, the line, and the rule.
+OUT_OF_PLACE = {
+    "a host after a call": (["socket"], "host a", "`host` is for many hosts and belongs to none"),
+    "a wire of one machine": (["socket"], "wire a b", "`wire` is for many hosts and belongs to none"),
+    "the same address": (["host a"], "host b", "hosts differ in `--addr` (default 10.0.0.1)"),
+    "a host after the wire": (["host a", "wire a"], "host b --addr 10.0.0.2", "hosts come before `wire`"),
+    "carry without a wire": (["host a"], "carry", "`wire NAME ..` joins the hosts"),
+    "a wire of some": (["host a", "host b --addr 10.0.0.2"], "wire a", "`wire` names each host once"),
+}
+
+
+@pytest.mark.parametrize("name", OUT_OF_PLACE)
+def test_a_message_about_hosts_says_the_rule(name, bsdplay):
+    before, line, rule = OUT_OF_PLACE[name]
+    said = printed(bsdplay, [*before, line])[-1]
+    assert said.startswith(f"-:{len(before) + 1}: ") and rule in said, said
 
 
 def test_64_hosts_can_join(bsdplay):

@@ -1,6 +1,7 @@
 //! The advice on a line without a request, as text. No contract pins its words.
 use crate::advice::Advice;
-use crate::command::Command;
+use crate::command::{Command, wire_commands};
+use crate::nearest::named;
 use script_loop::Buffer;
 
 /// The most bytes of the advice on a line.
@@ -38,21 +39,32 @@ fn add_form(text: &mut Buffer<ADVICE>, front: &[u8], asked: Command) {
     add(text, b"`");
 }
 
+/// Appends what may be meant by a word that isn't a command of the line's player: one of many hosts, or one that it's
+/// near to.
+fn add_unknown(text: &mut Buffer<ADVICE>, word: &[u8], near: Option<Command>) {
+    add_word(text, word);
+    if named(word, &wire_commands()).is_some() {
+        add(
+            text,
+            b" is for many hosts and belongs to none: such a script begins with `host NAME`",
+        );
+        return;
+    }
+    add(text, b" is no command");
+    if let Some(near) = near {
+        add(text, b" (`");
+        add(text, near.row().name.as_bytes());
+        add(text, b"`?)");
+    }
+}
+
 /// Writes the advice on a line into a buffer: the word that is wrong, the form of its command, and the command that was
 /// meant.
 pub fn put_advice(text: &mut Buffer<ADVICE>, advice: &Advice<'_>) {
     text.clear();
     match *advice {
         Advice::Empty => add(text, b"no command stands in front of `=>`"),
-        Advice::Unknown(word, near) => {
-            add_word(text, word);
-            add(text, b" is no command");
-            if let Some(near) = near {
-                add(text, b" (`");
-                add(text, near.row().name.as_bytes());
-                add(text, b"`?)");
-            }
-        }
+        Advice::Unknown(word, near) => add_unknown(text, word, near),
         Advice::OfHost(asked) => {
             add_word(text, asked.row().name.as_bytes());
             add_form(text, b" is asked of a host: `NAME: ", asked);
