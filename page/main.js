@@ -288,7 +288,7 @@ function open(mode, { name = "", text = "", mine = FIRST_NAME, options = DEFAULT
   showTitle();
 }
 
-// Opens a text of a file or a link, and says where the script of yours is that was open.
+// Opens the text of a file or a link. If a script of yours was open, the page says that it's in the list.
 function openBeside(mode, script) {
   const left = page.mine && page.text.trim() && page.mine;
   open(mode, script);
