@@ -1,4 +1,5 @@
-"""Mutants: files NAME.edit in a crate's must-fail/, wrong-bodies/, wrong-texts/ and wrong-definitions/. Each has lines
+"""Mutants: files NAME.edit in a crate's must-fail/, wrong-texts/ and wrong-definitions/, and all others in its table
+`mutants`, where each has its name on a line of its own, then its edit, then an empty line. An edit has lines
 `file: PATH`, each followed by pairs of `old: TEXT` and `new: TEXT`. The old text must be in the file exactly once.
 Later pairs apply to the result of earlier ones."""
 from __future__ import annotations
@@ -8,8 +9,9 @@ import re
 from typing import Iterator, NamedTuple
 
 
-FOLDERS = ("must-fail", "wrong-bodies", "wrong-texts", "wrong-definitions")
-NAME = re.compile(r"[A-Za-z0-9_-][A-Za-z0-9_.-]*\.edit")
+FOLDERS = ("must-fail", "wrong-texts", "wrong-definitions")
+TABLE = "mutants"
+NAME = re.compile(r"[A-Za-z0-9_-][A-Za-z0-9_.-]*")
 
 
 class Refused(Exception):
@@ -26,9 +28,34 @@ class Pair(NamedTuple):
 
 def pairs_of(edit: pathlib.Path) -> list[Pair]:
     """Returns the pairs of an edit, in order. Raises Refused with the reason if the file isn't an edit."""
+    return pairs_in(edit.read_text(encoding="utf-8"))
+
+
+def table_of(crate: pathlib.Path) -> dict[str, str]:
+    """Returns the text of each edit in a crate's table, by its name: none if there is no table. Raises Refused if a
+    part of the table has no name, or one that another part has."""
+    path = crate / TABLE
+    edits: dict[str, str] = {}
+    for part in filter(None, path.read_text(encoding="utf-8").strip("\n").split("\n\n") if path.is_file() else []):
+        name, _, text = part.partition("\n")
+        if not NAME.fullmatch(name) or name in edits:
+            raise Refused(f"this is no name of its own: {name}")
+        edits[name] = text
+    return edits
+
+
+def edits_of(crate: pathlib.Path, place: str) -> dict[str, str]:
+    """Returns the text of each edit in a folder of a crate, or in its table, by its name, sorted."""
+    if place == TABLE:
+        return table_of(crate)
+    return {it.stem: it.read_text(encoding="utf-8") for it in sorted((crate / place).glob("*.edit"))}
+
+
+def pairs_in(text: str) -> list[Pair]:
+    """Returns the pairs of an edit's text, in order. Raises Refused with the reason if it isn't one."""
     pairs: list[Pair] = []
     path = old = None
-    for line in edit.read_text(encoding="utf-8").split("\n"):
+    for line in text.split("\n"):
         if line.startswith("file: "):
             path = line.removeprefix("file: ").strip()
         elif line.startswith("old: "):
@@ -64,16 +91,23 @@ def applied(pairs: list[Pair], crate: pathlib.Path, texts: dict[str, str] | None
 
 
 def faults(crate: pathlib.Path) -> Iterator[tuple[pathlib.Path, str]]:
-    """Yields the files in FOLDERS of a crate's folder that don't apply, each with the reason."""
-    known: dict[str, pathlib.Path] = {}
+    """Yields the files with edits in a crate's folder that don't apply, each with the reason."""
+    edits: list[tuple[pathlib.Path, str, str]] = []
     for path in (it for folder in FOLDERS for it in sorted(crate.glob(f"{folder}/**/*"))):
-        if path.parent.parent != crate or not NAME.fullmatch(path.name):
+        if path.parent.parent != crate or path.suffix != ".edit" or not NAME.fullmatch(path.stem):
             yield path, "this folder has only files NAME.edit"
             continue
-        other = known.setdefault(path.name, path)
+        edits.append((path, path.stem, path.read_text(encoding="utf-8")))
+    try:
+        edits += [(crate / TABLE, name, text) for name, text in table_of(crate).items()]
+    except Refused as why:
+        yield crate / TABLE, str(why)
+    known: dict[str, pathlib.Path] = {}
+    for path, name, text in edits:
+        other = known.setdefault(name, path)
         if other != path:
-            yield path, f"{other.relative_to(crate)} has the same name"
+            yield path, f"{other.relative_to(crate)} has the same name: {name}"
         try:
-            applied(pairs_of(path), crate)
+            applied(pairs_in(text), crate)
         except Refused as why:
-            yield path, f"it doesn't apply: {why}"
+            yield path, f"{name} doesn't apply: {why}"

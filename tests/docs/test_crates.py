@@ -112,7 +112,7 @@ def test_bodies_that_are_refused(page, named):
 
 
 @pytest.mark.parametrize("crate", sorted(it.name for it in TOP.glob("crates/*")))
-def test_wrong_bodies_apply(crate):
+def test_mutants_apply(crate):
     """Each mutant of a crate still applies: its file contains each text that it replaces exactly once."""
     none_of(Fault(f"{path.relative_to(TOP)}:1", why) for path, why in edits.faults(TOP / "crates" / crate))
 

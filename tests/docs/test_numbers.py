@@ -6,7 +6,7 @@ import sys
 import pytest
 
 from tests.docs.pages import TOP, Fault, cell_of, documents, lines, none_of, number, read, sources_of, table
-from tools import crates
+from tools import crates, edits
 from tools.listed import SPECS
 
 PERFORMANCE = "docs/performance.md"
@@ -36,8 +36,8 @@ def functions() -> int:
     return count
 
 
-def wrong_bodies(*folders: str) -> int:
-    return sum(1 for folder in folders for _ in TOP.glob(f"crates/*/{folder}/*.edit"))
+def mutants(*places: str) -> int:
+    return sum(len(edits.edits_of(crate, place)) for crate in TOP.glob("crates/*/") for place in places)
 
 
 def exports() -> int:
@@ -62,8 +62,8 @@ def lines_of_definitions() -> int:
 COUNTED = [
     ("README.md", "functions in N crates are proved", lambda: len(crates.uses())),
     ("README.md", "about N functions", functions),
-    ("README.md", "about N mutants", lambda: wrong_bodies("must-fail", "wrong-bodies")),
-    ("README.md", "rejects the N likeliest", lambda: wrong_bodies("must-fail")),
+    ("README.md", "about N mutants", lambda: mutants("must-fail", edits.TABLE)),
+    ("README.md", "rejects the N likeliest", lambda: mutants("must-fail")),
     ("README.md", "about N lines of definitions", lines_of_definitions),
     (
         "README.md",
