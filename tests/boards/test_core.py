@@ -185,9 +185,9 @@ MACHINE += ["stdio", "-semihosting-config", "enable=on,target=native"]
 # The most of the columns of bench/board's table, for each level: the library, the echo's text, data, bss and call
 # stack, and the instructions of three lengths.
 COSTS = {
-    "-Oz": [39_700, 25_000, 16, 53_000, 2_300, 6_900, 15_000, 54_000],
-    "-Os": [46_400, 35_000, 16, 53_000, 2_300, 2_400, 9_300, 29_000],
-    "-O2": [83_100, 60_000, 16, 53_000, 1_200, 2_600, 8_700, 27_000],
+    "-Oz": [41_400, 22_300, 16, 53_000, 1_550, 5_800, 12_700, 47_000],
+    "-Os": [45_400, 24_300, 16, 53_000, 1_000, 2_110, 8_500, 26_600],
+    "-O2": [85_800, 57_300, 16, 53_000, 1_100, 2_050, 7_600, 22_500],
 }
 DATA = 2
 on_board = pytest.mark.needs("arm-none-eabi", "qemu-arm")
