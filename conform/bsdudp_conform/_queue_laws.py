@@ -9,6 +9,8 @@ from ._case import Answer, Case, Got, Hold, ReadHeld
 from ._wire_laws import MUST, Breach
 
 ORDER, LOST = "hold.order", "hold.lost"
+# The longest UDP datagram that each host accepts: RFC 1122, section 3.3.2, without the IP header.
+ACCEPTED = 556
 
 
 @dataclass
@@ -79,7 +81,8 @@ def lost(case: Case, socket: int, first: int, came: Sequence[Got], shown: Dict[i
     """Datagrams that are lost although a queue has no reason for it."""
     alike = len({len(it.data) for it in came}) == 1
     for it in periods(case, socket, first, came, shown):
-        if it.is_empty and it.came and not any(place in shown for place in it.came):
+        must = [place for place in it.came if 8 + len(came[place].data) <= ACCEPTED]
+        if it.is_empty and must and not any(place in shown for place in it.came):
             words = "a datagram that waited isn't read"
             words = f"none of {len(it.came)} datagrams that waited is read" if len(it.came) > 1 else words
             yield Breach(MUST, LOST, words, it.read_at, "one of them, or more")
