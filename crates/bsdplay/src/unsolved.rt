@@ -1,7 +1,7 @@
 //! Exercises: scripts in which `?` is expected of a line, or is the answer to a question.
 use crate::hand_in::unmarked;
 use play_grade::{Marker, first_line};
-use std::alloc::Global;
+use std::alloc::{AllocError, Global};
 use std::io::{self, Read};
 
 /// How many bytes are read at once.
@@ -34,6 +34,8 @@ pub(crate) struct Unsolved<R> {
     ready: Vec<u8>,
     given: usize,
     ended: bool,
+    /// Whether memory for a line was refused. Then each read fails, because the line is lost.
+    lacks: bool,
     open: Open,
 }
 
@@ -55,6 +57,7 @@ impl<R: Read> Unsolved<R> {
             ready: Vec::new(alloc),
             given: 0,
             ended: false,
+            lacks: false,
             open: Open {
                 first: None,
                 replies: 0,
@@ -148,8 +151,14 @@ impl<R: Read> Unsolved<R> {
 
 impl<R: Read> Read for Unsolved<R> {
     fn read(&mut self, buf: &mut [u8]) -> io::Result<usize> {
-        if self.given >= self.ready.len() {
-            self.refill()?;
+        if self.lacks {
+            return Err(AllocError.into());
+        }
+        if self.given >= self.ready.len()
+            && let Err(error) = self.refill()
+        {
+            self.lacks = error.kind() == io::ErrorKind::OutOfMemory;
+            return Err(error);
         }
         let rest = self.ready.as_slice().get(self.given..).unwrap_or_default();
         let count = if rest.len() < buf.len() {
