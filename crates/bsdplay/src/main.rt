@@ -234,7 +234,7 @@ fn play_source<R: Read + Drop>(
     name: &str,
     manner: Manner<'_>,
 ) -> io::Result<u8> {
-    let mut reader = Ahead::over(Unsolved::over(rt.alloc(), source));
+    let mut reader = Ahead::over(Unsolved::over(rt.alloc(), source)?);
     let status = play_reader(rt, &mut reader, name, manner)?;
     let open = report_open(rt, name, reader.inner().open())?;
     Ok(if open && status == 0 { LACKS } else { status })

@@ -45,16 +45,19 @@ fn is_awaiting(marker: &mut Marker, line: &[u8], is_first: bool) -> bool {
     marker.awaits(text)
 }
 
-impl<R: Read> Unsolved<R> {
-    /// Returns a script of which nothing was read yet.
-    pub(crate) fn over(alloc: Global, inner: R) -> Unsolved<R> {
-        Unsolved {
+impl<R: Read + Drop> Unsolved<R> {
+    /// Returns a script of which nothing was read yet. It has space for lines of up to 4,096 bytes; a longer one takes
+    /// more memory when it's read. Fails with `AllocError` without memory for this.
+    pub(crate) fn over(alloc: Global, inner: R) -> Result<Unsolved<R>, AllocError> {
+        let line = Vec::with_capacity(alloc, CHUNK)?;
+        let ready = Vec::with_capacity(alloc, 2 * CHUNK)?;
+        Ok(Unsolved {
             inner,
             alloc,
             marker: None,
-            line: Vec::new(alloc),
+            line,
             number: 0,
-            ready: Vec::new(alloc),
+            ready,
             given: 0,
             ended: false,
             lacks: false,
@@ -63,9 +66,11 @@ impl<R: Read> Unsolved<R> {
                 replies: 0,
                 questions: 0,
             },
-        }
+        })
     }
+}
 
+impl<R: Read> Unsolved<R> {
     /// Returns what is open in the lines that were read so far.
     pub(crate) fn open(&self) -> Open {
         self.open
