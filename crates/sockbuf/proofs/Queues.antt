@@ -16,8 +16,7 @@ use Rattle.mbuf_chain.specs.Train.{TrainView, QueuedPacket, no_queued_packet, qu
 use Rattle.mbuf_chain.proofs.Laws.Owners.{times_other, moves_trans, moves_before, same_beside, owned_more, owned_after, apart_first}
 use Rattle.mbuf_chain.proofs.Laws.Trains.{numbers_same, queued_packets_same, held_same, length-queued_packets}
 use Rattle.ledger.specs.Accounts.{entries_weight}
-use Rattle.sockbuf.specs.Inside.{Appended}
-use Rattle.sockbuf.specs.SockBuf.{SockBufView, IsSockBuf, IsDatagram, TakesOldest, queued_datagram, datagrams_of, datagrams, chains_of, datagram_from, memory_of, sockaddr_in, address_entry}
+use Rattle.sockbuf.specs.SockBuf.{Appended, SockBufView, IsSockBuf, IsDatagram, TakesOldest, queued_datagram, datagrams_of, datagrams, chains_of, datagram_from, memory_of, sockaddr_in, address_entry, packet_from}
 use Rattle.sockbuf.proofs.Fronts.{address_again}
 
 -- ---- a step on a chain outside the queue
@@ -135,7 +134,7 @@ appended {p} {q} {r} {b} {u} {c} {d} {a} cc mbcnt ready i is_cc is_mbcnt =
     let t : TrainView = b.train in
     let same : SameAt p q (numbers p t) = beside_one t i.made i.apart ready.held in
     let es : List Entry = (chain_of p c).entries in
-    let new : QueuedPacket = record { number = d; entries = address_entry a ∷ es; tag = 0 } in
+    let new : QueuedPacket = packet_from d a es in
     let all : queued_packets r u ≡ queued_packets p t ++ new ∷ [] =
     i.queued_packets ∙ ap (λ (cs : List QueuedPacket). insert cs t.len
     (record { number = d; entries = (chain_of q d).entries; tag = 0 })) (queued_packets_same p q t same)
@@ -149,6 +148,7 @@ appended {p} {q} {r} {b} {u} {c} {d} {a} cc mbcnt ready i is_cc is_mbcnt =
     ∙ ap (λ (x : Addr). datagrams p b ++ record (datagram_from a p c) { sender = x } ∷ []) (address_again a) in
     record {
       datagrams = queued;
+      newest = (d, all);
       ready = record {
         held = i.held;
         each =

@@ -7,8 +7,10 @@ use Rattle.flat_model.specs.declared.address.Addr.{Addr}
 use Rattle.mbuf_chain.specs.Chain.{ChainView, Entry, PoolView, IsLive, Adds, chain_of, held_mbufs, string}
 use Rattle.mbuf_chain.specs.Owners.{times_among, Moves}
 use Rattle.mbuf_chain.specs.Steps.{one_mbuf}
+use Rattle.mbuf_chain.specs.Train.{queued_packets}
 use Rattle.mbuf_chain.proofs.Laws.Owners.{live_adds, moves_adds, moves_beside, shown_adds}
 use Rattle.mbuf_chain.proofs.Laws.Accounts.{held-adds}
+use Rattle.mbuf_chain.proofs.Laws.Trains.{queued_packets_same}
 use Rattle.ledger.specs.Accounts.{entries_weight, weight_at}
 use Rattle.sockbuf.specs.SockBuf.{SockBufView, IsSockBuf, chains_of, datagrams, datagram_from, memory_of}
 use Rattle.sockbuf.specs.Stored.{IsTaken, bag_of, stored_datagram}
@@ -19,12 +21,15 @@ abbrev pub entry : List ℕ → ℕ → Option ℕ → Entry
 entry bytes start o = record { bytes = bytes; start = start; cluster = o }
 
 -- the caller's new chain, which isn't in the queue yet
-pub record InHand (p : PoolView) (b : SockBufView) (bytes : List ℕ) (o : Option ℕ) (q : PoolView) (d : ℕ) : Type 0 where
+pub record InHand (p : PoolView) (b : SockBufView) (bytes : List ℕ) (start : ℕ) (o : Option ℕ) (q : PoolView) (d : ℕ)
+    : Type 0 where
   pub ready : IsSockBuf q b
   pub live : IsLive q d
   pub apart : times_among d (chains_of q b) ≡ 0
   pub len : length bytes ≡ length (string (chain_of q d))
   pub same : datagrams q b ≡ datagrams p b
+  pub packets : queued_packets q b.train ≡ queued_packets p b.train
+  pub entries : (chain_of q d).entries ≡ entry bytes start o ∷ []
   pub held : held_mbufs q ≡ held_mbufs p + 1
   pub mbufs : q.mbufs ≡ p.mbufs
   pub moves : Moves p (chains_of p b) q (d ∷ chains_of q b)
@@ -45,7 +50,7 @@ one_weighs bytes start None = refl
 one_weighs bytes start (Some c) = refl
 
 pub in_hand : {p q : PoolView} {b : SockBufView} {d : ℕ} (bytes : List ℕ) (start : ℕ) (o : Option ℕ) → IsSockBuf p b
-    → Adds p q d (one_mbuf false (entry bytes start o) d) → InHand p b bytes o q d
+    → Adds p q d (one_mbuf false (entry bytes start o) d) → InHand p b bytes start o q d
 in_hand {p} {q} {b} {d} bytes start o ready adds =
     let made : Moves p [] q (d ∷ []) = moves_adds adds in
     let shown : chain_of q d ≡ one_mbuf false (entry bytes start o) d = shown_adds adds in
@@ -57,6 +62,8 @@ in_hand {p} {q} {b} {d} bytes start o ready adds =
       apart = apart_ready b made ready;
       len = ap (λ (xs : List ℕ). length xs) (sym all);
       same = datagrams_same p q b (made_beside b made ready);
+      packets = queued_packets_same p q b.train (made_beside b made ready);
+      entries = ap (λ (v : ChainView). v.entries) shown;
       held = held-adds adds;
       mbufs = made.mbufs;
       memory = λ is_large taken. one_takes p bytes start o is_large taken

@@ -1,4 +1,3 @@
 pub mod SockBuf
 pub mod Questions
 pub mod Stored
-pub mod Inside

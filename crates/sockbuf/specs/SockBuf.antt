@@ -8,8 +8,8 @@ use Rattle.flat_model.specs.Packets.Header.{u16_at, u32_at, two_bytes, four_byte
 use Rattle.flat_model.specs.Machine.State.{Datagram}
 use Rattle.flat_model.specs.Sockets.Fits.{bytes_queued, memory_queued, fits}
 use Rattle.flat_model.specs.declared.address.Addr.{Addr}
-use Rattle.mbuf_chain.specs.Chain.{Entry, PoolView, alone, chain_of, flat_bytes, held_mbufs, string}
-use Rattle.mbuf_chain.specs.Owners.{Moves}
+use Rattle.mbuf_chain.specs.Chain.{Entry, PoolView, IsLive, alone, chain_of, flat_bytes, held_mbufs, string}
+use Rattle.mbuf_chain.specs.Owners.{times_among, Moves}
 use Rattle.mbuf_chain.specs.Train.{TrainView, QueuedPacket, queued_packets, numbers, IsHeld}
 use Rattle.ledger.specs.Accounts.{entries_weight, weight_at}
 use Rattle.sockbuf.specs.declared.buffer.Refusal.{Refusal}
@@ -85,6 +85,28 @@ pub record IsSockBuf (p : PoolView) (b : SockBufView) : Type 0 where
 abbrev pub datagram_from : Addr → PoolView → ℕ → Datagram
 datagram_from sender p c =
     record { sender = sender; item = record { bytes = string (chain_of p c); weight = mbuf ⊕ weight_at p c } }
+
+-- a queued chain with this number, which has no tag: the mbuf of the sender's address, and these after it
+abbrev pub packet_from : ℕ → Addr → List Entry → QueuedPacket
+packet_from number sender es = record { number = number; entries = address_entry sender ∷ es; tag = 0 }
+
+-- chain c of n bytes can be appended, after an mbuf with its sender's address
+pub record CanAppend (p : PoolView) (b : SockBufView) (c n : ℕ) : Type 0 where
+  pub ready : IsSockBuf p b
+  pub live : IsLive p c
+  pub apart : times_among c (chains_of p b) ≡ 0
+  pub len : n ≡ length (string (chain_of p c))
+  pub fits : fits (datagrams p b) n ≡ true
+  pub free : held_mbufs p < p.mbufs
+
+-- Chain c, sent by `sender`, was appended: it's the newest datagram, and its bytes are where they were in its mbufs.
+pub record Appended (p : PoolView) (b : SockBufView) (c : ℕ) (sender : Addr) (q : PoolView) (d : SockBufView) : Type 0
+  where
+    pub datagrams : datagrams q d ≡ datagrams p b ++ datagram_from sender p c ∷ []
+    pub newest : (number : ℕ) × (queued_packets q d.train
+        ≡ queued_packets p b.train ++ packet_from number sender (chain_of p c).entries ∷ [])
+    pub ready : IsSockBuf q d
+    pub moves : Moves p (c ∷ chains_of p b) q (chains_of q d)
 
 -- nothing changed, and chain c is handed back
 pub record IsRefused (p : PoolView) (b : SockBufView) (c back : ℕ) (q : PoolView) (d : SockBufView) : Type 0 where

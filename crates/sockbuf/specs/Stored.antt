@@ -4,7 +4,9 @@ use Rattle.std.specs.Prelude.{◌≡◌, ℕ, ◌<◌, Bool, true, false, List, 
 use Rattle.flat_model.specs.Machine.State.{Datagram}
 use Rattle.flat_model.specs.declared.address.Addr.{Addr}
 use Rattle.mbuf_chain.specs.Chain.{PoolView, references}
-use Rattle.sockbuf.specs.SockBuf.{SockBufView, datagrams}
+use Rattle.mbuf_chain.specs.Owners.{Moves}
+use Rattle.mbuf_chain.specs.Train.{QueuedPacket, queued_packets}
+use Rattle.sockbuf.specs.SockBuf.{SockBufView, IsSockBuf, chains_of, datagrams, packet_from}
 
 -- the cluster that a new mbuf takes, if it takes one: it had no reference
 abbrev pub IsTaken : PoolView → Bool → Option ℕ → Type 0
@@ -23,9 +25,18 @@ abbrev pub stored_datagram : Addr → List ℕ → Option ℕ → Datagram
 stored_datagram sender bytes cluster =
     record { sender = sender; item = record { bytes = bytes; weight = record { mbufs = 2; bag = bag_of cluster } } }
 
+-- its chain: the bytes begin at `start`
+abbrev pub stored_packet : ℕ → Addr → List ℕ → ℕ → Option ℕ → QueuedPacket
+stored_packet number sender bytes start cluster =
+    packet_from number sender (record { bytes = bytes; start = start; cluster = cluster } ∷ [])
+
 -- they are the newest datagram of the queue
-pub record StoresAt (p : PoolView) (b : SockBufView) (sender : Addr) (is_large : Bool) (bytes : List ℕ) (q : PoolView)
-    (d : SockBufView) : Type 0 where
+pub record StoresAt (p : PoolView) (b : SockBufView) (sender : Addr) (is_large : Bool) (start : ℕ) (bytes : List ℕ)
+    (q : PoolView) (d : SockBufView) : Type 0 where
   pub cluster : Option ℕ
   pub taken : IsTaken p is_large cluster
   pub datagrams : datagrams q d ≡ datagrams p b ++ stored_datagram sender bytes cluster ∷ []
+  pub newest : (number : ℕ) × (queued_packets q d.train ≡ queued_packets p b.train
+      ++ stored_packet number sender bytes start cluster ∷ [])
+  pub ready : IsSockBuf q d
+  pub moves : Moves p (chains_of p b) q (chains_of q d)

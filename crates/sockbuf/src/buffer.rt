@@ -10,8 +10,7 @@ ghost use Rattle.mbuf_chain.specs.Steps.{one_mbuf};
 ghost use Rattle.ledger.specs.Accounts.{weight_at};
 ghost use Rattle.sockbuf.specs.Questions.{oldest_of};
 ghost use Rattle.sockbuf.specs.Stored.{IsTaken, StoresAt};
-ghost use Rattle.sockbuf.specs.Inside.{Appended, CanAppend};
-ghost use Rattle.sockbuf.specs.SockBuf.{AppendsAddr, IsEmpty, IsSockBuf, TakesOldest, chains_of, datagram_from, datagrams, memory_of, no_datagrams};
+ghost use Rattle.sockbuf.specs.SockBuf.{Appended, AppendsAddr, CanAppend, IsEmpty, IsSockBuf, TakesOldest, chains_of, datagram_from, datagrams, memory_of, no_datagrams};
 
 use crate::address::{sockaddr_bytes, sockaddr_in};
 use crate::measure::memory_of;
@@ -197,16 +196,8 @@ impl SockBuf {
     // Inlined, because a stack appends in only one place.
     #[inline(always)]
     pub fn append_fitting(&mut self, pool: &mut Pool, sender: Addr, chain: Chain, len: u32)
-        requires ready { IsSockBuf pool.old self.old }
-        requires live { IsLive pool.old chain }
-        requires apart { times_among chain (chains_of pool.old self.old) ≡ 0 }
-        requires len { len ≡ length (string (chain_of pool.old chain)) }
-        requires fits { flat.fits (datagrams pool.old self.old) len ≡ true }
-        requires free { held_mbufs pool.old < pool.old.mbufs }
-        ensures datagrams { datagrams pool.new self.new
-            ≡ datagrams pool.old self.old ++ datagram_from sender pool.old chain ∷ [] }
-        ensures ready { IsSockBuf pool.new self.new }
-        ensures moves { Moves pool.old (chain ∷ chains_of pool.old self.old) pool.new (chains_of pool.new self.new) }
+        requires { CanAppend pool.old self.old chain len }
+        ensures { Appended pool.old self.old chain sender pool.new self.new }
     {
         let memory = memory_of(pool, &chain);
         self.append_sized(pool, sender, chain, len, memory);
@@ -250,9 +241,7 @@ impl SockBuf {
         requires fits { flat.fits (datagrams pool.old self.old) (length bytes.now) ≡ true }
         requires free { held_mbufs pool.old + 2 ≤ pool.old.mbufs }
         requires cluster { is_large ≡ true → 0 < free_clusters pool.old }
-        ensures stores { StoresAt pool.old self.old sender is_large bytes.now pool.new self.new }
-        ensures ready { IsSockBuf pool.new self.new }
-        ensures moves { Moves pool.old (chains_of pool.old self.old) pool.new (chains_of pool.new self.new) }
+        ensures { StoresAt pool.old self.old sender is_large start bytes.now pool.new self.new }
     {
         let chain = one_mbuf(pool, is_large, start, bytes);
         let memory = if is_large { MSIZE + MCLBYTES } else { MSIZE };

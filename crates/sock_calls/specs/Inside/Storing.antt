@@ -1,10 +1,11 @@
 -- The data of a packet from the wire, in a new chain (this project's own).
-use Rattle.std.specs.Prelude.{◌≡◌, ℕ, Bool, true, false, List, [], ◌∷◌, ◌++◌, length, take, drop, count_by, Option, Result, Ok, Err}
-use Rattle.params.specs.declared.TheConstants.{IP_UDP_HEADERS}
+use Rattle.std.specs.Prelude.{◌≡◌, ℕ, ◌+◌, if◌then◌else◌, Bool, true, false, List, [], ◌∷◌, ◌++◌, length, take, drop, count_by, Option, Result, Ok, Err}
+use Rattle.params.specs.declared.TheConstants.{IP_UDP_HEADERS, PACKET_START}
 use Rattle.flat_model.specs.Amounts.Layout.{is_cluster, entries_on, weight_of, wire}
 use Rattle.flat_model.specs.Amounts.Weight.{Item}
 use Rattle.mbuf_chain.specs.Chain.{PoolView}
 use Rattle.mbuf_chain.specs.Owners.{Moves}
+use Rattle.mbuf_chain.specs.Train.{queued_packets}
 use Rattle.chain_ops.specs.Stored.{AreFree}
 use Rattle.flat_model.specs.Sockets.Fits.{fits}
 use Rattle.flat_model.specs.declared.address.Addr.{Addr}
@@ -12,8 +13,8 @@ use Rattle.flat_model.specs.declared.counters.Why.{Why}
 use Rattle.flat_model.specs.declared.counters.Why.TheVariants.{UdpFullSocket}
 use Rattle.ledger.specs.Accounts.{item_at}
 use Rattle.sockbuf.specs.SockBuf.{SockBufView}
-use Rattle.sockbuf.specs.Stored.{IsTaken, stored_datagram}
-use Rattle.sock_calls.specs.Sockets.{StepsAt, queues_of}
+use Rattle.sockbuf.specs.Stored.{IsTaken, stored_datagram, stored_packet}
+use Rattle.sock_calls.specs.Sockets.{StepsAt, queue_at, queues_of}
 
 -- the data of a packet up to `end`, in the mbufs of the whole packet
 abbrev pub data_of : List ℕ → ℕ → List ℕ → Item
@@ -31,6 +32,10 @@ pub record IsDataStored (p : PoolView) (packet : List ℕ) (end : ℕ) (q : Pool
   pub item : item_at q c ≡ data_of packet end clusters
   pub moves : Moves p [] q (c ∷ [])
 
+-- where the data of a packet begin that `from_wire` puts into one mbuf or cluster
+abbrev pub data_start : Bool → ℕ
+data_start is_large = if is_large then IP_UDP_HEADERS else PACKET_START + IP_UDP_HEADERS
+
 -- Bytes that fit into queue fd are its newest datagram, in one mbuf, with or without a cluster that was free.
 pub record IsStoredAt (p : PoolView) (bs : List SockBufView) (fd : ℕ) (sender : Addr) (is_large : Bool)
     (bytes : List ℕ) (q : PoolView) (cs : List SockBufView) : Type 0 where
@@ -39,6 +44,8 @@ pub record IsStoredAt (p : PoolView) (bs : List SockBufView) (fd : ℕ) (sender 
   pub cluster : Option ℕ
   pub taken : IsTaken p is_large cluster
   pub here : queues_of q cs fd ≡ queues_of p bs fd ++ stored_datagram sender bytes cluster ∷ []
+  pub newest : (number : ℕ) × (queued_packets q (queue_at cs fd).train ≡ queued_packets p (queue_at bs fd).train
+      ++ stored_packet number sender bytes (data_start is_large) cluster ∷ [])
 
 -- The bytes don't fit into queue fd, and nothing has changed.
 pub record IsFullAt (p : PoolView) (bs : List SockBufView) (fd : ℕ) (bytes : List ℕ) (why : Why) (q : PoolView)

@@ -9,38 +9,27 @@ use Rattle.sock_calls.proofs.Frames.{at_set, times_at}
 use Rattle.sock_calls.proofs.Places.{at_three, named_is, steps_inside, steps_three, written}
 use Rattle.sock_calls.proofs.queues.ReceiveQueues.append_at.Goals as goal
 
-pub append_fitting-requires-clause-ready : goal.append_fitting-requires-clause-ready
-append_fitting-requires-clause-ready c =
-    let is = c.deref_mut.ensures.value in
-    let lt : c.place_of.result < length c.deref_mut.result.now =
-    omega (arith, c.place_of.ensures.within, c.self.invariant, ap length is) in
-    let here = named_is c.index-deref_mut-place_of.result c.args.fd (is ∙ c.self.view_is) lt c.place_of.ensures.value in
-    subst (IsSockBuf c.args.pool.now) (sym here) (c.requires.each c.args.fd)
-
-pub append_fitting-requires-clause-live : goal.append_fitting-requires-clause-live
-append_fitting-requires-clause-live c = live_first c.args.pool.now c.args.datagram.chain _ c.requires.owned
-
-pub append_fitting-requires-clause-apart : goal.append_fitting-requires-clause-apart
-append_fitting-requires-clause-apart c =
+pub append_fitting-requires : goal.append_fitting-requires
+append_fitting-requires c =
     let p = c.args.pool.now in
     let is = c.deref_mut.ensures.value in
     let lt : c.place_of.result < length c.deref_mut.result.now =
     omega (arith, c.place_of.ensures.within, c.self.invariant, ap length is) in
     let here = named_is c.index-deref_mut-place_of.result c.args.fd (is ∙ c.self.view_is) lt c.place_of.ensures.value in
-    apart_first p c.args.datagram.chain _ (λ k. omega (
-      arith,
-      c.requires.owned k,
-      times_at p (from_three c.args.self.now) c.args.fd k,
-      ap (λ (v : SockBufView). times_among k (chains_of p v)) here,
-    ))
-
-pub append_fitting-requires-clause-fits : goal.append_fitting-requires-clause-fits
-append_fitting-requires-clause-fits c =
-    let is = c.deref_mut.ensures.value in
-    let lt : c.place_of.result < length c.deref_mut.result.now =
-    omega (arith, c.place_of.ensures.within, c.self.invariant, ap length is) in
-    let here = named_is c.index-deref_mut-place_of.result c.args.fd (is ∙ c.self.view_is) lt c.place_of.ensures.value in
-    ap (λ (v : SockBufView). fits (datagrams c.args.pool.now v) c.args.len) here ∙ c.requires.fits
+    record {
+      ready = subst (IsSockBuf p) (sym here) (c.requires.each c.args.fd);
+      live = live_first p c.args.datagram.chain _ c.requires.owned;
+      apart =
+          apart_first p c.args.datagram.chain _ (λ k. omega (
+            arith,
+            c.requires.owned k,
+            times_at p (from_three c.args.self.now) c.args.fd k,
+            ap (λ (v : SockBufView). times_among k (chains_of p v)) here,
+          ));
+      len = c.requires.len;
+      fits = ap (λ (v : SockBufView). fits (datagrams p v) c.args.len) here ∙ c.requires.fits;
+      free = c.requires.free;
+    }
 
 pub returns-clause-steps : goal.returns-clause-steps
 returns-clause-steps c =

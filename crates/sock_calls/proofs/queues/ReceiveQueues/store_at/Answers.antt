@@ -1,12 +1,15 @@
-use Rattle.std.proofs.Common.{List, ◌<◌, ◌∷◌, [], ◌++◌, suc, length, refl, ap, sym, subst, ◌∙◌, arith}
+use Rattle.std.proofs.Common.{◌≡◌, List, ◌<◌, ◌∷◌, [], ◌++◌, suc, length, refl, ap, sym, subst, ◌∙◌, arith}
 use Rattle.std.specs.Prelude.{slice_set}
 use Rattle.flat_model.specs.Sockets.Fits.{fits}
 use Rattle.sockbuf.specs.SockBuf.{SockBufView, IsSockBuf, datagrams}
-use Rattle.sockbuf.specs.Stored.{stored_datagram}
+use Rattle.mbuf_chain.specs.Train.{queued_packets}
+use Rattle.sockbuf.specs.Stored.{stored_datagram, stored_packet}
+use Rattle.sock_calls.specs.Inside.Storing.{data_start}
 use Rattle.sock_calls.specs.Sockets.{from_three, queue_at}
 use Rattle.sock_calls.proofs.Frames.{at_set}
 use Rattle.sock_calls.proofs.Places.{at_three, named_is, steps_inside, steps_three, written}
 use Rattle.sock_calls.proofs.queues.ReceiveQueues.store_at.Goals as goal
+use Rattle.sock_calls.proofs.queues.ReceiveQueues.store_at.Goals.{then-is_large, else-is_large}
 
 pub store-requires-clause-ready : goal.store-requires-clause-ready
 store-requires-clause-ready c =
@@ -59,7 +62,13 @@ returns c =
     let bs = c.deref_mut.result.now in
     let i = c.place_of-place.result in
     let y = c.store.new.self in
-    let o = c.store.ensures.stores.cluster in
+    let o = c.store.ensures.cluster in
+    let number = c.store.ensures.newest.0 in
+    let start : c.if-is_large.start ≡ data_start c.args.is_large =
+    elim c.if-is_large.branch [
+      | then-is_large w ↦ w.start-is ∙ sym (ap data_start w.if-is_large.true)
+      | else-is_large w ↦ w.start-is ∙ sym (ap data_start w.if-is_large.false)
+    ] in
     let has = c.deref.ensures.0 in
     let within : c.place_of-place.result < length c.deref.result.now =
     omega (arith, c.place_of-place.ensures.within, c.self.invariant, ap length has) in
@@ -77,10 +86,20 @@ returns c =
           (steps_inside c.self.inside.queues c.index-deref_mut-place.result [] [] is c.self.view_is lt
           (λ k. c.requires.each (suc (suc (suc k)))) c.requires.owned c.store.ensures.ready c.store.ensures.moves);
       cluster = o;
-      taken = c.store.ensures.stores.taken;
+      taken = c.store.ensures.taken;
       here = ap (λ (l : List SockBufView). datagrams q (queue_at (from_three l) c.args.fd))
           (written c.self.inside.queues bs i y is)
           ∙ ap (datagrams q) (at_three (slice_set bs i y) i c.args.fd c.place_of-place.ensures.value ∙ at_set bs i y lt)
-          ∙ c.store.ensures.stores.datagrams
+          ∙ c.store.ensures.datagrams
           ∙ ap (λ (v : SockBufView). datagrams p v ++ stored_datagram c.args.sender c.args.bytes.now o ∷ []) here;
+      newest = (
+        number,
+        ap (λ (l : List SockBufView). queued_packets q (queue_at (from_three l) c.args.fd).train)
+            (written c.self.inside.queues bs i y is)
+            ∙ ap (λ (v : SockBufView). queued_packets q v.train)
+            (at_three (slice_set bs i y) i c.args.fd c.place_of-place.ensures.value ∙ at_set bs i y lt)
+            ∙ c.store.ensures.newest.1
+            ∙ (λ j. queued_packets p (here j).train
+            ++ stored_packet number c.args.sender c.args.bytes.now (start j) o ∷ []),
+      );
     }

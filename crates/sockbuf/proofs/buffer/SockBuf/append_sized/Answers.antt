@@ -5,8 +5,7 @@ use Rattle.mbuf_chain.specs.Chain.{ChainView, chain_of, string}
 use Rattle.mbuf_chain.specs.Train.{QueuedPacket, queued_packets}
 use Rattle.mbuf_chain.proofs.Laws.Owners.{live_adds, kept_with}
 use Rattle.mbuf_chain.proofs.Laws.Steps.{apart, live_beside, count_new}
-use Rattle.sockbuf.specs.Inside.{Appended}
-use Rattle.sockbuf.specs.SockBuf.{SockBufView, IsSockBuf, chains_of}
+use Rattle.sockbuf.specs.SockBuf.{Appended, SockBufView, IsSockBuf, chains_of}
 use Rattle.sockbuf.proofs.Fronts.{with_bytes, addressed}
 use Rattle.sockbuf.proofs.Queues.{appended, held_beside, apart_beside}
 use Rattle.sockbuf.proofs.buffer.SockBuf.append_sized.Goals as goal

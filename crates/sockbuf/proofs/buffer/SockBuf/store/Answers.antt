@@ -2,12 +2,13 @@ use Rattle.std.proofs.Common.{◌++◌, [], ◌∷◌, length, List, ℕ, Bool, 
 use Rattle.flat_model.specs.Sockets.Fits.{fits}
 use Rattle.flat_model.specs.Machine.State.{Datagram}
 use Rattle.mbuf_chain.proofs.Laws.Owners.{moves_trans}
+use Rattle.sockbuf.specs.SockBuf.{packet_from}
 use Rattle.sockbuf.proofs.Stores.{InHand, in_hand}
 use Rattle.sockbuf.proofs.buffer.SockBuf.store.Goals as goal
 use Rattle.sockbuf.proofs.buffer.SockBuf.store.Goals.{After-one_mbuf-chain, then-is_large, else-is_large}
 
 -- the new chain, before it's appended
-hand : (c : After-one_mbuf-chain) → InHand c.args.pool.now c.args.self.now c.args.bytes.now
+hand : (c : After-one_mbuf-chain) → InHand c.args.pool.now c.args.self.now c.args.bytes.now c.args.start
     c.one_mbuf-chain.ensures.0 c.one_mbuf-chain.new.pool c.one_mbuf-chain.result
 hand c =
     in_hand c.args.bytes.now c.args.start c.one_mbuf-chain.ensures.0 c.requires.ready c.one_mbuf-chain.ensures.2
@@ -34,15 +35,19 @@ append_sized-requires-clause-memory c =
       | else-is_large w ↦ w.memory-is ∙ sym (ap (λ (b : Bool). cond {A = ℕ} b 2176 128) w.if-is_large.false) ∙ is
     ]
 
-pub returns-clause-stores : goal.returns-clause-stores
-returns-clause-stores c =
-    let h = hand (goal.at.returns-clause-stores c).After-one_mbuf-chain in
+pub returns : goal.returns
+returns c =
+    let h = hand (goal.at.returns c).After-one_mbuf-chain in
     record {
       cluster = c.one_mbuf-chain.ensures.0;
       taken = c.one_mbuf-chain.ensures.1;
       datagrams = c.append_sized.ensures.datagrams ∙ (λ i. h.same i ++ h.is c.args.sender i ∷ []);
+      newest = (
+        c.append_sized.ensures.newest.0,
+        c.append_sized.ensures.newest.1
+            ∙ (λ i. h.packets i
+            ++ packet_from c.append_sized.ensures.newest.0 c.args.sender (h.entries i) ∷ []),
+      );
+      ready = c.append_sized.ensures.ready;
+      moves = moves_trans h.moves c.append_sized.ensures.moves;
     }
-
-pub returns-clause-moves : goal.returns-clause-moves
-returns-clause-moves c =
-    moves_trans (hand (goal.at.returns-clause-moves c).After-one_mbuf-chain).moves c.append_sized.ensures.moves
