@@ -2,6 +2,7 @@
 ghost use Rattle.std.specs.Prelude.{◌≡◌, ◌≤◌, [], None, length, true, false, is_some, IfSome};
 ghost use Rattle.flat_model.specs.Amounts.Layout.{need_of, wire};
 ghost use Rattle.flat_model.specs.Machine.Arrival as flat;
+ghost use Rattle.flat_model.specs.Machine.Count.{counted, counts_more};
 ghost use Rattle.flat_model.specs.Packets.Header.{head_fault};
 ghost use Rattle.chain_ops.specs.Stored.{Has};
 ghost use Rattle.ip_out.specs.Headings.{head_in};
@@ -15,7 +16,7 @@ ghost use Rattle.net_stack.specs.Inside.Hosts.{CanStore, HasAsked, PacketArrives
 use crate::host::Host;
 use chain_ops::theorems::stored_layout;
 use chain_ops::{Space, from_wire, space_for, trim_back, wire_need};
-use flat_model::{Counter, Why};
+use flat_model::{Counter, Counters, Why};
 use ip_out::{Headed, IpHead, read_packet};
 use ip_reass::{Arrival, fits_at_once, is_sound};
 use ledger::{are_free, reserve};
@@ -37,6 +38,15 @@ pub(crate) fn is_fragment(head: &IpHead) -> bool
     ensures { result ≡ flat.is_fragment (flat_head head.now) }
 {
     head.more || head.offset > 0
+}
+
+/// Counts a packet that arrived and is dropped for this cause.
+#[inline(always)]
+fn count_dropped(counters: &mut Counters, why: Why)
+    ensures { counters.new ≡ counted why (counts_more Counter.IpTotal 1 counters.old) }
+{
+    counters.count(Counter::IpTotal);
+    counters.count_ended(why);
 }
 
 /// Copies a packet into a new chain. Its buffers must be free.
@@ -129,8 +139,7 @@ impl Host {
             return;
         };
         if let Err(why) = self.process(space, packet) {
-            self.net.counters.count(Counter::IpTotal);
-            self.net.counters.count_ended(why);
+            count_dropped(&mut self.net.counters, why);
         }
     }
 
@@ -170,11 +179,15 @@ impl Host {
         let is_large = match space {
             Space::InMbuf => false,
             Space::InCluster => true,
-            Space::InMore => return self.deliver(headed),
+            Space::InMore => {
+                self.deliver(headed);
+                return Ok(());
+            }
         };
         let head = headed.head();
         if self.socks.is_broadcast(head.dst) {
-            return self.deliver(headed);
+            self.deliver(headed);
+            return Ok(());
         }
         let datagram = read(headed)?;
         self.socks.take(&mut self.pool, is_large, &datagram)?;
@@ -183,22 +196,25 @@ impl Host {
     }
 
     /// Receives a whole datagram for this machine that takes several mbufs or is a broadcast: its data are stored in a
-    /// chain of their own. Its buffers must be free. `Err` is as for `process`.
+    /// chain of their own. Its buffers must be free.
     #[inline(never)]
-    fn deliver(&mut self, headed: Headed<'_>) -> Result<(), Why>
+    fn deliver(&mut self, headed: Headed<'_>)
         requires can { CanStore self.old headed.packet.now }
         requires whole { IsWholeForUs self.old.socks.pcbs headed.packet.now }
-        ensures { IsProcessed self.old headed.entry.packet.now self.new result }
+        ensures { PacketArrives self.old headed.entry.packet.now self.new }
     {
-        let datagram = read(headed)?;
-        self.net.counters.count(Counter::IpTotal);
-        self.socks.deliver(
-            &mut self.pool,
-            &mut self.reass,
-            &mut self.net.counters,
-            &datagram,
-        );
-        Ok(())
+        match read(headed) {
+            Ok(datagram) => {
+                self.net.counters.count(Counter::IpTotal);
+                self.socks.deliver(
+                    &mut self.pool,
+                    &mut self.reass,
+                    &mut self.net.counters,
+                    &datagram,
+                );
+            }
+            Err(why) => count_dropped(&mut self.net.counters, why),
+        }
     }
 
     /// Receives a fragment for this machine for which `fits_at_once` is true: stores it without its header. If it

@@ -4,7 +4,7 @@ use Rattle.std.specs.Prelude.{remove}
 use Rattle.std.proofs.lemmas.Bool.{lt-ltb}
 use Rattle.pcb_table.specs.declared.block.Block.{Block}
 use Rattle.pcb_table.specs.declared.interface.Interface.{Interface}
-use Rattle.pcb_table.specs.Table.{KeepsOpen, OpensOnly, ClosesOnly}
+use Rattle.pcb_table.specs.Table.{Table, KeepsOpen, OpensOnly, ClosesOnly, descriptors}
 use Rattle.pcb_table.specs.Apart.{AreApart}
 use Rattle.pcb_table.specs.Inside.Fields.{IsLocated, IsLowestUnused}
 use Rattle.pcb_table.specs.Inside.Changed.{unbound_block}
@@ -31,10 +31,13 @@ fds_set [] i y d lt same = absurd (omega arith)
 fds_set (b ∷ bs) zero y d lt same = λ i. same i ∷ fds_of bs
 fds_set (b ∷ bs) (suc i) y d lt same = ap (λ fds. b.fd ∷ fds) (fds_set bs i y d (omega arith) same)
 
-pub set_keeps_open : (i : Interface) (bs : List Block) (last later : Option ℕ) (fd index : ℕ) (b y : Block)
-    → IsLocated fd bs index b → y.fd ≡ b.fd → KeepsOpen (table_of i bs last) (table_of i (set bs index y) later)
-set_keeps_open i bs last later fd index b y at same =
-    fds_set bs index y b at.within (same ∙ sym (ap (λ (c : Block). c.fd) (at.is b)))
+-- a block was replaced by one with its descriptor, in the blocks of a table
+pub set_keeps_open : (i : Interface) (bs new : List Block) (last later : Option ℕ) (fd index : ℕ) (b y : Block)
+    (old : Table) → IsLocated fd bs index b → y.fd ≡ b.fd → new ≡ set bs index y → table_of i bs last ≡ old
+    → KeepsOpen old (table_of i new later)
+set_keeps_open i bs new last later fd index b y old at same written is =
+    ap fds_of written ∙ fds_set bs index y b at.within (same ∙ sym (ap (λ (c : Block). c.fd) (at.is b)))
+    ∙ ap descriptors is
 
 pub remove_closes : (i : Interface) (bs : List Block) (last : Option ℕ) (fd index : ℕ) (b : Block) → AreApart bs
     → IsLocated fd bs index b → ClosesOnly (table_of i bs last) fd (table_of i (remove bs index) last)

@@ -1,5 +1,5 @@
 //! Searches of the control blocks, in their order.
-ghost use Rattle.std.specs.Prelude.{◌≡◌, ◌==◌, ◌<◌, ◌≤◌, length, map, find, option_copied, position};
+ghost use Rattle.std.specs.Prelude.{◌≡◌, ◌==◌, ◌<◌, ◌≤◌, [], length, map, find, option_copied, position};
 ghost use Rattle.pcb_table.specs.Inside.Search.{best_block, from_port, receiving_blocks, youngest_block};
 ghost use Rattle.pcb_table.specs.Apart.{has_fd};
 ghost use Rattle.pcb_table.specs.Inside.Fields.{Locates};
@@ -96,20 +96,19 @@ pub(crate) fn exact(blocks: &Blocks, key: LookupKey) -> Option<&Block>
     }
 }
 
-/// The descriptors of the blocks that match the key, the youngest first, up to and including the first one that doesn't
-/// share its port.
-pub(crate) fn receivers(blocks: &[Block], key: LookupKey) -> ArrayVec<u32, SOCKETS>
-    requires { length blocks.now ≤ SOCKETS }
-    ensures { result.items ≡ map (λ b. b.fd) (receiving_blocks key blocks.now) }
+/// Adds the descriptors of the blocks that match the key to `fds`, which must be empty: the youngest first, up to and
+/// including the first one that doesn't share its port.
+pub(crate) fn receivers(blocks: &[Block], key: LookupKey, fds: &mut ArrayVec<u32, SOCKETS>)
+    requires few { length blocks.now ≤ SOCKETS }
+    requires empty { fds.old.items ≡ [] }
+    ensures { fds.new.items ≡ map (λ b. b.fd) (receiving_blocks key blocks.now) }
 {
-    let mut fds = ArrayVec::new();
     for block in blocks {
         if block.matches(&key) {
             fds.push(block.fd);
             if !block.reuse_port {
-                return fds;
+                return;
             }
         }
     }
-    fds
 }

@@ -172,19 +172,26 @@ impl Pcbs {
         }
     }
 
-    /// The sockets that receive a broadcast (volume 2 chapter 23; the use of SO_REUSEPORT is this project's own): the
-    /// blocks that match its four values, the youngest first, up to and including the first one without the reuse-port
-    /// option.
-    pub fn receivers(&self, destination: u32, port: u16, source: Addr) -> ArrayVec<u32, SOCKETS>
-        ensures found { FindsAll (flat.receivers (packet_key destination port source)) self.now result.items }
-        ensures range { All IsDescriptor result.items }
+    /// Adds the sockets that receive a broadcast to `matching`, which must be empty (volume 2 chapter 23; the use of
+    /// SO_REUSEPORT is this project's own): the blocks that match its four values, the youngest first, up to and
+    /// including the first one without the reuse-port option.
+    pub fn receivers(
+        &self,
+        destination: u32,
+        port: u16,
+        source: Addr,
+        matching: &mut ArrayVec<u32, SOCKETS>,
+    )
+        requires { matching.old.items ≡ [] }
+        ensures found { FindsAll (flat.receivers (packet_key destination port source)) self.now matching.new.items }
+        ensures range { All IsDescriptor matching.new.items }
     {
         let key = LookupKey {
             local: Some(destination),
             port: Some(port),
             peer: Some(source),
         };
-        receivers(self.blocks.as_slice(), key)
+        receivers(self.blocks.as_slice(), key, matching);
     }
 
     /// The ephemeral port, 1024 to 5000, that a bind to 0.0.0.0 and port 0 would choose now (volume 2 section 22.7).

@@ -54,22 +54,6 @@ fn examine(pool: &Pool, chain: &Chain, src: u32, dst: u32) -> Result<Header, Why
     Ok(header)
 }
 
-/// Replaces the contents of `matching` by the sockets that match a broadcast.
-// Never inlined: `receivers` returns a whole array, which its caller would have to make space for at each call.
-#[inline(never)]
-fn find_all(
-    pcbs: &Pcbs,
-    destination: u32,
-    port: u16,
-    source: Addr,
-    matching: &mut ArrayVec<u32, SOCKETS>,
-)
-    requires { is_to_all pcbs.now destination ≡ true }
-    ensures { AreMatching pcbs.now destination (packet_key destination port source) matching.new.items }
-{
-    *matching = pcbs.receivers(destination, port, source);
-}
-
 /// Adds the sockets that match a datagram to `matching`, which must be empty: for a broadcast all of them, otherwise
 /// the best match.
 pub(crate) fn find_matching(
@@ -84,7 +68,7 @@ pub(crate) fn find_matching(
     ensures blocks { pcbs.new ≡ pcbs.old }
 {
     if is_broadcast(pcbs, destination) {
-        find_all(pcbs, destination, port, source, matching);
+        pcbs.receivers(destination, port, source, matching);
         return;
     }
     if let Some(fd) = pcbs.lookup(destination, port, source) {

@@ -1,25 +1,24 @@
 use Rattle.std.proofs.Common.{◌≤◌, ℕ, List, length, refl, sym, subst}
-use Rattle.std.proofs.lemmas.Result.{err_from_is_err_and}
 use Rattle.flat_model.specs.Amounts.Layout.{wire}
 use Rattle.chain_ops.specs.Stored.{Has}
 use Rattle.sock_calls.specs.Delivery.{NetView}
 use Rattle.sock_calls.specs.Whole.{DeliversWhole}
 use Rattle.sock_calls.proofs.Laws.{refused}
 use Rattle.net_stack.proofs.Aside.{net_seen}
-use Rattle.net_stack.proofs.InPlace.{came_delivered, whole_ends}
+use Rattle.net_stack.proofs.InPlace.{came_delivered, ended, whole_ends}
 use Rattle.net_stack.proofs.host.Host.deliver.Goals as goal
 
 pub deliver-requires-clause-most : goal.deliver-requires-clause-most
 deliver-requires-clause-most c =
-    subst (λ (xs : List ℕ). length xs ≤ 65535) (sym c.in_ok-datagram.ensures.packet) c.requires.can.most
+    subst (λ (xs : List ℕ). length xs ≤ 65535) (sym c.in-Ok.ensures.packet) c.requires.can.most
 
 pub deliver-requires-clause-free : goal.deliver-requires-clause-free
 deliver-requires-clause-free c =
-    subst (λ (xs : List ℕ). Has c.args.self.now.pool (wire (length xs))) (sym c.in_ok-datagram.ensures.packet)
+    subst (λ (xs : List ℕ). Has c.args.self.now.pool (wire (length xs))) (sym c.in-Ok.ensures.packet)
     c.requires.can.free
 
-pub returns : goal.returns
-returns c =
+pub returns-in-Ok : goal.returns-in-Ok
+returns-in-Ok c =
     let u = c.args.self.now in
     let d = c.deliver.new in
     let now : NetView = net_seen d.pool d.self d.waiting d.counters in
@@ -27,20 +26,21 @@ returns c =
       does = came_delivered u.pool u.socks u.reass u.net.counters c.count.ensures c.requires.can.free
           c.args.headed.is_headed.faultless (λ rest. c.requires.whole.ours) c.requires.whole.whole
           (subst (λ (xs : List ℕ). DeliversWhole (net_seen u.pool u.socks u.reass c.count.new.self) xs now)
-          c.in_ok-datagram.ensures.packet c.deliver.ensures.delivered);
+          c.in-Ok.ensures.packet c.deliver.ensures.delivered);
       reass = c.deliver.ensures.waits;
       output = refl;
     }
 
-pub returns-in_err-datagram : goal.returns-in_err-datagram
-returns-in_err-datagram c =
-    let p = err_from_is_err_and c.from_residual.result c.from_residual.ensures.1 in
+pub returns-in-Err : goal.returns-in-Err
+returns-in-Err c =
     let u = c.args.self.now in
     let packet : List ℕ = c.args.headed.packet.now in
-    let why = c.in_err-datagram.field-0.0 in
-    rw (p.1, p.2) (
-      refl,
-      whole_ends u.pool u.socks u.reass u.net.counters packet why c.args.headed.is_headed.faultless
+    let fit = c.requires.can.fit in
+    record {
+      does = ended {a = u.net.counters} packet c.in-Err.why fit.socks fit.reass fit.owned c.requires.can.free
+          (whole_ends u.pool u.socks u.reass u.net.counters packet c.in-Err.why c.args.headed.is_headed.faultless
           (λ rest. c.requires.whole.ours) c.requires.whole.whole
-          (refused u.pool u.socks packet why c.in_err-datagram.ensures.err),
-    )
+          (refused u.pool u.socks packet c.in-Err.why c.in-Err.ensures.err)) refl c.count_dropped.ensures;
+      reass = fit.reass;
+      output = refl;
+    }

@@ -1,5 +1,5 @@
 use Rattle.std.proofs.Common.{◌≡◌, [], ◌++◌, refl, sym, ap, subst, ◌∙◌}
-use Rattle.flat_model.specs.Machine.Count.{counts_more}
+use Rattle.flat_model.specs.Machine.Count.{counted, counts_more}
 use Rattle.flat_model.specs.declared.counter.Counter.TheVariants.{IpTotal}
 use Rattle.mbuf_chain.specs.Owners.{IsOwned}
 use Rattle.mbuf_chain.proofs.Laws.Owners.{owned_after}
@@ -69,13 +69,13 @@ returns-in-Err c =
     let at = (goal.at.returns-in-Err c).In-Some in
     let u = c.make_space.new.self in
     let after : Host → Host =
-    λ (k : Host). record k { net = record (k.net) { counters = c.count_ended-in-Err.new.self } } in
+    λ (k : Host). record k { net = record (k.net) { counters = c.count_dropped.new.counters } } in
     let same : c.process.new.self ≡ u = c.in-Err.ensures.0 in
     comes at (after c.process.new.self)
     (subst (λ (k : Host). PacketArrives u c.args.packet.now (after k)) (sym same) (record {
       does = ended {a = u.net.counters} c.args.packet.now c.in-Err.why (fit at).socks (fit at).reass (fit at).owned
-          c.in-Some.ensures.free c.in-Err.ensures.1
-          (c.count.ensures ∙ ap (λ (k : Host). counts_more IpTotal 1 k.net.counters) same) c.count_ended-in-Err.ensures;
+          c.in-Some.ensures.free c.in-Err.ensures.1 refl (c.count_dropped.ensures
+          ∙ ap (λ (k : Host). counted c.in-Err.why (counts_more IpTotal 1 k.net.counters)) same);
       reass = (fit at).reass;
       output = refl;
     }))

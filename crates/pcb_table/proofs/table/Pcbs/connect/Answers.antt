@@ -57,12 +57,10 @@ opens : (c : After-set_block) → KeepsOpen
     (table_of c.self.inside.interface c.self.inside.blocks c.self.inside.last_port)
     (table_of c.self.inside.interface c.set_block.new.self c.self.inside.last_port)
 opens c =
-    let i = c.self.inside.interface in
-    let last = c.self.inside.last_port in
     let b = c.in-Some.at.block in
-    subst (λ (cs : List Block). KeepsOpen (table_of i c.self.inside.blocks last) (table_of i cs last)) (sym (gone c))
-    (set_keeps_open i c.self.inside.blocks last last c.args.fd c.in-Some.at.index b (disconnected_block b)
-    c.in-Some.ensures (disconnected_fd b))
+    set_keeps_open c.self.inside.interface c.self.inside.blocks c.set_block.new.self c.self.inside.last_port
+    c.self.inside.last_port c.args.fd c.in-Some.at.index b (disconnected_block b) _ c.in-Some.ensures
+    (disconnected_fd b) (gone c) refl
 
 -- ---- and then connected
 source_is : (c : After-set_block-2) → c.source-source.result
@@ -156,15 +154,13 @@ returns-in-Some-destination_fault-clause-descriptors c =
 pub returns-clause-descriptors : goal.returns-clause-descriptors
 returns-clause-descriptors c =
     let at = goal.at.returns-clause-descriptors c in
-    let i = c.self.inside.interface in
     let later = c.port_for-chosen.result.last in
     let me : Block = disconnected_block c.in-Some.at.block in
-    let left = c.set_block.new.self in
-    let then : KeepsOpen (table_of i left c.self.inside.last_port) (table_of i c.set_block-2.new.self later) =
-    subst (λ (cs : List Block). KeepsOpen (table_of i left c.self.inside.last_port) (table_of i cs later))
-    (sym (written at.After-set_block-2))
-    (set_keeps_open i left c.self.inside.last_port later c.args.fd c.in-Some.at.index me
-    (connected_block c.source-source.result c.port_for-chosen.result.port
-    (read_addr (interface_config i) c.args.address) me) (there at.After-set_block) refl) in
-    subst (λ (t : Table). KeepsOpen t (table_of i c.set_block-2.new.self later)) c.self.view_is
+    let new = c.set_block-2.new.self in
+    let then =
+    set_keeps_open c.self.inside.interface c.set_block.new.self new c.self.inside.last_port later c.args.fd
+    c.in-Some.at.index me (connected_block c.source-source.result c.port_for-chosen.result.port
+    (read_addr (interface_config c.self.inside.interface) c.args.address) me) _ (there at.After-set_block) refl
+    (written at.After-set_block-2) refl in
+    subst (λ (t : Table). KeepsOpen t (table_of c.self.inside.interface new later)) c.self.view_is
     (then ∙ opens at.After-set_block)
