@@ -1,5 +1,5 @@
 //! Slots of chains over a pool, whose calls are made by script lines.
-ghost use Rattle.std.specs.Prelude.{◌≡◌, ◌≤◌, ◌<◌, ◌*◌, ◌++◌, ℕ, List, Some, Err, length, IfOk, ◌↔◌, replicate, None, []};
+ghost use Rattle.std.specs.Prelude.{◌≡◌, ◌≤◌, ◌*◌, ◌++◌, ℕ, List, Err, length, IfOk, ◌↔◌, replicate, None, []};
 ghost use Rattle.arrayvec.specs.ArrayVec.{array_vec_len};
 ghost use Rattle.mbuf_pool.specs.Store.{IsBad};
 ghost use Rattle.mbuf_pool.specs.declared.fault.BootFault.TheVariants as boot_fault;
@@ -7,11 +7,12 @@ ghost use Rattle.mbuf_chain.specs.Owners.{IsAll};
 ghost use Rattle.params.specs.declared.TheConstants.{IP_MAX_PACKET};
 ghost use Rattle.chain_script.specs.declared.caller.TheConstants.{SLOTS};
 ghost use Rattle.chain_script.specs.Inside.Calls.{request_of, IsSlotCall};
+ghost use Rattle.chain_script.specs.Inside.Needs.{AreSlots, HasSlot, Replies};
 ghost use Rattle.chain_script.specs.Inside.Slots.{machine_of, slot_numbers, FitsSlots};
 ghost use Rattle.chain_script.specs.Drawings.{drawing};
 ghost use Rattle.chain_script.specs.Lines.{Read_out};
 ghost use Rattle.chain_script.specs.Machines.{Machine, booted};
-ghost use Rattle.chain_script.specs.Steps.{ChainReply, ChainStep, Says, chain_answer_text};
+ghost use Rattle.chain_script.specs.Steps.{Says};
 
 use crate::calls::{
     adj, copyback, copydata, copym, free, join_slots, prepend, pullup, split, user, wire,
@@ -43,16 +44,14 @@ fn read_out(
     len: usize,
     text: &mut Buffer<TEXT>,
 )
-    requires slot { slot < length chains.now }
-    requires fits { FitsSlots pool.now chains.now }
+    requires slot { HasSlot pool.now chains.now slot }
     requires bytes { length bytes.old ≡ IP_MAX_PACKET }
     requires digits { length digits.old ≡ 2 * IP_MAX_PACKET }
     requires off { off ≤ IP_MAX_PACKET }
     requires len { len ≤ IP_MAX_PACKET }
     requires text { length text.old ≤ HELD }
-    ensures { (reply : ChainReply)
-        × ChainStep (machine_of pool.now chains.now) (Read_out slot off len) reply (machine_of pool.now chains.now)
-        × (text.new ≡ text.old ++ chain_answer_text (Some reply)) }
+    ensures { Replies (machine_of pool.now chains.now) (Read_out slot off len) text.old
+        (machine_of pool.now chains.now) text.new }
 {
     let to = &mut bytes[..len];
     let outcome = copydata(pool, chains, slot, off, to);
@@ -67,16 +66,12 @@ fn make_call(
     call: Call,
     text: &mut Buffer<TEXT>,
 )
-    requires slots { length chains.old ≡ SLOTS }
-    requires fits { FitsSlots pool.old chains.old }
+    requires slots { AreSlots pool.old chains.old }
     requires call { IsSlotCall call }
     requires text { length text.old ≤ HELD }
-    ensures fits { FitsSlots pool.new chains.new }
-    ensures slots { length chains.new ≡ SLOTS }
-    ensures step { (reply : ChainReply)
-        × ChainStep (machine_of pool.old chains.old) (request_of call buffers.old.bytes.items) reply
-        (machine_of pool.new chains.new)
-        × (text.new ≡ text.old ++ chain_answer_text (Some reply)) }
+    ensures slots { AreSlots pool.new chains.new }
+    ensures step { Replies (machine_of pool.old chains.old) (request_of call buffers.old.bytes.items) text.old
+        (machine_of pool.new chains.new) text.new }
 {
     let bytes = buffers.bytes.as_slice();
     match call {
@@ -128,11 +123,9 @@ fn put_answer(
     line: &[u8],
     text: &mut Buffer<TEXT>,
 )
-    requires slots { length chains.old ≡ SLOTS }
-    requires fits { FitsSlots pool.old chains.old }
+    requires slots { AreSlots pool.old chains.old }
     requires text { length text.old ≤ HELD }
-    ensures fits { FitsSlots pool.new chains.new }
-    ensures slots { length chains.new ≡ SLOTS }
+    ensures slots { AreSlots pool.new chains.new }
     ensures says { (reply : List ℕ)
         × Says (machine_of pool.old chains.old) line.now reply (machine_of pool.new chains.new)
         × (text.new ≡ text.old ++ reply) }

@@ -6,8 +6,9 @@ ghost use Rattle.chain_ops.specs.Joins.{cat};
 ghost use Rattle.chain_script.specs.Lines.{User, Wire, Copy, Prepend, Pull_up, Adjust, Split, Join, Write_over, Read_out, Free};
 ghost use Rattle.chain_script.specs.Machines.{is_range};
 ghost use Rattle.chain_script.specs.Steps.{ChainStep};
-ghost use Rattle.chain_script.specs.Inside.Replies.{chain_done_reply, held_reply};
-ghost use Rattle.chain_script.specs.Inside.Slots.{machine_of, FitsSlots};
+ghost use Rattle.chain_script.specs.Inside.Needs.{HasSlot, HasSlots, HasOutcome};
+ghost use Rattle.chain_script.specs.Inside.Replies.{held_reply};
+ghost use Rattle.chain_script.specs.Inside.Slots.{machine_of};
 
 use crate::fault::Fault;
 use crate::slots::{put, take};
@@ -25,13 +26,9 @@ pub(crate) fn user(
     slot: usize,
     bytes: &[u8],
 ) -> Result<(), Fault>
-    requires slot { slot < length chains.old }
-    requires fits { FitsSlots pool.old chains.old }
+    requires slot { HasSlot pool.old chains.old slot }
     requires bytes { length bytes.now ≤ IP_MAX_PACKET }
-    ensures fits { FitsSlots pool.new chains.new }
-    ensures len { length chains.new ≡ length chains.old }
-    ensures step { ChainStep (machine_of pool.old chains.old) (User slot bytes.now) (chain_done_reply result)
-        (machine_of pool.new chains.new) }
+    ensures { HasOutcome pool.old chains.old (User slot bytes.now) result pool.new chains.new }
 {
     let None = &chains[slot] else {
         return Err(Fault::Chain);
@@ -59,12 +56,8 @@ pub(crate) fn prepend(
     slot: usize,
     bytes: &[u8],
 ) -> Result<(), Fault>
-    requires slot { slot < length chains.old }
-    requires fits { FitsSlots pool.old chains.old }
-    ensures fits { FitsSlots pool.new chains.new }
-    ensures len { length chains.new ≡ length chains.old }
-    ensures step { ChainStep (machine_of pool.old chains.old) (Prepend slot bytes.now) (chain_done_reply result)
-        (machine_of pool.new chains.new) }
+    requires { HasSlot pool.old chains.old slot }
+    ensures { HasOutcome pool.old chains.old (Prepend slot bytes.now) result pool.new chains.new }
 {
     let Some(chain) = &mut chains[slot] else {
         return Err(Fault::Chain);
@@ -85,12 +78,8 @@ pub(crate) fn adj(
     slot: usize,
     n: i32,
 ) -> Result<(), Fault>
-    requires slot { slot < length chains.old }
-    requires fits { FitsSlots pool.old chains.old }
-    ensures fits { FitsSlots pool.new chains.new }
-    ensures len { length chains.new ≡ length chains.old }
-    ensures step { ChainStep (machine_of pool.old chains.old) (Adjust slot n) (chain_done_reply result)
-        (machine_of pool.new chains.new) }
+    requires { HasSlot pool.old chains.old slot }
+    ensures { HasOutcome pool.old chains.old (Adjust slot n) result pool.new chains.new }
 {
     let Some(chain) = &chains[slot] else {
         return Err(Fault::Chain);
@@ -101,12 +90,8 @@ pub(crate) fn adj(
 
 /// Frees a chain.
 pub(crate) fn free(pool: &mut Pool, chains: &mut [Option<Chain>], slot: usize) -> Result<(), Fault>
-    requires slot { slot < length chains.old }
-    requires fits { FitsSlots pool.old chains.old }
-    ensures fits { FitsSlots pool.new chains.new }
-    ensures len { length chains.new ≡ length chains.old }
-    ensures step { ChainStep (machine_of pool.old chains.old) (Free slot) (chain_done_reply result)
-        (machine_of pool.new chains.new) }
+    requires { HasSlot pool.old chains.old slot }
+    ensures { HasOutcome pool.old chains.old (Free slot) result pool.new chains.new }
 {
     let Some(_) = &chains[slot] else {
         return Err(Fault::Chain);
@@ -123,13 +108,9 @@ pub(crate) fn wire(
     slot: usize,
     bytes: &[u8],
 ) -> Result<(), Fault>
-    requires slot { slot < length chains.old }
+    requires slot { HasSlot pool.old chains.old slot }
     requires bytes { length bytes.now ≤ IP_MAX_PACKET }
-    requires fits { FitsSlots pool.old chains.old }
-    ensures fits { FitsSlots pool.new chains.new }
-    ensures len { length chains.new ≡ length chains.old }
-    ensures step { ChainStep (machine_of pool.old chains.old) (Wire slot bytes.now) (chain_done_reply result)
-        (machine_of pool.new chains.new) }
+    ensures { HasOutcome pool.old chains.old (Wire slot bytes.now) result pool.new chains.new }
 {
     let None = &chains[slot] else {
         return Err(Fault::Chain);
@@ -161,13 +142,8 @@ pub(crate) fn copym(
     slot: usize,
     extent: Extent,
 ) -> Result<(), Fault>
-    requires to { to < length chains.old }
-    requires slot { slot < length chains.old }
-    requires fits { FitsSlots pool.old chains.old }
-    ensures fits { FitsSlots pool.new chains.new }
-    ensures len { length chains.new ≡ length chains.old }
-    ensures step { ChainStep (machine_of pool.old chains.old) (Copy to slot extent) (chain_done_reply result)
-        (machine_of pool.new chains.new) }
+    requires { HasSlots pool.old chains.old slot to }
+    ensures { HasOutcome pool.old chains.old (Copy to slot extent) result pool.new chains.new }
 {
     let Some(chain) = &chains[slot] else {
         return Err(Fault::Chain);
@@ -194,12 +170,8 @@ pub(crate) fn pullup(
     slot: usize,
     n: u32,
 ) -> Result<(), Fault>
-    requires slot { slot < length chains.old }
-    requires fits { FitsSlots pool.old chains.old }
-    ensures fits { FitsSlots pool.new chains.new }
-    ensures len { length chains.new ≡ length chains.old }
-    ensures step { ChainStep (machine_of pool.old chains.old) (Pull_up slot n) (chain_done_reply result)
-        (machine_of pool.new chains.new) }
+    requires { HasSlot pool.old chains.old slot }
+    ensures { HasOutcome pool.old chains.old (Pull_up slot n) result pool.new chains.new }
 {
     let Some(chain) = &mut chains[slot] else {
         return Err(Fault::Chain);
@@ -220,13 +192,8 @@ pub(crate) fn split(
     slot: usize,
     at: u32,
 ) -> Result<(), Fault>
-    requires to { to < length chains.old }
-    requires slot { slot < length chains.old }
-    requires fits { FitsSlots pool.old chains.old }
-    ensures fits { FitsSlots pool.new chains.new }
-    ensures len { length chains.new ≡ length chains.old }
-    ensures step { ChainStep (machine_of pool.old chains.old) (Split to slot at) (chain_done_reply result)
-        (machine_of pool.new chains.new) }
+    requires { HasSlots pool.old chains.old slot to }
+    ensures { HasOutcome pool.old chains.old (Split to slot at) result pool.new chains.new }
 {
     let Some(chain) = &chains[slot] else {
         return Err(Fault::Chain);
@@ -268,13 +235,8 @@ pub(crate) fn join_slots(
     slot: usize,
     other: usize,
 ) -> Result<(), Fault>
-    requires slot { slot < length chains.old }
-    requires other { other < length chains.old }
-    requires fits { FitsSlots pool.old chains.old }
-    ensures fits { FitsSlots pool.new chains.new }
-    ensures len { length chains.new ≡ length chains.old }
-    ensures step { ChainStep (machine_of pool.old chains.old) (Join slot other) (chain_done_reply result)
-        (machine_of pool.new chains.new) }
+    requires { HasSlots pool.old chains.old slot other }
+    ensures { HasOutcome pool.old chains.old (Join slot other) result pool.new chains.new }
 {
     if slot == other {
         return Err(Fault::Chain);
@@ -301,14 +263,10 @@ pub(crate) fn copyback(
     off: u32,
     bytes: &[u8],
 ) -> Result<(), Fault>
-    requires slot { slot < length chains.old }
+    requires slot { HasSlot pool.old chains.old slot }
     requires off { off ≤ IP_MAX_PACKET }
     requires bytes { length bytes.now ≤ IP_MAX_PACKET }
-    requires fits { FitsSlots pool.old chains.old }
-    ensures fits { FitsSlots pool.new chains.new }
-    ensures len { length chains.new ≡ length chains.old }
-    ensures step { ChainStep (machine_of pool.old chains.old) (Write_over slot off bytes.now) (chain_done_reply result)
-        (machine_of pool.new chains.new) }
+    ensures { HasOutcome pool.old chains.old (Write_over slot off bytes.now) result pool.new chains.new }
 {
     let Some(chain) = &chains[slot] else {
         return Err(Fault::Chain);
@@ -334,10 +292,9 @@ pub(crate) fn copydata(
     off: u32,
     to: &mut [u8],
 ) -> Result<(), Fault>
-    requires slot { slot < length chains.now }
+    requires slot { HasSlot pool.now chains.now slot }
     requires off { off ≤ IP_MAX_PACKET }
     requires to { length to.old ≤ IP_MAX_PACKET }
-    requires fits { FitsSlots pool.now chains.now }
     ensures { ChainStep (machine_of pool.now chains.now) (Read_out slot off (length to.old)) (held_reply result to.new)
         (machine_of pool.now chains.now) }
 {

@@ -2,7 +2,8 @@
 ghost use Rattle.std.specs.Prelude.{◌≡◌, ℕ, ◌+◌, ◌*◌, ◌<◌, ◌≤◌, ◌++◌, length, flat_map, Some};
 ghost use Rattle.mbuf_chain.specs.Chain.{IsLive, chain_of, references, string};
 ghost use Rattle.chain_script.specs.Lines.{Show, Ask_usage};
-ghost use Rattle.chain_script.specs.Steps.{ChainReply, Layout_shown, ChainStep, chain_answer_text, shape_text, shapes_of, count_in};
+ghost use Rattle.chain_script.specs.Steps.{Layout_shown, chain_answer_text, shape_text, shapes_of, count_in};
+ghost use Rattle.chain_script.specs.Inside.Needs.{HasSlot, Replies};
 ghost use Rattle.chain_script.specs.Inside.Slots.{machine_of, FitsSlots};
 
 use crate::fault::Fault;
@@ -57,12 +58,9 @@ fn put_layout(text: &mut Buffer<TEXT>, pool: &Pool, chain: &Chain)
 
 /// Appends the layout of a slot's chain.
 pub(crate) fn show(pool: &Pool, chains: &[Option<Chain>], slot: usize, text: &mut Buffer<TEXT>)
-    requires slot { slot < length chains.now }
-    requires fits { FitsSlots pool.now chains.now }
+    requires slot { HasSlot pool.now chains.now slot }
     requires text { length text.old ≤ HELD }
-    ensures { (reply : ChainReply) × ChainStep (machine_of pool.now chains.now) (Show slot) reply
-        (machine_of pool.now chains.now)
-        × (text.new ≡ text.old ++ chain_answer_text (Some reply)) }
+    ensures { Replies (machine_of pool.now chains.now) (Show slot) text.old (machine_of pool.now chains.now) text.new }
 {
     match &chains[slot] {
         Some(chain) => put_layout(text, pool, chain),
@@ -74,9 +72,7 @@ pub(crate) fn show(pool: &Pool, chains: &[Option<Chain>], slot: usize, text: &mu
 pub(crate) fn usage(pool: &Pool, chains: &[Option<Chain>], text: &mut Buffer<TEXT>)
     requires fits { FitsSlots pool.now chains.now }
     requires text { length text.old ≤ HELD }
-    ensures { (reply : ChainReply) × ChainStep (machine_of pool.now chains.now) Ask_usage reply
-        (machine_of pool.now chains.now)
-        × (text.new ≡ text.old ++ chain_answer_text (Some reply)) }
+    ensures { Replies (machine_of pool.now chains.now) Ask_usage text.old (machine_of pool.now chains.now) text.new }
 {
     put_usage(text, pool.usage());
 }

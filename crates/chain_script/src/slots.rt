@@ -1,5 +1,6 @@
 //! Slots that hold a chain or are empty.
 ghost use Rattle.std.specs.Prelude.{◌≡◌, ◌<◌, ℕ, Some, None, [], length, slice_set, slice_index_or};
+ghost use Rattle.chain_script.specs.Inside.Needs.{HasSlot};
 ghost use Rattle.chain_script.specs.Inside.Slots.{slot_numbers, FitsSlots};
 
 use mbuf_chain::{Chain, Pool};
@@ -32,8 +33,7 @@ pub(crate) fn take(chains: &mut [Option<Chain>], slot: usize) -> Chain
 
 /// Frees the chain of a slot, if it has one.
 fn free_slot(pool: &mut Pool, chains: &mut [Option<Chain>], slot: usize)
-    requires within { slot < length chains.old }
-    requires fits { FitsSlots pool.old chains.old }
+    requires { HasSlot pool.old chains.old slot }
     ensures fits { FitsSlots pool.new chains.new }
     ensures after { chains.new ≡ slice_set chains.old slot None }
 {

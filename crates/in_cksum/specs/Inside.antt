@@ -1,7 +1,8 @@
 -- Sums of words in memory order, low half first (this project's own; RFC 1071 section 2 gives the reason why they can
 -- be used: if the bytes of each word are swapped, the bytes of the folded sum are swapped).
-use Rattle.std.specs.Prelude.{◌≡◌, ℕ, ◌+◌, ◌-◌, ◌*◌, ◌%◌, ◌<◌, ◌⊎◌, List, [], ◌∷◌, length}
+use Rattle.std.specs.Prelude.{◌≡◌, ℕ, ◌+◌, ◌-◌, ◌*◌, ◌%◌, ◌^◌, ◌<◌, ◌≤◌, ◌⊎◌, List, [], ◌∷◌, length}
 use Rattle.std.specs.Simd.Lanes.{zip2, sum_l}
+use Rattle.flat_model.specs.Packets.Checksum.{fold16}
 
 -- the sum of the little-endian words of 16 bits; an odd last byte is the low half of a word
 abbrev pub swapped_sum : List ℕ → ℕ
@@ -24,6 +25,16 @@ pub record CountsAs (value total : ℕ) : Type 0 where
   pub often : ℕ
   pub value_is : value ≡ once + 65536 * often
   pub total_is : total ≡ once + often
+
+-- a number of 64 bits, and a carry that can be added to it
+pub record CanCarry (n k : ℕ) : Type 0 where
+  pub carry : k ≤ 1
+  pub room : n + k < 2 ^ 64
+
+-- the words of the bytes were added to the sum, up to what the fold makes equal
+pub record AddsWords (sum : ℕ) (bytes : List ℕ) (low carry : ℕ) : Type 0 where
+  pub folded : fold16 (low + carry) ≡ fold16 (sum + swapped_sum bytes)
+  pub fits : CanCarry low carry
 
 -- the bytes that were removed from the list are added to the sum
 pub record IsAdded (sum : ℕ) (bytes : List ℕ) (new : ℕ) (after : List ℕ) : Type 0 where

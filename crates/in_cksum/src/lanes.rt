@@ -1,7 +1,7 @@
 //! The sum of one part of the bytes, as words in memory order: whole blocks by SIMD lanes.
 ghost use Rattle.std.specs.Prelude.{◌≡◌, ◌+◌, ◌*◌, ◌<◌, ◌≤◌, ◌^◌, length};
 ghost use Rattle.flat_model.specs.Packets.Checksum.{fold16};
-ghost use Rattle.in_cksum.specs.Inside.{lanes_total, swapped_sum};
+ghost use Rattle.in_cksum.specs.Inside.{AddsWords, CanCarry, lanes_total, swapped_sum};
 
 use crate::sum_rest;
 use std::simd::prelude::*;
@@ -69,11 +69,9 @@ fn sum_lanes(all: u32x8, high: u32x8) -> u32
 // In this form, the compiler makes it one instruction.
 #[inline(always)]
 fn add_carrying(a: u64, b: u64, carry: u64) -> (u64, u64)
-    requires carry { carry ≤ 1 }
-    requires room { a + carry < 2 ^ 64 }
+    requires { CanCarry a carry }
     ensures sum { result.0 + 2 ^ 64 * result.1 ≡ a + b + carry }
-    ensures carry { result.1 ≤ 1 }
-    ensures room { result.0 + result.1 < 2 ^ 64 }
+    ensures fits { CanCarry result.0 result.1 }
 {
     let part = a.wrapping_add(b);
     let sum = part.wrapping_add(carry);
@@ -84,11 +82,8 @@ fn add_carrying(a: u64, b: u64, carry: u64) -> (u64, u64)
 #[inline(always)]
 fn add_number(sum: u64, carry: u64, bytes: &[u8]) -> (u64, u64)
     requires long { length bytes.now ≡ 8 }
-    requires carry { carry ≤ 1 }
-    requires room { sum + carry < 2 ^ 64 }
-    ensures folded { fold16 (result.0 + result.1) ≡ fold16 (sum + carry + swapped_sum bytes.now) }
-    ensures carry { result.1 ≤ 1 }
-    ensures room { result.0 + result.1 < 2 ^ 64 }
+    requires fits { CanCarry sum carry }
+    ensures { AddsWords (sum + carry) bytes.now result.0 result.1 }
 {
     match bytes {
         [a, b, c, d, e, f, g, h, ..] => {
@@ -103,11 +98,8 @@ fn add_number(sum: u64, carry: u64, bytes: &[u8]) -> (u64, u64)
 #[inline(always)]
 fn add_two_numbers(sum: u64, carry: u64, bytes: &[u8]) -> (u64, u64)
     requires long { length bytes.now ≡ 16 }
-    requires carry { carry ≤ 1 }
-    requires room { sum + carry < 2 ^ 64 }
-    ensures folded { fold16 (result.0 + result.1) ≡ fold16 (sum + carry + swapped_sum bytes.now) }
-    ensures carry { result.1 ≤ 1 }
-    ensures room { result.0 + result.1 < 2 ^ 64 }
+    requires fits { CanCarry sum carry }
+    ensures { AddsWords (sum + carry) bytes.now result.0 result.1 }
 {
     let (first, second) = bytes.split_at(8);
     let (sum, carry) = add_number(sum, carry, first);
@@ -118,11 +110,8 @@ fn add_two_numbers(sum: u64, carry: u64, bytes: &[u8]) -> (u64, u64)
 #[inline(always)]
 fn add_four_numbers(sum: u64, carry: u64, bytes: &[u8]) -> (u64, u64)
     requires long { length bytes.now ≡ 32 }
-    requires carry { carry ≤ 1 }
-    requires room { sum + carry < 2 ^ 64 }
-    ensures folded { fold16 (result.0 + result.1) ≡ fold16 (sum + carry + swapped_sum bytes.now) }
-    ensures carry { result.1 ≤ 1 }
-    ensures room { result.0 + result.1 < 2 ^ 64 }
+    requires fits { CanCarry sum carry }
+    ensures { AddsWords (sum + carry) bytes.now result.0 result.1 }
 {
     let (first, second) = bytes.split_at(16);
     let (sum, carry) = add_two_numbers(sum, carry, first);
@@ -133,11 +122,8 @@ fn add_four_numbers(sum: u64, carry: u64, bytes: &[u8]) -> (u64, u64)
 #[inline(always)]
 fn add_eight_numbers(sum: u64, carry: u64, bytes: &[u8]) -> (u64, u64)
     requires long { length bytes.now ≡ 64 }
-    requires carry { carry ≤ 1 }
-    requires room { sum + carry < 2 ^ 64 }
-    ensures folded { fold16 (result.0 + result.1) ≡ fold16 (sum + carry + swapped_sum bytes.now) }
-    ensures carry { result.1 ≤ 1 }
-    ensures room { result.0 + result.1 < 2 ^ 64 }
+    requires fits { CanCarry sum carry }
+    ensures { AddsWords (sum + carry) bytes.now result.0 result.1 }
 {
     let (first, second) = bytes.split_at(32);
     let (sum, carry) = add_four_numbers(sum, carry, first);
@@ -148,11 +134,8 @@ fn add_eight_numbers(sum: u64, carry: u64, bytes: &[u8]) -> (u64, u64)
 #[inline(always)]
 fn add_sixteen_numbers(sum: u64, carry: u64, bytes: &[u8]) -> (u64, u64)
     requires long { length bytes.now ≡ 128 }
-    requires carry { carry ≤ 1 }
-    requires room { sum + carry < 2 ^ 64 }
-    ensures folded { fold16 (result.0 + result.1) ≡ fold16 (sum + carry + swapped_sum bytes.now) }
-    ensures carry { result.1 ≤ 1 }
-    ensures room { result.0 + result.1 < 2 ^ 64 }
+    requires fits { CanCarry sum carry }
+    ensures { AddsWords (sum + carry) bytes.now result.0 result.1 }
 {
     let (first, second) = bytes.split_at(64);
     let (sum, carry) = add_eight_numbers(sum, carry, first);

@@ -1,13 +1,13 @@
 -- From the words of a line to its request.
 use Rattle.std.proofs.Common.{◌≡◌, ℕ, ◌≤◌, List, ◌∷◌, length, Option, Some, None, refl, sym, ap, ◌∙◌, arith, subst}
-use Rattle.std.specs.Prelude.{MatchOption}
+use Rattle.std.specs.Prelude.{IfSome, MatchOption}
 use Rattle.flat_model.specs.Machine.Event.{Event, Send, Receive, Comes}
 use Rattle.flat_model.specs.Scripts.Grammar.{words, keyword, HasArguments}
 use Rattle.flat_model.specs.Scripts.Script.{Asks, all_events}
 use Rattle.request.specs.declared.keyword.Keyword.{Keyword}
 use Rattle.request.specs.declared.keyword.Keyword.TheVariants as line
 use Rattle.request.specs.Inside.{IsForm, ReadsForm, word_of}
-use Rattle.request.specs.Requests.{event_of}
+use Rattle.request.specs.Requests.{event_of, room_of}
 use Rattle.request.specs.declared.request.Request.{Request}
 use Rattle.request.proofs.KeywordLemmas.{index-word}
 
@@ -20,8 +20,8 @@ Asks-form text name word args (Some request) short cut same form = record {
   form = record {
     short = short;
     args = args;
-    words_are = cut ∙ ap (λ (n : List ℕ). n ∷ args) (same ∙ sym form.0);
-    arguments = form.1;
+    words_are = cut ∙ ap (λ (n : List ℕ). n ∷ args) (same ∙ sym form.0.0);
+    arguments = form.0.1;
   };
   served = refl;
 }
@@ -29,6 +29,12 @@ Asks-form text name word args None short cut same form = λ event h.
     let begins : keyword event ≡ name = cc (sym h.form.words_are ∙ cut) in
     let rest : h.form.args ≡ args = cc (sym h.form.words_are ∙ cut) in
     form event (begins ∙ same, subst (λ (t : List (List ℕ)). HasArguments event t) rest h.form.arguments)
+
+-- the bytes of a request fit in a packet
+pub fits_form : (word : Keyword) (args : List (List ℕ)) (r : Option Request) → ReadsForm word args r
+    → IfSome r (λ request. room_of request ≤ 65535)
+fits_form word args (Some request) form = form.1
+fits_form word args None form = tt
 
 -- a line that begins with no keyword requests nothing
 pub Asks-none : (text name : List ℕ) (args : List (List ℕ)) → words text ≡ name ∷ args

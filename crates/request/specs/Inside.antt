@@ -1,11 +1,12 @@
 -- Parsing a keyword and the words after it (this project's own).
-use Rattle.std.specs.Prelude.{◌≡◌, ℕ, List, Option, Some, None, codes}
+use Rattle.std.specs.Prelude.{◌≡◌, ℕ, ◌≤◌, List, Option, Some, None, codes}
+use Rattle.params.specs.declared.TheConstants.{IP_MAX_PACKET}
 use Rattle.flat_model.specs.Machine.Event.{Event}
 use Rattle.flat_model.specs.Scripts.Grammar.{keyword, HasArguments}
 use Rattle.request.specs.declared.keyword.Keyword.{Keyword}
 use Rattle.request.specs.declared.keyword.Keyword.TheVariants as line
 use Rattle.request.specs.declared.request.Request.{Request}
-use Rattle.request.specs.Requests.{event_of}
+use Rattle.request.specs.Requests.{event_of, room_of}
 
 abbrev pub word_of : Keyword → List ℕ
 word_of line.Socket = codes "socket"
@@ -26,7 +27,7 @@ word_of line.MbStat = codes "mbstat"
 abbrev pub IsForm : Keyword → List (List ℕ) → Event → Type 0
 IsForm word args event = (keyword event ≡ word_of word) × HasArguments event args
 
--- r is the result of parsing them
+-- r is the result of parsing them; the bytes of a request fit in a packet
 abbrev pub ReadsForm : Keyword → List (List ℕ) → Option Request → Type 0
-ReadsForm word args (Some request) = IsForm word args (event_of request)
+ReadsForm word args (Some request) = IsForm word args (event_of request) × (room_of request ≤ IP_MAX_PACKET)
 ReadsForm word args None = (event : Event) → IsForm word args event → ⊥

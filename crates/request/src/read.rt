@@ -60,8 +60,7 @@ fn alone<'a>(rest: Option<&[u8]>, request: Request<'a>) -> Option<Request<'a>>
 }
 
 fn bind_of(rest: Option<&[u8]>) -> Option<Request<'static>>
-    ensures form { ReadsForm line.Bind (left rest.entry) result }
-    ensures fits { IfSome result (λ request. room_of request ≤ IP_MAX_PACKET) }
+    ensures { ReadsForm line.Bind (left rest.entry) result }
 {
     let (fd, ip, port) = three(rest)?;
     let fd = number(fd, u32::MAX)?;
@@ -70,8 +69,7 @@ fn bind_of(rest: Option<&[u8]>) -> Option<Request<'static>>
 }
 
 fn connect_of(rest: Option<&[u8]>) -> Option<Request<'static>>
-    ensures form { ReadsForm line.Connect (left rest.entry) result }
-    ensures fits { IfSome result (λ request. room_of request ≤ IP_MAX_PACKET) }
+    ensures { ReadsForm line.Connect (left rest.entry) result }
 {
     let (fd, ip, port) = three(rest)?;
     let fd = number(fd, u32::MAX)?;
@@ -81,8 +79,7 @@ fn connect_of(rest: Option<&[u8]>) -> Option<Request<'static>>
 
 fn sendto_of<'a>(rest: Option<&[u8]>, buffer: &'a mut [u8]) -> Option<Request<'a>>
     requires { length buffer.old ≡ IP_MAX_PACKET }
-    ensures form { ReadsForm line.SendTo (left rest.entry) result }
-    ensures fits { IfSome result (λ request. room_of request ≤ IP_MAX_PACKET) }
+    ensures { ReadsForm line.SendTo (left rest.entry) result }
 {
     let (fd, rest) = first_word(rest?);
     let (ip, port, data) = three(rest)?;
@@ -94,8 +91,7 @@ fn sendto_of<'a>(rest: Option<&[u8]>, buffer: &'a mut [u8]) -> Option<Request<'a
 
 fn send_of<'a>(rest: Option<&[u8]>, buffer: &'a mut [u8]) -> Option<Request<'a>>
     requires { length buffer.old ≡ IP_MAX_PACKET }
-    ensures form { ReadsForm line.Send (left rest.entry) result }
-    ensures fits { IfSome result (λ request. room_of request ≤ IP_MAX_PACKET) }
+    ensures { ReadsForm line.Send (left rest.entry) result }
 {
     let (fd, data) = two(rest)?;
     let fd = number(fd, u32::MAX)?;
@@ -104,8 +100,7 @@ fn send_of<'a>(rest: Option<&[u8]>, buffer: &'a mut [u8]) -> Option<Request<'a>>
 }
 
 fn receive_of(rest: Option<&[u8]>) -> Option<Request<'static>>
-    ensures form { ReadsForm line.RecvFrom (left rest.entry) result }
-    ensures fits { IfSome result (λ request. room_of request ≤ IP_MAX_PACKET) }
+    ensures { ReadsForm line.RecvFrom (left rest.entry) result }
 {
     let (fd, most) = two(rest)?;
     let fd = number(fd, u32::MAX)?;
@@ -117,16 +112,14 @@ fn receive_of(rest: Option<&[u8]>) -> Option<Request<'static>>
 }
 
 fn close_of(rest: Option<&[u8]>) -> Option<Request<'static>>
-    ensures form { ReadsForm line.Close (left rest.entry) result }
-    ensures fits { IfSome result (λ request. room_of request ≤ IP_MAX_PACKET) }
+    ensures { ReadsForm line.Close (left rest.entry) result }
 {
     let fd = number(one(rest)?, u32::MAX)?;
     Some(Request::Close(fd))
 }
 
 fn set_option_of(rest: Option<&[u8]>) -> Option<Request<'static>>
-    ensures form { ReadsForm line.SetSockOpt (left rest.entry) result }
-    ensures fits { IfSome result (λ request. room_of request ≤ IP_MAX_PACKET) }
+    ensures { ReadsForm line.SetSockOpt (left rest.entry) result }
 {
     let (fd, option, on) = three(rest)?;
     let fd = number(fd, u32::MAX)?;
@@ -137,8 +130,7 @@ fn set_option_of(rest: Option<&[u8]>) -> Option<Request<'static>>
 
 fn packet_of<'a>(rest: Option<&[u8]>, buffer: &'a mut [u8]) -> Option<Request<'a>>
     requires { length buffer.old ≡ IP_MAX_PACKET }
-    ensures form { ReadsForm line.Rx (left rest.entry) result }
-    ensures fits { IfSome result (λ request. room_of request ≤ IP_MAX_PACKET) }
+    ensures { ReadsForm line.Rx (left rest.entry) result }
 {
     let word = one(rest)?;
     let len = bytes(word, buffer)?;
@@ -148,8 +140,7 @@ fn packet_of<'a>(rest: Option<&[u8]>, buffer: &'a mut [u8]) -> Option<Request<'a
 /// Parses the words after a keyword.
 fn form_of<'a>(word: Keyword, rest: Option<&[u8]>, buffer: &'a mut [u8]) -> Option<Request<'a>>
     requires { length buffer.old ≡ IP_MAX_PACKET }
-    ensures form { ReadsForm word (left rest.entry) result }
-    ensures fits { IfSome result (λ request. room_of request ≤ IP_MAX_PACKET) }
+    ensures { ReadsForm word (left rest.entry) result }
 {
     match word {
         Keyword::Socket => alone(rest, Request::Socket),

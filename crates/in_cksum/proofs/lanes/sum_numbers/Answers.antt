@@ -14,5 +14,5 @@ blocks-2-preserved c =
           block_folded _ _ (swapped_sum c.split_at.result.0.now) (swapped_sum c.split_at.result.1.now) _
           c.add_four_numbers-low.ensures.folded cut ∙ c.blocks-2.invariant.folded;
       within = omega (arith, c.blocks-2.invariant.within, cut);
-      small = omega (arith, c.add_four_numbers-low.ensures.room);
+      small = omega (arith, c.add_four_numbers-low.ensures.fits.room);
     }

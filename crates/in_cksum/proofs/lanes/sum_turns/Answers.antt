@@ -36,7 +36,7 @@ turns-preserved c =
           (omega (arith, cut, halves))
           ∙ c.turns.invariant.folded;
       fits = omega (arith, c.turns.invariant.fits, c.add_four_blocks.ensures, cut, halves);
-      small = omega (arith, c.add_carrying-low.ensures.room);
+      small = omega (arith, c.add_carrying-low.ensures.fits.room);
     }
 
 pub sum_lanes-requires : goal.sum_lanes-requires
