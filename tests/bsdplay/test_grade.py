@@ -17,6 +17,9 @@ import pytest
 from tests.bsdplay.runs import of_lines, run, same
 from tests.cases import TOP
 
+# A program that is compiled without a proof takes minutes to grade all hand-ins, because it checks each access.
+pytestmark = pytest.mark.proved
+
 KEYS, EXERCISES = TOP / "examples/play", TOP / "examples/exercises"
 EACH_KEY = sorted(it.name for it in KEYS.glob("exercise_*.txt"))
 FIELDS = ["file", "verdict", "right", "wrong", "missing", "first", "note"]
@@ -297,6 +300,20 @@ def test_punctuation_is_ignored_and_the_wrong_word_is_named(reply, note, bsdplay
     same("status", ended.returncode, 1 if note else 0)
 
 
+@pytest.mark.parametrize("reply, right", [
+    ("3 packets, the next of 572 bytes", True), ("3 packets ..", False), ("3 packets, the next of _ bytes", False)
+])  # fmt: skip
+def test_the_key_says_which_words_count(reply, right, bsdplay, tmp_path):
+    """A reply that leaves out words of the key comes when the hand-in is played, and its mark is lost."""
+    key, hand = tmp_path / "key.txt", tmp_path / "ann.txt"
+    key.write_text(FRAGMENTS.format("3 packets, the next of 572 bytes"), encoding="utf-8")
+    hand.write_text(FRAGMENTS.format(reply), encoding="utf-8")
+    same("status when played", run(bsdplay, hand).returncode, 0)
+    ended = run(bsdplay, "--grade", "--key", key, hand)
+    marks = "3 right, 0 wrong, 0 missing" if right else "2 right, 1 wrong, 0 missing, first at line 4 of the key"
+    assert ended.stdout.decode().startswith(f"{hand}: {'passed' if right else 'failed'}, {marks}"), ended
+
+
 @pytest.mark.parametrize("form", [[], ["--csv"]], ids=["text", "csv"])
 def test_a_failed_write_is_no_mark(form, bsdplay, tmp_path):
     (tmp_path / "key.txt").write_text("socket => ok 3\n", encoding="utf-8")
@@ -317,6 +334,7 @@ def limited(kilobytes, *words):
 LARGE = "--mbufs 65535 --clusters 4096 => ok\nsocket => ok 3\n"
 
 
+@pytest.mark.proved
 @pytest.mark.parametrize("kilobytes", [16_000, 7_000])
 def test_want_of_memory_is_no_mark(kilobytes, bsdplay, tmp_path):
     """Neither of a hand-in nor of a key: the same file is both here, or the key is a small one."""

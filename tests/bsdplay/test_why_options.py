@@ -113,6 +113,16 @@ def test_the_host_refused_a_port(bsdplay, tmp_path):
     assert "Refused by the host: 2. Dropped: 0." in text, text
 
 
+def test_a_refused_datagram_may_be_left_to_the_card(bsdplay, tmp_path):
+    """As in a capture on the machine that sends: its card computes the checksum, and the port is closed."""
+    sent = left_to_card(CLOSED[0])
+    rows, summary = objects(bsdplay, tmp_path, [sent, unreachable(sent)], "--addr", HERE)
+    assert [rows[1][it] for it in ("verdict", "refused", "fault")] == ["refused", 2, "card"]
+    assert (summary["refused"], summary["offload"], summary["dropped"]) == (1, 0, 0)
+    text = why(bsdplay, tmp_path, [sent, unreachable(sent)]).stdout.decode()
+    assert "=> left to the card: wrong datagram checksum" in text and "=> refused by the host (record 2)\n" in text, text
+
+
 @pytest.mark.parametrize("error", [
     unreachable(CLOSED[0], code=1), unreachable(CLOSED[0], source="10.0.0.254"), unreachable(CLOSED[1])[:40]
 ], ids=["host unreachable", "of a router", "cut"])  # fmt: skip

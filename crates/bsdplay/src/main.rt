@@ -228,6 +228,19 @@ fn report_open(rt: &HostRuntime, name: &str, open: Open) -> io::Result<bool> {
 }
 
 /// Plays a script up to its first open line, and says what is open in it.
+fn play_unsolved<R: Read + Drop>(
+    rt: &HostRuntime,
+    reader: &mut Ahead<Unsolved<R>>,
+    name: &str,
+    manner: Manner<'_>,
+) -> io::Result<u8> {
+    let status = play_reader(rt, reader, name, manner)?;
+    let open = report_open(rt, name, reader.inner().open())?;
+    Ok(if open && status == 0 { LACKS } else { status })
+}
+
+/// Plays a script from a source like [`play_unsolved`].
+// It drops the reader, which holds a marker, at one place alone, because each one is proved by itself.
 fn play_source<R: Read + Drop>(
     rt: &HostRuntime,
     source: R,
@@ -235,9 +248,7 @@ fn play_source<R: Read + Drop>(
     manner: Manner<'_>,
 ) -> io::Result<u8> {
     let mut reader = Ahead::over(Unsolved::over(rt.alloc(), source)?);
-    let status = play_reader(rt, &mut reader, name, manner)?;
-    let open = report_open(rt, name, reader.inner().open())?;
-    Ok(if open && status == 0 { LACKS } else { status })
+    play_unsolved(rt, &mut reader, name, manner)
 }
 
 /// Plays a script, and checks that its lines have expectations if that is requested.

@@ -130,48 +130,20 @@ impl Form {
         requires { value ≤ most_number field }
         ensures { result ≡ forms.holding self field value }
     {
+        let mut form = self;
         match field {
-            Field::Version => Form {
-                version: Some(value as u8),
-                ..self
-            },
-            Field::Ihl => Form {
-                ihl: Some(value as u8),
-                ..self
-            },
-            Field::Tos => Form {
-                tos: Some(value as u8),
-                ..self
-            },
-            Field::Len => Form {
-                len: Some(value as u16),
-                ..self
-            },
-            Field::Id => Form {
-                id: Some(value as u16),
-                ..self
-            },
-            Field::Ttl => Form {
-                ttl: Some(value as u8),
-                ..self
-            },
-            Field::Protocol => Form {
-                protocol: Some(value as u8),
-                ..self
-            },
-            Field::Sum => Form {
-                sum: Sum::Given(value as u16),
-                ..self
-            },
-            Field::UdpLen => Form {
-                udp_len: Some(value as u16),
-                ..self
-            },
-            Field::UdpSum => Form {
-                udp_sum: Sum::Given(value as u16),
-                ..self
-            },
+            Field::Version => form.version = Some(value as u8),
+            Field::Ihl => form.ihl = Some(value as u8),
+            Field::Tos => form.tos = Some(value as u8),
+            Field::Len => form.len = Some(value as u16),
+            Field::Id => form.id = Some(value as u16),
+            Field::Ttl => form.ttl = Some(value as u8),
+            Field::Protocol => form.protocol = Some(value as u8),
+            Field::Sum => form.sum = Sum::Given(value as u16),
+            Field::UdpLen => form.udp_len = Some(value as u16),
+            Field::UdpSum => form.udp_sum = Sum::Given(value as u16),
         }
+        form
     }
 
     /// Reads the number of a field.

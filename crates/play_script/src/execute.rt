@@ -69,6 +69,12 @@ pub(crate) enum Executed {
     Done { stays: bool, failed: bool },
 }
 
+/// The result of a call or of ticks.
+const ACTED: Executed = Executed::Done {
+    stays: false,
+    failed: false,
+};
+
 /// Performs one call or several ticks, and reports the reply. The capture has the packets that they move. The bytes of
 /// the reply are in `buffer`.
 fn execute_action<T: Sink>(
@@ -122,10 +128,7 @@ fn execute_ask<T: Sink, F: Folder>(
                 Action::Call(request),
                 report,
             );
-            Executed::Done {
-                stays: false,
-                failed: false,
-            }
+            ACTED
         }
         Ask::Ticks(count) => {
             execute_action(
@@ -135,10 +138,7 @@ fn execute_ask<T: Sink, F: Folder>(
                 Action::Ticks(count),
                 report,
             );
-            Executed::Done {
-                stays: false,
-                failed: false,
-            }
+            ACTED
         }
         Ask::Show(topic) => {
             report.set_topic(&captured.stack, topic);

@@ -134,29 +134,21 @@ fn play_machine<R: Source, W: Sink, T: Sink, F: Folder>(
         };
         return Captured { played, trace };
     };
-    let Parts {
-        buffer,
-        bytes,
-        reader: lines,
-        line,
-        report,
-        printer,
-    } = parts;
     let mut player = Player {
         files: Files { alloc, folder },
         captured: CapturedStack {
             stack,
             capture: Capture { trace, line: 0 },
             causes: Table::new(),
-            buffer,
+            buffer: parts.buffer,
         },
         config,
         head: true,
-        reader: lines,
-        line,
-        bytes,
-        report,
-        printer,
+        reader: parts.reader,
+        line: parts.line,
+        bytes: parts.bytes,
+        report: parts.report,
+        printer: parts.printer,
     };
     let outcome = serve_script(alloc, &mut player, reader, writer);
     let sound = player.printer.sound;

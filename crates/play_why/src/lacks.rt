@@ -6,12 +6,15 @@ use crate::listed::{Listed, add_listed};
 use crate::parts::Loss;
 use flat_model::FragmentKey;
 use net_stack::Stack;
-use play_text::Piece::{Either, Long, Number, Text, Way};
+use play_text::Piece::{Amount, Either, Long, Number, Text, Way};
 use play_text::add;
 use script_loop::Buffer;
 
-/// How many ranges of a datagram a line covers.
-const MOST_RANGES: u32 = 32;
+/// A datagram has at most as many ranges: each begins at a multiple of 8 bytes.
+const RANGES: u32 = 8192;
+
+/// How many ranges of missing bytes a line lists. The others are counted.
+const MOST_GAPS: u32 = 32;
 
 /// What happened to a datagram that wasn't completed.
 #[derive(Clone, Copy, Debug, PartialEq, Eq)]
@@ -22,24 +25,36 @@ pub(crate) enum End {
     Left(u32),
 }
 
+/// Appends a range of missing bytes.
+fn add_gap(text: &mut Buffer<FATE>, first: u64, last: u32) {
+    let (first, last) = (Long(first), Number(last));
+    let front = Text(b" bytes ");
+    add(text, &[front, first, Text(b" to "), last, Text(b",")]);
+}
+
 /// Appends the bytes that are missing from the datagram at index `i`: those before each range, and those after them.
 fn add_lacks(text: &mut Buffer<FATE>, machine: &Stack, i: u32) {
-    let mut end = 0;
-    let mut more = true;
+    let (mut end, mut more, mut gaps) = (0, true, 0u32);
     add(text, &[Text(b" lacks")]);
-    for k in 0..MOST_RANGES {
-        if let Some(range) = machine.unfinished_range(i, k) {
-            if end < u64::from(range.offset) {
-                let last = range.offset.saturating_sub(1);
-                add(
-                    text,
-                    &[Text(b" bytes "), Long(end), Text(b" to "), Number(last)],
-                );
-                add(text, &[Text(b",")]);
+    for k in 0..RANGES {
+        let Some(range) = machine.unfinished_range(i, k) else {
+            break;
+        };
+        if end < u64::from(range.offset) {
+            if gaps < MOST_GAPS {
+                add_gap(text, end, range.offset.saturating_sub(1));
             }
-            end = u64::from(range.offset) + u64::from(range.len);
-            more = range.more;
+            gaps = gaps.saturating_add(1);
         }
+        end = u64::from(range.offset) + u64::from(range.len);
+        more = range.more;
+    }
+    let others = gaps.saturating_sub(MOST_GAPS);
+    if others != 0 {
+        add(
+            text,
+            &[Text(b" "), Amount(others, b"other range"), Text(b",")],
+        );
     }
     if more {
         add(text, &[Text(b" all from byte "), Long(end), Text(b" on,")]);

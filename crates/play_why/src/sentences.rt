@@ -6,6 +6,7 @@ use crate::FATE;
 use crate::blame::Blame;
 use crate::finding::Finding;
 use crate::listed::{Listed, add_listed};
+use crate::outcome::Outcome;
 use crate::seen::Seen;
 use crate::values::Value;
 use crate::verdict::Verdict;
@@ -75,14 +76,10 @@ fn add_value<const N: usize>(text: &mut Buffer<N>, value: Value) {
             add(text, &[Amount(arrived, b"byte"), header, Number(least)]);
         }
         Value::Version(version) => {
-            let front = Text(b"version ");
+            let version = Number(u32::from(version));
             add(
                 text,
-                &[
-                    front,
-                    Number(u32::from(version)),
-                    Text(b", right would be 4"),
-                ],
+                &[Text(b"version "), version, Text(b", right would be 4")],
             );
         }
         Value::HeaderWords(words) => {
@@ -92,17 +89,9 @@ fn add_value<const N: usize>(text: &mut Buffer<N>, value: Value) {
         }
         Value::Sums(found, right) => add_sums(text, found, right),
         Value::Lengths(named, arrived) => {
-            let named = Number(u32::from(named));
-            add(
-                text,
-                &[
-                    Text(b"length "),
-                    named,
-                    Text(b", "),
-                    Number(arrived),
-                    Text(b" came"),
-                ],
-            );
+            let (named, arrived) = (Number(u32::from(named)), Number(arrived));
+            let (front, end) = (Text(b"length "), Text(b" came"));
+            add(text, &[front, named, Text(b", "), arrived, end]);
         }
         Value::Elsewhere(to, ours) => {
             let (to, ours) = (Address(to), Address(ours));
@@ -178,10 +167,30 @@ pub(crate) fn add_became<const N: usize>(text: &mut Buffer<N>, report: &Report<'
             );
         }
     }
+    let mut is_refusal_said = false;
     for finding in report.verdict.findings {
         if let Some(it) = finding {
             add_drop(text, it, report.verdict.refused);
+            is_refusal_said = is_refusal_said || it.blame == Blame::Host;
         }
+    }
+    if !is_refusal_said {
+        add_refusal(text, report.verdict);
+    }
+}
+
+/// Adds that the host refused a packet that was dropped before its port was looked for, as one whose checksum was left
+/// to the card is.
+fn add_refusal<const N: usize>(text: &mut Buffer<N>, verdict: &Verdict) {
+    if let (Outcome::Refused, Some(number)) = (verdict.outcome, verdict.refused) {
+        add(
+            text,
+            &[
+                Text(b" => refused by the host (record "),
+                Long(number),
+                Text(b")"),
+            ],
+        );
     }
 }
 
