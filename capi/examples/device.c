@@ -4,6 +4,7 @@
 #include "device.h"
 
 #include "coap.h"
+#include "dhcp.h"
 #include "drops.h"
 #include "tftp.h"
 
@@ -12,6 +13,7 @@
 enum { FLASH, RAM, FILES };
 
 static struct bsdudp host;
+static struct dhcp dhcp;
 static struct tftp_file files[FILES];
 static uint32_t ticks;
 static char led = '0', text[512];
@@ -95,9 +97,20 @@ static const struct coap_resource resources[] = {
 };
 enum { RESOURCES = sizeof resources / sizeof resources[0] };
 
-static struct coap coap = {
-    .host = &host, .resources = resources, .count = RESOURCES, .buffer = buffer, .buffer_len = sizeof buffer};
-static struct tftp tftp = {.host = &host, .files = files, .count = FILES, .buffer = buffer};
+static struct coap coap;
+static struct tftp tftp;
+
+/* Sets what the servers need. As initial values this would take 1.9 KB of flash, nearly all of it zeros. */
+static void equip(void)
+{
+    coap.host = tftp.host = &host;
+    coap.buffer = tftp.buffer = buffer;
+    coap.buffer_len = sizeof buffer;
+    coap.resources = resources;
+    coap.count = RESOURCES;
+    tftp.files = files;
+    tftp.count = FILES;
+}
 
 /* ---- the loop */
 
@@ -117,13 +130,35 @@ static int start(const struct device *it)
         return failed("no card", "", status);
     files[FLASH] = (struct tftp_file){"flash", it->flash, NULL, it->flash_len, 0, 0};
     files[RAM] = (struct tftp_file){"ram", it->ram, it->ram, 0, it->ram_len, 0};
-    status = bsdudp_ether_boot_in(&host, &it->config, &it->link, it->memory, it->memory_len);
-    if (status < 0)
-        return failed("no host: ", bsdudp_boot_strerror(status, &it->config, &it->link), status);
-    status = coap_start(&coap, it->config.addr);
+    equip();
+    dhcp = (struct dhcp){.host = &host, .config = it->config, .link = it->link, .memory = it->memory,
+                         .memory_len = it->memory_len, .seed = it->seed};
+    status = dhcp_start(&dhcp);
+    return status < 0 ? failed("no host: ", bsdudp_boot_strerror(status, &dhcp.config, &dhcp.link), status) : 0;
+}
+
+/* The host has its first address: from now on the servers keep their sockets. Returns 0, or why there is no server. */
+static int open_servers(void)
+{
+    int status = coap_start(&coap, dhcp.config.addr);
     if (status == 0)
-        status = tftp_start(&tftp, it->config.addr);
+        status = tftp_start(&tftp, dhcp.config.addr);
     return status < 0 ? failed("no server: ", bsdudp_strerror(status), status) : 0;
+}
+
+/* Prints the address when it's another one. */
+static void tell_address(void)
+{
+    static uint32_t told;
+    char *at = text;
+    int i;
+    if (dhcp.addr == told)
+        return;
+    told = dhcp.addr;
+    for (i = 24; i >= 0; i -= 8)
+        at = put(at, i == 24 ? "address " : ".", told >> i & 255);
+    strcpy(at, "\n");
+    port_say(text);
 }
 
 /* Prints once a minute what was dropped since boot, if there is more of it. */
@@ -143,7 +178,7 @@ void device_announce(const struct device *it)
 {
     /* an ARP request for the own address: Ethernet, IPv4, 6 and 4 bytes, request */
     static const uint8_t middle[] = {8, 6, 0, 1, 8, 0, 6, 4, 0, 1};
-    const uint32_t ip = it->config.addr;
+    const uint32_t ip = dhcp.addr != 0 ? dhcp.addr : it->config.addr;
     const uint8_t own[] = {(uint8_t)(ip >> 24), (uint8_t)(ip >> 16), (uint8_t)(ip >> 8), (uint8_t)ip};
     memset(frame, 0, 42);
     memset(frame, 0xff, 6);
@@ -157,7 +192,7 @@ void device_announce(const struct device *it)
 
 static void greet(const struct device *it)
 {
-    const uint32_t servers = sizeof coap + sizeof tftp + sizeof files + sizeof buffer + sizeof text;
+    const uint32_t servers = sizeof coap + sizeof tftp + sizeof dhcp + sizeof files + sizeof buffer + sizeof text;
     char *at = put(text, "CoAP and TFTP. Bytes of memory: the stack ", (uint32_t)it->memory_len);
     at = put(at, ", the servers ", servers);
     at = put(at, ", the file ram ", it->ram_len);
@@ -167,25 +202,31 @@ static void greet(const struct device *it)
 
 int device_run(const struct device *it)
 {
-    int sent, status = start(it);
-    size_t len;
+    int is_open = 0, status = start(it);
+    size_t len, sent;
     if (status < 0)
         return status;
     greet(it);
     do {
         for (; port_ticked(); ticks++) {
-            bsdudp_tick(&host);
+            dhcp_tick(&dhcp);
+            tell_address();
             coap_tick(&coap);
             tftp_tick(&tftp);
             tell_drops();
         }
         len = port_receive(frame);
         if (len > 0)
-            bsdudp_ether_receive(&host, frame, len);
+            dhcp_receive(&dhcp, frame, len);
+        if (!is_open && dhcp.is_booted) {
+            if ((status = open_servers()) < 0)
+                return status;
+            is_open = 1;
+        }
         coap_serve(&coap);
         tftp_serve(&tftp);
-        while ((sent = bsdudp_ether_transmit(&host, frame, BSDUDP_ETHER_ROOM)) > 0)
-            port_send(frame, (size_t)sent);
+        while ((sent = dhcp_transmit(&dhcp, frame)) > 0)
+            port_send(frame, sent);
     } while (len > 0 || port_wait());
-    return bsdudp_end(&host);
+    return is_open ? bsdudp_end(&host) : 0;
 }

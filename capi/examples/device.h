@@ -24,7 +24,8 @@ void port_say(const char *text);
 /* Returns how many bytes of the call stack were used since the start, or 0 if that isn't known. */
 uint32_t port_stack(void);
 
-/* Which host the device is, and its memory. */
+/* Which host the device is, and its memory. If `link.mask` is 0, it gets its address by DHCP (dhcp.h); `config.addr` is
+   then 0 or the address of its last start. */
 struct device {
     struct bsdudp_config config;
     struct bsdudp_link link;
@@ -34,10 +35,11 @@ struct device {
     uint32_t flash_len;
     uint8_t *ram; /* where the file "ram" is kept, which clients read and write */
     uint32_t ram_len;
+    uint32_t seed; /* for DHCP: another number at each start is best */
 };
 
-/* Boots the stack and both servers, and serves until port_wait returns 0. Returns 0, or a refusal of a call of the
-   stack as a number below 0; -1 also if there is no card. */
+/* Gets an address, boots the stack and both servers, and serves until port_wait returns 0. Returns 0, or the error of a
+   call of the stack as a number below 0; -1 also if there is no card. */
 int device_run(const struct device *device);
 
 /* Announces the device's address to its neighbours (RFC 5227, 2.3): for a driver whose link has come up again. Call it

@@ -1,11 +1,14 @@
 /* The device of device.c as a program of Linux: a host 10.0.0.1 on the TAP device tap0, whose file "flash" is FILE.
-       cc -std=gnu99 device_tap.c device.c coap.c tftp.c drops.c -I PREFIX/include PREFIX/lib/libbsdudp.a &&
+       cc -std=gnu99 device_tap.c device.c dhcp.c dhcp_message.c coap.c tftp.c drops.c -I PREFIX/include \
+           PREFIX/lib/libbsdudp.a &&
            sudo ./a.out tap0 FILE
    Then give Linux its address, `ip addr add 10.0.0.2/24 dev tap0; ip link set tap0 up`, and try
    `coap-client-notls -m get coap://10.0.0.1/stats` and `curl tftp://10.0.0.1/flash`. After FILE may follow how many
-   milliseconds a tick has, 500 if nothing does. It ends at SIGTERM or Ctrl-C. */
+   milliseconds a tick has, 500 if nothing does, and then `dhcp` for an address by DHCP, with the address that it had at
+   its last start if it had one. It ends at SIGTERM or Ctrl-C. */
 #include "device.h"
 
+#include <arpa/inet.h>
 #include <errno.h>
 #include <fcntl.h>
 #include <linux/if.h>
@@ -94,12 +97,17 @@ int main(int argc, char **argv)
 {
     struct device device = {{BSDUDP_IP(10, 0, 0, 1), BSDUDP_IP(10, 0, 0, 255), MBUFS, CLUSTERS, 1500, 1},
                             {{2, 0, 0, 0, 0, 1}, 0xffffff00, BSDUDP_IP(10, 0, 0, 2), 0},
-                            memory, sizeof memory, NULL, 0, ram, RAM};
+                            memory, sizeof memory, NULL, 0, ram, RAM, 0};
     struct stat file;
     void *flash;
     int status, fd = argc > 2 ? open(argv[2], O_RDONLY) : -1;
-    if (argc < 3 || argc > 4 || (argc > 3 && (tick = atoi(argv[3])) < 1))
-        return fprintf(stderr, "usage: device_tap DEVICE FILE [MILLISECONDS]\n"), 2;
+    if (argc < 3 || argc > 6 || (argc > 3 && (tick = atoi(argv[3])) < 1) || (argc > 4 && strcmp(argv[4], "dhcp") != 0))
+        return fprintf(stderr, "usage: device_tap DEVICE FILE [MILLISECONDS [dhcp [ADDRESS]]]\n"), 2;
+    if (argc > 4) {
+        device.config.addr = argc > 5 ? ntohl(inet_addr(argv[5])) : 0;
+        device.link.mask = 0;
+        device.seed = (uint32_t)time(NULL);
+    }
     if (fd < 0 || fstat(fd, &file) < 0 ||
         (flash = mmap(NULL, (size_t)file.st_size, PROT_READ, MAP_PRIVATE, fd, 0)) == MAP_FAILED)
         return perror(argv[2]), 1;

@@ -269,6 +269,16 @@ int bsdudp_rx(struct bsdudp *stack, const void *packet, size_t len);
    -BSDUDP_EMSGSIZE if `len` is below the MTU. */
 int bsdudp_tx(struct bsdudp *stack, void *buffer, size_t len);
 
+/* Sets time to live and type of service of a packet that leaves. `packet` points to the `len` bytes that bsdudp_tx
+   stored, or to those after the 14 bytes of header of a frame. The header's checksum is adjusted, so a right one stays
+   right. The other bytes are unchanged. The stack itself sends each packet with 64 and 0. Source: RFC 1624, section 3.
+
+   Returns 0.
+
+   Errors, with `packet` unchanged:
+   -BSDUDP_EINVAL if `len` is below 20, or `packet` does not begin with an IPv4 header, but for example with ARP. */
+int bsdudp_mark(void *packet, size_t len, uint8_t ttl, uint8_t tos);
+
 /* Advances the stack's clock by half a second. An unfinished datagram is dropped after 60 ticks, and the neighbours of
    a host grow older. Source: the book, chapter 10 (ip_slowtimo); RFC 791, section 3.2.
 
@@ -317,6 +327,26 @@ int bsdudp_ether_boot_in(struct bsdudp *stack, const struct bsdudp_config *confi
    Errors: those of bsdudp_ether_boot_in, and
    -BSDUDP_ENOMEM if malloc fails. */
 int bsdudp_ether_boot(struct bsdudp *stack, const struct bsdudp_config *config, const struct bsdudp_link *link);
+
+/* Boots the host again with other settings, for example with another address, and opens its sockets again. Each socket
+   keeps its descriptor, its local port, its peer and its options. A local address that was the host's own or its
+   broadcast address becomes the new one. Everything else is lost, as with bsdudp_end: datagrams, packets and frames
+   that wait, unfinished datagrams, counters, neighbours and reports of ICMP. Sockets that share a port by
+   BSDUDP_SO_REUSEPORT count as opened in the order of their descriptors.
+
+   `memory` and `len` are those of bsdudp_ether_boot_in. The memory may be that in which the host runs. NULL stands for
+   the memory from malloc of a host that bsdudp_ether_boot booted, if it is enough. The call takes about 900 bytes of
+   call stack more than boot.
+
+   Returns 0.
+
+   Errors, with the host unchanged, which continues to run:
+   -BSDUDP_ENXIO if the handle holds no stack.
+   -BSDUDP_EOPNOTSUPP if it holds a bare stack.
+   -BSDUDP_EDOM and -BSDUDP_EINVAL as bsdudp_ether_boot_in returns them.
+   -BSDUDP_ENOMEM if `len` is below BSDUDP_ETHER_MEMORY. */
+int bsdudp_ether_rehost(struct bsdudp *host, const struct bsdudp_config *config, const struct bsdudp_link *link,
+                        void *memory, size_t len);
 
 /* Passes a frame from the network card to the host: 14 bytes of header and the data, without the frame check sequence.
    The host handles an IPv4 packet as bsdudp_rx does, and an ARP packet by RFC 826. It drops and counts any other frame,

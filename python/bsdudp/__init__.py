@@ -17,6 +17,7 @@ from ._errors import NoBuffersError
 from ._frame import Frame
 from ._host import Host, Neighbour, Tallies
 from ._losses import Bursts, Nth, Sent
+from ._notes import IP_PKTINFO, IP_RECVTOS, IP_RECVTTL
 from ._packet import Packet
 from ._sender import Sender
 from ._socket import CutDatagramWarning, Socket, Waiting
@@ -35,6 +36,9 @@ __all__ = [
     "Frame",
     "HeldRange",
     "Host",
+    "IP_PKTINFO",
+    "IP_RECVTOS",
+    "IP_RECVTTL",
     "MbStat",
     "Neighbour",
     "NoBuffersError",

@@ -168,7 +168,7 @@ class Host(Stack):
 
         ValueError if it has more than 65,549 bytes or no Ethernet layer. TypeError if it is not a frame."""
         data = frame_bytes(frame)
-        self._ask("ether_receive", data, len(data))
+        self._pass("ether_receive", data)
 
     def transmit(self) -> Optional[Frame]:
         """Returns the next frame for the network card and removes it; None if there is no frame. A card pads a short

@@ -111,6 +111,30 @@ class Link(ctypes.Structure):
     ]
 
 
+class Note(ctypes.Structure):
+    """`struct bsdudp_note`."""
+
+    _fields_ = [
+        ("time", ctypes.c_uint64),
+        ("drops", ctypes.c_uint64),
+        ("number", ctypes.c_uint64),
+        ("to", ctypes.c_uint32),
+        ("ttl", ctypes.c_uint8),
+        ("tos", ctypes.c_uint8),
+        ("known", ctypes.c_uint8),
+    ]
+
+
+class NotesOfC(ctypes.Structure):
+    """`struct bsdudp_notes`."""
+
+    _fields_ = [
+        ("ring", ctypes.c_void_p),
+        *((name, ctypes.c_uint64) for name in ("came", "read", "drops")),
+        *((name, ctypes.c_uint32) for name in ("fd", "room", "first", "count")),
+    ]
+
+
 class TalliesOfC(ctypes.Structure):
     """`struct bsdudp_tallies`."""
 
@@ -183,6 +207,12 @@ CALLS: Dict[str, List[Any]] = {
     "ether_address": [],
     "ether_tallies": [ctypes.POINTER(TalliesOfC)],
     "ether_neighbour": [_u32, ctypes.POINTER(NeighbourOfC)],
+    "note_socket": [ctypes.POINTER(NotesOfC), _u32, ctypes.POINTER(Note), _u32],
+    "rx_noted": [ctypes.POINTER(NotesOfC), _u32, _bytes, _size, ctypes.c_uint64],
+    "ether_receive_noted": [ctypes.POINTER(NotesOfC), _u32, _bytes, _size, ctypes.c_uint64],
+    "recvfrom_noted": [
+        ctypes.POINTER(NotesOfC), ctypes.c_void_p, _size, ctypes.POINTER(Address), ctypes.POINTER(Note)
+    ],
 }
 
 

@@ -13,8 +13,10 @@ from typing import TYPE_CHECKING, List, NamedTuple, NoReturn, Optional, Supports
 from ._addresses import Address, Endpoint, in_range, raw, text_of
 from ._buffers import octets, room
 from ._errors import TOO_LONG, refused, too_long
-from ._library import SO_BROADCAST, SO_REUSEPORT, Name, Next
+from ._library import SO_BROADCAST, SO_REUSEPORT, Name, Next, Note
 from ._library import Address as Raw
+from ._notes import OPTIONS as NOTED
+from ._notes import Notes
 from ._uncopied import Uncopied
 
 if TYPE_CHECKING:
@@ -69,11 +71,12 @@ class Waiting(NamedTuple):
 
 
 class _Taken(NamedTuple):
-    """A received datagram: its first bytes, its sender, and whether it had more bytes."""
+    """A received datagram: its first bytes, its sender, whether it had more bytes, and its note."""
 
     data: bytes
     sender: Address
     is_cut: bool
+    note: Optional[Note] = None
 
 
 NO_DESCRIPTOR = (
@@ -206,13 +209,18 @@ class Socket(Uncopied):
     def _take(self, most: int) -> _Taken:
         """Removes the oldest datagram. Two calls of the library read its length and its bytes, while the lock is
         held."""
-        found, sender = Next(), Raw()
+        found, sender, note = Next(), Raw(), None
         with self._stack._turn:
             self._call("next", ctypes.byref(found))
-            size = min(most, found.len)
+            size, notes = min(most, found.len), self._stack._notes
             buffer = ctypes.create_string_buffer(max(size, 1))
-            length = self._call("recvfrom", buffer, size, ctypes.byref(sender))
-        return _Taken(buffer.raw[:length], (text_of(sender.ip), sender.port), found.len > most)
+            if notes is not None and self._descriptor in notes.wanted:
+                note = Note()
+                taken = notes.take(buffer, size, sender, self._descriptor, note)
+                length = self._stack._call("recvfrom_noted", *taken)
+            else:
+                length = self._call("recvfrom", buffer, size, ctypes.byref(sender))
+        return _Taken(buffer.raw[:length], (text_of(sender.ip), sender.port), found.len > most, note)
 
     def _take_whole(self, most: int, depth: int = 3) -> _Taken:
         """Does the same, with a warning if it was truncated. The warning names the line `depth` calls above this
@@ -233,13 +241,20 @@ class Socket(Uncopied):
     def recvmsg(
         self, bufsize: SupportsIndex, ancbufsize: int = 0, flags: int = 0
     ) -> Tuple[bytes, List[Tuple[int, int, bytes]], int, Address]:
-        """Removes the oldest datagram. Returns up to `bufsize` bytes of it, an empty list (there is no ancillary data),
-        the flags, and the sender. The flag MSG_TRUNC is set if the datagram had more bytes, which are lost.
-        BlockingIOError (EAGAIN) if the receive queue is empty."""
-        if ancbufsize or flags:
-            raise ValueError("recvmsg has neither ancillary data nor flags here")
+        """Removes the oldest datagram. Returns up to `bufsize` bytes of it, the ancillary data, the flags, and the
+        sender. The flag MSG_TRUNC is set if the datagram had more bytes, which are lost. BlockingIOError (EAGAIN) if
+        the receive queue is empty.
+
+        The ancillary data are those that options of `setsockopt` want, as Linux has them, up to `ancbufsize` bytes. The
+        flag MSG_CTRUNC is set if there were more. A datagram that the stack sent itself has none."""
+        _no_flags("recvmsg", flags)
+        most = in_range("ancbufsize", ancbufsize, 0, ROOM)
         taken = self._take(in_range("bufsize", bufsize, 0, ROOM))
-        return taken.data, [], MSG_TRUNC if taken.is_cut else 0, taken.sender
+        told, notes = MSG_TRUNC if taken.is_cut else 0, self._stack._notes
+        if notes is None or taken.note is None or self._descriptor is None:
+            return taken.data, [], told, taken.sender
+        messages, cut = notes.messages(self._descriptor, taken.note, self._stack._config.addr, most)
+        return taken.data, messages, told | cut, taken.sender
 
     def recvfrom(self, bufsize: SupportsIndex = LONGEST, flags: int = 0) -> Tuple[bytes, Address]:
         """Removes the oldest datagram. Returns up to `bufsize` bytes of it, and the sender. If it had more bytes, they
@@ -303,14 +318,24 @@ class Socket(Uncopied):
         return text_of(name.peer_ip), name.peer_port
 
     def setsockopt(self, level: int, option: int, value: SupportsIndex) -> None:
-        """Sets `SO_BROADCAST` or `SO_REUSEPORT` of Python's `socket`, at the level SOL_SOCKET. OSError with `errno`
-        ENOPROTOOPT for any other option."""
+        """Sets `SO_BROADCAST` or `SO_REUSEPORT` of Python's `socket`, at the level SOL_SOCKET. At the level IPPROTO_IP,
+        IP_PKTINFO, IP_RECVTTL and IP_RECVTOS say which ancillary data `recvmsg` returns: the destination of the
+        datagram's packet, its time to live, and its type of service. Python's `socket` does not have all three names;
+        `bsdudp` has. OSError with `errno` ENOPROTOOPT for any other option."""
+        if level == host.IPPROTO_IP and option in NOTED:
+            with self._stack._turn:
+                self._name()  # the socket is open
+                self._stack._notes = self._stack._notes or Notes()
+                self._stack._notes.want(self._stack._handle, self.descriptor, option, value)
+            return
         known = OPTIONS.get(option, -1) if level == host.SOL_SOCKET else -1
         self._ask("setsockopt", known, int(operator.index(value) != 0))
 
     def getsockopt(self, level: int, option: int) -> int:
         """Returns the value of such an option, 1 or 0. OSError with `errno` ENOPROTOOPT for any other option."""
         name = self._name_now()
+        if level == host.IPPROTO_IP and option in NOTED:
+            return int(self._stack._notes is not None and self._stack._notes.has(self.descriptor, option))
         known = OPTIONS.get(option, -1) if level == host.SOL_SOCKET else -1
         if known not in OPTIONS.values():
             raise OSError(errno.ENOPROTOOPT, os.strerror(errno.ENOPROTOOPT))
@@ -340,6 +365,8 @@ class Socket(Uncopied):
             if self._descriptor is not None and self._stack._live:
                 self._call("close")
                 self._stack._sockets.pop(self._descriptor, None)
+                if self._stack._notes is not None:
+                    self._stack._notes.forget(self._descriptor)
             self._descriptor = None
 
     def __enter__(self) -> "Socket":

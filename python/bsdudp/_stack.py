@@ -10,6 +10,7 @@ from ._addresses import Host, in_range, number_of, text_of
 from ._counters import Counters, MbStat
 from ._errors import refused
 from ._library import FIRST_DESCRIPTOR, LIBRARY, Config, Handle, Range, Unfinished, Usage
+from ._notes import Notes
 from ._packet import AnyPacket, Packet, bytes_of
 from ._place import Place
 from ._socket import Socket
@@ -60,7 +61,7 @@ class Stack(Uncopied):
     2
     <Packet 10.0.0.1 > 10.0.0.2 udp 7 > 7, id 1, 30 bytes>"""
 
-    __slots__ = ("_live", "_sockets", "_config", "_place", "_turn", "_state", "_handle", "_room", "_wires")
+    __slots__ = ("_live", "_sockets", "_config", "_place", "_turn", "_state", "_handle", "_room", "_wires", "_notes")
 
     def __init__(
         self,
@@ -74,6 +75,7 @@ class Stack(Uncopied):
         self._live = False
         self._sockets: Dict[int, Socket] = {}
         self._wires: List[Tuple["weakref.ref[Wire]", int]] = []  # each with its place there
+        self._notes: Optional[Notes] = None
         address = _interface("addr", addr)
         broadcast = address | 0xFF if bcast is None else _interface("bcast", bcast)
         if broadcast == address:
@@ -121,6 +123,7 @@ class Stack(Uncopied):
         twin._handle = Handle.from_buffer_copy(self._handle)
         twin._room = ctypes.create_string_buffer(self.mtu)
         twin._wires = []
+        twin._notes = None if self._notes is None else self._notes.copied()
         twin._sockets = {descriptor: Socket(twin, descriptor) for descriptor in self._sockets}
         twin._live = True
 
@@ -136,6 +139,13 @@ class Stack(Uncopied):
         """Calls the library, if no other thread is in the stack."""
         with self._turn:
             return self._call(name, *arguments)
+
+    def _pass(self, name: str, data: bytes) -> None:
+        """Passes a packet or a frame to the library, with notes if a socket wants them."""
+        if self._notes is None:
+            self._ask(name, data, len(data))
+        else:
+            self._ask(f"{name}_noted", *self._notes.arguments(data))
 
     def _call(self, name: str, *arguments: object) -> int:
         """Calls the library, if the stack has not ended. The caller holds the lock."""
@@ -209,7 +219,7 @@ class Stack(Uncopied):
 
         ValueError if it has more than 65,535 bytes or no IP layer. TypeError if it is not a packet."""
         data = bytes_of(packet)
-        self._ask("rx", data, len(data))
+        self._pass("rx", data)
         if data[6:8] not in WHOLE:
             self._holds()
 

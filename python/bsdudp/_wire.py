@@ -101,6 +101,8 @@ class Wire(Uncopied):
         seed: SupportsIndex = 1,
         pcap: Optional[str] = None,
     ) -> None:
+        if isinstance(stacks, Stack):
+            raise TypeError("a Wire takes its stacks as one argument, as Wire([a, b])")
         self._join(tuple(stacks))
         self.loss, self.repeat, self.reorder, self.delay = loss, repeat, reorder, delay
         self._random = Pcg32(in_range("seed", seed, 0, LAST_SEED))

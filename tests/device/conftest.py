@@ -28,6 +28,7 @@ PORTS = itertools.count(20000)
 CLONE_NEWNET = 0x40000000
 MEBIBYTE = 1 << 20
 MACHINE = ["qemu-system-arm", "-M", "mps2-an385", "-display", "none", "-monitor", "none", "-serial", "stdio"]
+MACHINE += ["-nic", "tap,ifname=h0,script=no,downscript=no"]
 
 
 class Namespace:
@@ -92,14 +93,31 @@ def flash() -> bytes:
     return random.Random(79).randbytes(MEBIBYTE)
 
 
+@pytest.fixture(scope="session")
+def on_linux(once, library) -> pathlib.Path:
+    """The device as a Linux program, with sanitizers."""
+    names = ("device_tap", "device", "dhcp", "dhcp_message", "coap", "tftp", "drops")
+    sources = [TOP / f"capi/examples/{it}.c" for it in names]
+    words = ["-std=gnu99", "-Wall", "-Wextra", "-Werror", "-pedantic", "-Wsign-conversion", f"-I{TOP}/capi/include"]
+    words += ["-g", "-fsanitize=address,undefined", "-fno-sanitize-recover=all"]
+    how = [os.environ.get("CC", "cc"), *words, *sources, library.archive, "-o"]
+    return once("device-tap", lambda folder: made(*how, folder / "device")) / "device"
+
+
+@pytest.fixture(scope="session")
+def on_board(once, core_for) -> Callable[..., pathlib.Path]:
+    """on_board(FILE, CFLAGS) builds device.elf for a Cortex-M3 with 64 KB of memory, with a file "flash"."""
+
+    def of(flash: pathlib.Path, flags: str = "") -> pathlib.Path:
+        library_of_board, words = core_for("cortex-m3"), ["env", f"CFLAGS={flags}", TOP / "portable/board/build"]
+        return once(f"device-board{flags}", lambda it: made(*words, library_of_board, it, flash)) / "device.elf"
+
+    return of
+
+
 def tap(folder: pathlib.Path, flash: bytes, request: pytest.FixtureRequest, tick: float = 0.5) -> Device:
     """The device as a Linux program."""
-    archive = request.getfixturevalue("library").archive
-    sources = [TOP / f"capi/examples/{it}.c" for it in ("device_tap", "device", "coap", "tftp", "drops")]
-    words = ["-std=gnu99", "-Wall", "-Wextra", "-Werror", "-pedantic", "-Wsign-conversion", f"-I{TOP}/capi/include"]
-    sanitized = ["-g", "-fsanitize=address,undefined", "-fno-sanitize-recover=all"]
-    made(os.environ.get("CC", "cc"), *words, *sanitized, *sources, archive, "-o", folder / "device")
-    how = [folder / "device", "h0", folder / "flash", int(1000 * tick)]
+    how = [request.getfixturevalue("on_linux"), "h0", folder / "flash", int(1000 * tick)]
     return Device("tap", how, folder, flash, 2 * MEBIBYTE, tick)
 
 
@@ -109,11 +127,9 @@ def hasty(folder: pathlib.Path, flash: bytes, request: pytest.FixtureRequest) ->
 
 
 def board(folder: pathlib.Path, flash: bytes, request: pytest.FixtureRequest) -> Device:
-    """The device on a Cortex-M3 with 64 KB of memory."""
-    library_of_board = request.getfixturevalue("core_for")("cortex-m3")
-    made(TOP / "portable/board/build", library_of_board, folder / "built", folder / "flash")
-    card = ["-kernel", folder / "built/device.elf", "-nic", "tap,ifname=h0,script=no,downscript=no"]
-    return Device("board", [*MACHINE, *card], folder, flash, 6144, 0.5)
+    """The device on a Cortex-M3, with the address 10.0.0.1."""
+    program = request.getfixturevalue("on_board")(folder / "flash", "-DFIXED")
+    return Device("board", [*MACHINE, "-kernel", program], folder, flash, 6144, 0.5)
 
 
 WAYS: dict[str, Callable[..., Device]] = {"tap": tap, "hasty": hasty, "board": board}

@@ -37,11 +37,11 @@ def folder(tmp_path):
     return tmp_path
 
 
-@pytest.mark.needs("rt", "wasm-opt", "arm-none-eabi", "qemu-arm")
+@pytest.mark.needs("rt", "wasm-opt", "arm-none-eabi", "qemu-arm", "dnsmasq")
 def test_on_the_board(folder, core_for):
     shell(block("portable/board/build LIBRARY board").replace("LIBRARY", str(core_for("cortex-m3"))), folder)
     commands = block("unshare -n").removeprefix("unshare -n\n")
-    said = shell(f"{commands}kill $!\nwait\n", folder, "unshare", "-n")
+    said = shell(f"{commands}kill $(jobs -p)\nwait\n", folder, "unshare", "-n")
     assert re.search(r"(?m)^</led>.*</ram>.*\n1\nhalf seconds \d+\nfree mbufs 40 of 40\n", said)
     sizes = subprocess.run(
         ["arm-none-eabi-size", folder / "board/device.elf"], capture_output=True, text=True, check=True

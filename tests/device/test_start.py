@@ -20,7 +20,7 @@ static uint8_t ram[10];
 int main(void)
 {
     const struct device it = {{BSDUDP_IP(10, 0, 0, 1), %s, 40, 7, 1500, 1}, {{%s, 0, 0, 0, 0, 1}, 0xffffff00, %s, 0},
-                              memory, %s, ram, 10, ram, 10};
+                              memory, %s, ram, 10, ram, 10, 0};
     %s
     return 0;
 }
@@ -43,7 +43,7 @@ ROWS = {
 def program(row, library, compiled, folder):  # noqa: F811
     *words, _ = row
     (folder / "port.c").write_text(PORT % tuple(words), encoding="utf-8")
-    sources = [f"examples/{it}.c" for it in ("device", "coap", "tftp", "drops")]
+    sources = [f"examples/{it}.c" for it in ("device", "dhcp", "dhcp_message", "coap", "tftp", "drops")]
     return compiled("device", CC, "-std=gnu99", "-Wall", "-Iinclude", "-Iexamples", folder / "port.c", *sources,
                     library.archive)  # fmt: skip
 

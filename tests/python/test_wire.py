@@ -304,6 +304,8 @@ def test_a_reply_leaves_in_the_next_millisecond(pair):
 def test_what_a_wire_joins():
     with pytest.raises(ValueError, match="one stack or more"):
         bsdudp.Wire([])
+    with bsdudp.Stack() as one, bsdudp.Stack("10.0.0.2") as other, pytest.raises(TypeError, match=r"Wire\(\[a, b\]\)"):
+        bsdudp.Wire(one, other)
     with bsdudp.Host() as host, pytest.raises(TypeError, match="transmit and receive"):
         bsdudp.Wire([host])
     with bsdudp.Stack() as stack:
