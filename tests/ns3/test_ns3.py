@@ -20,8 +20,9 @@ SANITIZED = ["-DBSDUDP_EXAMPLES=OFF", "-DCMAKE_BUILD_TYPE=None"]
 SANITIZED += ["-DCMAKE_CXX_FLAGS=-O1 -g1 -fsanitize=address,undefined -fno-sanitize-recover=all"]
 # Refused configurations, and their error texts.
 REFUSED = {
-    "csma": "needs ARP",
-    "mtu": "its MTU is 9000",
+    "frame": "its MTU is 1501: set one of 68 to 1500",
+    "gateway": "gateway is not a neighbour",
+    "mtu": "its MTU is 9000: set one of 68 to 4352",
     "device": "node 0 has a bsdudp stack already",
     "stack": "node 0 has another stack already",
     "later": "was given ns-3's own, too",
@@ -106,6 +107,15 @@ def test_first(plain):
     assert len(re.findall("client receives 1024 bytes", passed(plain / "bsdudp-first"))) == 3
 
 
+def wrong_packets(capture):
+    """Returns the first packet of a capture in which tshark finds a wrong checksum or something malformed."""
+    options = ["-o", "ip.check_checksum:TRUE", "-o", "udp.check_checksum:TRUE"]
+    words = ["tshark", "-r", capture, *options, "-Y", WRONG]
+    done = subprocess.run(words, capture_output=True, text=True, check=False)
+    assert done.returncode == 0, done.stderr[-500:]
+    return done.stdout.splitlines()[:1]
+
+
 @pytest.mark.parametrize("node", [0, 1])
 @pytest.mark.needs("tshark")
 def test_captures(node, plain, tmp_path):
@@ -113,11 +123,29 @@ def test_captures(node, plain, tmp_path):
     passed(plain / "bsdudp-first", "--pcap", "--size=9000", cwd=tmp_path)
     capture = tmp_path / f"bsdudp-first-{node}-0.pcap"
     assert capture.stat().st_size > 0
-    options = ["-o", "ip.check_checksum:TRUE", "-o", "udp.check_checksum:TRUE"]
-    words = ["tshark", "-r", capture, *options, "-Y", WRONG]
-    done = subprocess.run(words, capture_output=True, text=True, check=False)
-    assert done.returncode == 0, done.stderr[-500:]
-    assert not done.stdout, done.stdout.splitlines()[0]
+    assert not wrong_packets(capture)
+
+
+@pytest.mark.parametrize("size, fragments", [(1024, 1), (3000, 3)])
+def test_second(size, fragments, plain):
+    """The first datagram waits in the router, which holds three packets for an unknown hardware address: all arrive."""
+    said = passed(plain / "bsdudp-second", f"--size={size}")
+    assert len(re.findall(f"client receives {size} bytes", said)) == 3
+    assert f"server: {3 * fragments} packets received, 0 lacked a hardware address" in said
+
+
+@pytest.mark.needs("tshark")
+def test_frames_of_the_lan(plain, tmp_path):
+    """The host announces its address twice (RFC 5227, section 1.1), replies to the router's request, and its packets
+    have right checksums."""
+    passed(plain / "bsdudp-second", "--pcap", "--size=3000", cwd=tmp_path)
+    capture = tmp_path / "bsdudp-second-4-0.pcap"
+    assert not wrong_packets(capture)
+    words = ["tshark", "-r", capture, "-Y", "arp.src.proto_ipv4 == 10.1.2.4", "-T", "fields"]
+    words += ["-e", "eth.dst", "-e", "arp.opcode", "-e", "arp.dst.proto_ipv4"]
+    rows = subprocess.run(words, capture_output=True, text=True, check=True).stdout.splitlines()
+    assert rows.count("ff:ff:ff:ff:ff:ff\t1\t10.1.2.4") == 2
+    assert [it for it in rows if it.endswith("\t2\t10.1.2.1")]
 
 
 @pytest.mark.parametrize(

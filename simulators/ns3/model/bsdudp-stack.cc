@@ -9,9 +9,11 @@
 #include "bsdudp-socket.h"
 
 #include "ns3/abort.h"
+#include "ns3/arp-l3-protocol.h"
 #include "ns3/ipv4-header.h"
 #include "ns3/ipv4-l3-protocol.h"
 #include "ns3/ipv4.h"
+#include "ns3/mac48-address.h"
 #include "ns3/simulator.h"
 #include "ns3/udp-header.h"
 #include "ns3/udp-l4-protocol.h"
@@ -40,6 +42,10 @@ namespace
 /// The MTUs that the library accepts.
 constexpr uint16_t LEAST_MTU = 68;
 constexpr uint16_t GREATEST_MTU = BSDUDP_TX_ROOM;
+constexpr uint16_t GREATEST_MTU_ON_ETHERNET = BSDUDP_ETHER_ROOM - BsdudpFrame::LENGTH;
+
+/// A host on an Ethernet announces its address within this number of ticks after it was booted.
+constexpr int64_t ANNOUNCING = 12;
 
 /// The bytes of a UDP header.
 constexpr uint32_t UDP_LENGTH = 8;
@@ -56,11 +62,20 @@ FindCounter(const std::string& name)
     return i;
 }
 
+/// Whether a packet is a whole ICMP error, which a host on an Ethernet evaluates.
+bool
+IsIcmpError(Ptr<const Packet> packet)
+{
+    uint8_t bytes[BsdudpHeader::LENGTH + 1];
+    return packet && packet->CopyData(bytes, sizeof(bytes)) == sizeof(bytes) && bytes[9] == 1 &&
+           bytes[BsdudpHeader::LENGTH] == 3 && !BsdudpHeader(bytes).IsFragment();
+}
+
 /// A buffer for the bytes of a call. They're read before the next call.
 std::vector<uint8_t>&
 GetRoom(std::size_t length)
 {
-    static std::vector<uint8_t> room(BSDUDP_PACKET);
+    static std::vector<uint8_t> room(BSDUDP_ETHER_FRAME);
     if (room.size() < length)
     {
         room.resize(length);
@@ -93,6 +108,12 @@ BsdudpStack::GetTypeId()
                           UintegerValue(1),
                           MakeUintegerAccessor(&BsdudpStack::m_firstId),
                           MakeUintegerChecker<uint16_t>())
+            .AddAttribute("Gateway",
+                          "The neighbour that gets packets for other networks, if the device needs "
+                          "ARP. Without one they're dropped.",
+                          Ipv4AddressValue(Ipv4Address("0.0.0.0")),
+                          MakeIpv4AddressAccessor(&BsdudpStack::m_gateway),
+                          MakeIpv4AddressChecker())
             .AddAttribute("Tick",
                           "The time between two ticks. After 60 of them a datagram that lacks "
                           "fragments is dropped.",
@@ -135,16 +156,16 @@ BsdudpStack::GetRefusal(Ptr<NetDevice> device)
     {
         reason << "it has no node";
     }
-    else if (device->NeedsArp())
+    else if (device->NeedsArp() && !Mac48Address::IsMatchingType(device->GetAddress()))
     {
         reason << "a " << device->GetInstanceTypeId().GetName()
-               << " needs ARP, which this stack hasn't: use point-to-point devices, or "
-                  "ns3::SimpleNetDevice with PointToPointMode. CSMA and Wi-Fi aren't supported";
+               << " needs ARP, and its hardware address doesn't have 48 bits";
     }
-    else if (device->GetMtu() < LEAST_MTU || device->GetMtu() > GREATEST_MTU)
+    const uint16_t greatest = device->NeedsArp() ? GREATEST_MTU_ON_ETHERNET : GREATEST_MTU;
+    if (reason.str().empty() && (device->GetMtu() < LEAST_MTU || device->GetMtu() > greatest))
     {
         reason << "its MTU is " << device->GetMtu() << ": set one of " << LEAST_MTU << " to "
-               << GREATEST_MTU << " before the stack is installed";
+               << greatest << " before the stack is installed";
     }
     return reason.str();
 }
@@ -158,20 +179,45 @@ BsdudpStack::Start(Ptr<NetDevice> device, Ipv4Address address, Ipv4Mask mask)
     NS_ABORT_MSG_IF(m_device, "bsdudp: the stack was started before");
     m_address = address;
     m_broadcast = address.GetSubnetDirectedBroadcast(mask);
-    const bsdudp_config config =
-        {m_address.Get(), m_broadcast.Get(), m_mbufs, m_clusters, device->GetMtu(), m_firstId};
-    const int answer = bsdudp_boot(&m_stack, &config);
-    NS_ABORT_MSG_IF(answer == -BSDUDP_EINVAL,
-                    "bsdudp: " << address << " with the broadcast address " << m_broadcast
-                               << " can't be the address of a stack: both have to be of 1.0.0.0 to "
-                                  "223.255.255.255, not in 127.0.0.0/8, and not the same");
-    NS_ABORT_MSG_IF(answer != 0, "bsdudp: no stack: " << bsdudp_strerror(answer));
     m_device = device;
     m_node = device->GetNode();
+    m_onEthernet = device->NeedsArp();
+    Boot(mask);
     m_start = Simulator::Now();
+    // a promiscuous handler gets the destination of a frame, too
     m_node->RegisterProtocolHandler(MakeCallback(&BsdudpStack::Receive, this),
                                     Ipv4L3Protocol::PROT_NUMBER,
-                                    device);
+                                    device,
+                                    m_onEthernet);
+    if (m_onEthernet)
+    {
+        m_node->RegisterProtocolHandler(MakeCallback(&BsdudpStack::Receive, this),
+                                        ArpL3Protocol::PROT_NUMBER,
+                                        device,
+                                        true);
+        m_tickEvent = Simulator::ScheduleNow(&BsdudpStack::Tick, this); // sends the announcement
+    }
+}
+
+void
+BsdudpStack::Boot(Ipv4Mask mask)
+{
+    const bsdudp_config config =
+        {m_address.Get(), m_broadcast.Get(), m_mbufs, m_clusters, m_device->GetMtu(), m_firstId};
+    bsdudp_link link = {{}, mask.Get(), m_gateway.Get(), 0};
+    if (m_onEthernet)
+    {
+        Mac48Address::ConvertFrom(m_device->GetAddress()).CopyTo(link.mac);
+    }
+    const int answer = m_onEthernet ? bsdudp_ether_boot(&m_stack, &config, &link)
+                                    : bsdudp_boot(&m_stack, &config);
+    NS_ABORT_MSG_IF(answer != 0,
+                    "bsdudp: no stack for " << m_address << " with the broadcast address "
+                                             << m_broadcast << ": "
+                                             << bsdudp_boot_strerror(answer,
+                                                                     &config,
+                                                                     m_onEthernet ? &link
+                                                                                  : nullptr));
 }
 
 void
@@ -188,6 +234,7 @@ BsdudpStack::DoDispose()
         m_sockets.begin()->second->Close();
     }
     m_fragments.Clear();
+    m_sent.Clear();
     bsdudp_end(&m_stack);
     m_device = nullptr;
     m_node = nullptr;
@@ -241,6 +288,18 @@ BsdudpStack::ReadCounts() const
     return counts;
 }
 
+BsdudpStack::Counts
+BsdudpStack::ReadDropCounts() const
+{
+    static const uint32_t protocol = FindCounter("ip.noproto");
+    Counts counts = ReadCounts();
+    if (m_onEthernet)
+    {
+        bsdudp_ether_noproto(&m_stack, &counts[protocol]);
+    }
+    return counts;
+}
+
 std::map<std::string, uint64_t>
 BsdudpStack::GetCounters() const
 {
@@ -283,10 +342,25 @@ BsdudpStack::GetUnfinished() const
     return m_unfinished;
 }
 
+bool
+BsdudpStack::IsOnEthernet() const
+{
+    return m_onEthernet;
+}
+
+struct bsdudp_tallies
+BsdudpStack::GetTallies() const
+{
+    struct bsdudp_tallies tallies = {};
+    bsdudp_ether_tallies(&m_stack, &tallies);
+    return tallies;
+}
+
 int
 BsdudpStack::Send(int fd, const bsdudp_addr* to, Ptr<Packet> packet)
 {
     NS_LOG_FUNCTION(this << fd << packet);
+    CatchUp();
     const uint32_t length = packet->GetSize();
     const Before before = ReadBefore();
     std::vector<uint8_t>& room = GetRoom(length);
@@ -297,13 +371,12 @@ BsdudpStack::Send(int fd, const bsdudp_addr* to, Ptr<Packet> packet)
     {
         NoteTooLong(packet);
     }
+    const BsdudpLinkDrops link(&m_stack);
     const auto leaving = TakePackets(packet);
     const auto readers = NoteArrivals(packet, packet->Copy(), 0);
     Settle(packet, before);
-    for (const auto& it : leaving)
-    {
-        Transmit(it);
-    }
+    ReportLinkDrops(packet, link);
+    Transmit(leaving);
     // as in ns-3's own loopback device, so that two sockets of a node don't call each other
     // recursively
     for (const auto& socket : readers)
@@ -371,10 +444,15 @@ BsdudpStack::Cut(Ptr<Packet> datagram, const uint8_t* bytes, uint32_t length)
     return Create<Packet>(bytes, length);
 }
 
-std::vector<Ptr<Packet>>
+std::vector<BsdudpStack::Leaving>
 BsdudpStack::TakePackets(Ptr<const Packet> packet)
 {
-    std::vector<Ptr<Packet>> leaving;
+    if (m_onEthernet)
+    {
+        m_sent.Add(packet);
+        return TakeFrames();
+    }
+    std::vector<Leaving> leaving;
     uint8_t* bytes = GetRoom(BSDUDP_TX_ROOM).data();
     Ptr<Packet> datagram;
     int length;
@@ -389,20 +467,56 @@ BsdudpStack::TakePackets(Ptr<const Packet> packet)
             datagram = packet->Copy();
             datagram->AddHeader(udp);
         }
-        leaving.push_back(Cut(datagram, bytes, length));
+        leaving.push_back({Cut(datagram, bytes, length),
+                           m_device->GetBroadcast(),
+                           Ipv4L3Protocol::PROT_NUMBER});
+    }
+    return leaving;
+}
+
+std::vector<BsdudpStack::Leaving>
+BsdudpStack::TakeFrames()
+{
+    std::vector<Leaving> leaving;
+    uint8_t* frame = GetRoom(BSDUDP_ETHER_ROOM).data();
+    int length;
+    while ((length = bsdudp_ether_transmit(&m_stack, frame, BSDUDP_ETHER_ROOM)) > 0)
+    {
+        const uint8_t* bytes = frame + BsdudpFrame::LENGTH;
+        length -= BsdudpFrame::LENGTH;
+        const uint16_t protocol = BsdudpFrame::GetProtocol(frame);
+        Ptr<Packet> datagram;
+        if (protocol == Ipv4L3Protocol::PROT_NUMBER && bytes[9] == UdpL4Protocol::PROT_NUMBER)
+        {
+            datagram = m_sent.Take(bytes);
+        }
+        leaving.push_back({datagram ? Cut(datagram, bytes, length) : Create<Packet>(bytes, length),
+                           BsdudpFrame::GetDestination(frame),
+                           protocol});
+    }
+    if (!IsBsdudpRequesting(&m_stack))
+    {
+        m_sent.Clear(); // no packet waits
     }
     return leaving;
 }
 
 void
-BsdudpStack::Transmit(Ptr<Packet> packet)
+BsdudpStack::Transmit(const std::vector<Leaving>& leaving)
 {
-    m_txTrace(packet);
-    // the device may change a packet that it accepts
-    if (!m_device->Send(packet, m_device->GetBroadcast(), Ipv4L3Protocol::PROT_NUMBER))
+    for (const auto& it : leaving)
     {
-        NS_LOG_INFO("the device refused a packet of " << packet->GetSize() << " bytes");
-        m_dropTrace(packet, "device: it refused the packet, its queue is full or its link is down");
+        if (it.protocol == Ipv4L3Protocol::PROT_NUMBER)
+        {
+            m_txTrace(it.packet);
+        }
+        // the device may change a packet that it accepts
+        if (!m_device->Send(it.packet, it.to, it.protocol))
+        {
+            NS_LOG_INFO("the device refused a packet of " << it.packet->GetSize() << " bytes");
+            m_dropTrace(it.packet,
+                        "device: it refused the packet, its queue is full or its link is down");
+        }
     }
 }
 
@@ -415,19 +529,63 @@ BsdudpStack::Receive(Ptr<NetDevice> device,
                      NetDevice::PacketType type)
 {
     NS_LOG_FUNCTION(this << packet << protocol << from << to << type);
-    m_rxTrace(packet);
+    if (type == NetDevice::PACKET_OTHERHOST)
+    {
+        return;
+    }
+    CatchUp();
+    const uint32_t head = m_onEthernet ? BsdudpFrame::LENGTH : 0;
     const uint32_t length = std::min<uint32_t>(packet->GetSize(), BSDUDP_PACKET);
-    std::vector<uint8_t>& room = GetRoom(length);
-    packet->CopyData(room.data(), length);
+    std::vector<uint8_t>& room = GetRoom(head + length);
+    packet->CopyData(room.data() + head, length);
+    if (m_onEthernet)
+    {
+        BsdudpFrame::Write(room.data(), to, from, protocol);
+    }
+    const BsdudpLinkDrops link(&m_stack);
+    std::vector<Ptr<BsdudpSocket>> readers;
+    if (protocol == Ipv4L3Protocol::PROT_NUMBER)
+    {
+        m_rxTrace(packet);
+        readers = ReceivePacket(packet, room, head);
+    }
+    else
+    {
+        Input(room, head + length);
+    }
+    if (m_onEthernet)
+    {
+        const auto leaving = TakeFrames();
+        ReportLinkDrops(packet, link);
+        Transmit(leaving);
+        ScheduleTick();
+    }
+    for (const auto& socket : readers)
+    {
+        socket->Wake();
+    }
+}
+
+void
+BsdudpStack::Input(const std::vector<uint8_t>& bytes, uint32_t length)
+{
+    m_onEthernet ? bsdudp_ether_receive(&m_stack, bytes.data(), length)
+                 : bsdudp_rx(&m_stack, bytes.data(), length);
+}
+
+std::vector<Ptr<BsdudpSocket>>
+BsdudpStack::ReceivePacket(Ptr<const Packet> packet, std::vector<uint8_t>& bytes, uint32_t head)
+{
+    const uint32_t length = std::min<uint32_t>(packet->GetSize(), BSDUDP_PACKET);
     // a header that the library refuses may have any fields: then no counter of fragments increases
     if (length < BsdudpHeader::LENGTH)
     {
-        std::fill_n(room.begin() + length, BsdudpHeader::LENGTH - length, 0);
+        std::fill_n(bytes.begin() + head + length, BsdudpHeader::LENGTH - length, 0);
     }
-    const BsdudpHeader header(room.data());
+    const BsdudpHeader header(bytes.data() + head);
     const Before before = ReadBefore();
     const FragmentCounts fragments = ReadFragmentCounts(header);
-    bsdudp_rx(&m_stack, room.data(), length);
+    Input(bytes, head + length);
     Ptr<const Packet> datagram = packet;
     uint32_t start = BsdudpHeader::LENGTH + UDP_LENGTH;
     if (header.IsFragment())
@@ -445,10 +603,7 @@ BsdudpStack::Receive(Ptr<NetDevice> device,
     }
     const auto readers = NoteArrivals(packet, datagram, start);
     Settle(packet, before);
-    for (const auto& socket : readers)
-    {
-        socket->Wake();
-    }
+    return readers;
 }
 
 std::vector<Ptr<BsdudpSocket>>
@@ -482,7 +637,7 @@ BsdudpStack::ReadBefore() const
     Before before{!m_dropTrace.IsEmpty() || g_log.IsEnabled(LOG_INFO), {}};
     if (before.read)
     {
-        before.counts = ReadCounts();
+        before.counts = ReadDropCounts();
     }
     return before;
 }
@@ -512,18 +667,33 @@ BsdudpStack::Drop(Ptr<const Packet> packet, uint32_t counter)
 }
 
 void
+BsdudpStack::ReportLinkDrops(Ptr<const Packet> packet, const BsdudpLinkDrops& before)
+{
+    for (const auto& it : BsdudpLinkDrops(&m_stack).GetSince(before))
+    {
+        for (uint64_t i = 0; i < it.count; i++)
+        {
+            NS_LOG_INFO("dropped: " << it.cause);
+            m_dropTrace(it.current && packet ? packet : Ptr<const Packet>(Create<Packet>()),
+                        it.cause);
+        }
+    }
+}
+
+void
 BsdudpStack::Settle(Ptr<const Packet> packet, const Before& before)
 {
     static const uint32_t reclaimed = FindCounter("ip.reclaimed");
+    static const uint32_t protocol = FindCounter("ip.noproto");
     static const uint32_t timeout = FindCounter("ip.fragtimeout");
     if (before.read)
     {
-        const Counts counts = ReadCounts();
+        const Counts counts = ReadDropCounts();
         for (uint32_t i = 0; i < COUNTERS; i++)
         {
             // expired ones don't belong to this packet
             if (counts[i] != before.counts[i] && bsdudp_counter_cause(i) != nullptr &&
-                i != reclaimed)
+                i != reclaimed && !(i == protocol && m_onEthernet && IsIcmpError(packet)))
             {
                 Drop(packet, i);
             }
@@ -545,14 +715,44 @@ void
 BsdudpStack::Tick()
 {
     NS_LOG_FUNCTION(this);
+    if (m_onEthernet)
+    {
+        CatchUp();
+        Transmit(TakeFrames());
+        ScheduleTick();
+        return;
+    }
     bsdudp_tick(&m_stack);
     Settle(nullptr, Before{});
 }
 
 void
+BsdudpStack::CatchUp()
+{
+    // ticks that weren't events change only ages, which the next call may depend on
+    const int64_t due = (Simulator::Now() - m_start).GetTimeStep() / m_tick.GetTimeStep();
+    for (; m_onEthernet && m_ticks < due; m_ticks++)
+    {
+        const BsdudpLinkDrops link(&m_stack);
+        bsdudp_tick(&m_stack);
+        Settle(nullptr, Before{});
+        const auto leaving = TakeFrames();
+        ReportLinkDrops(nullptr, link);
+        Transmit(leaving);
+    }
+}
+
+bool
+BsdudpStack::NeedsTick() const
+{
+    return m_unfinished.Get() != 0 ||
+           (m_onEthernet && (m_ticks < ANNOUNCING || IsBsdudpRequesting(&m_stack)));
+}
+
+void
 BsdudpStack::ScheduleTick()
 {
-    if (m_unfinished.Get() == 0 || m_tickEvent.IsRunning())
+    if (!NeedsTick() || m_tickEvent.IsRunning())
     {
         return;
     }

@@ -7,6 +7,7 @@
 #define BSDUDP_STACK_H
 
 #include "bsdudp-fragments.h"
+#include "bsdudp-link.h"
 
 #include "ns3/event-id.h"
 #include "ns3/ipv4-address.h"
@@ -42,9 +43,12 @@ class Socket;
  *
  * \brief A stack of libbsdudp on one device of a node.
  *
- * It receives the IPv4 packets of the device and passes the device those that leave.
+ * It receives the IPv4 packets of the device and passes the device those that leave. If the device
+ * needs ARP, as CsmaNetDevice does, the node is a host on an Ethernet: the library resolves
+ * hardware addresses, replies to pings, and reports datagrams for closed ports to their senders.
  * Sockets come from CreateSocket(), which the node's UdpSocketFactory calls. Ticks are events only
- * while fragments of a datagram wait for others, so that a simulation ends by itself.
+ * while fragments of a datagram wait for others, or packets for a hardware address, so that a
+ * simulation ends by itself.
  *
  * Packets and calls have the effects of libbsdudp. The bytes on the link and those that a socket
  * reads are always the library's. An ns-3 packet carries them, with its tags, only if it has
@@ -71,9 +75,8 @@ class BsdudpStack : public Object
     /**
      * \brief Why a device can't have a stack.
      *
-     * Links whose devices need ARP (CSMA, Wi-Fi) aren't supported: a stack has IPv4 packets and no
-     * Ethernet frames. Neither are MTUs that the library doesn't accept, and a device without a
-     * node.
+     * It can't if it has no node, if it needs ARP and has no 48-bit hardware address, or if the
+     * library doesn't accept its MTU.
      *
      * \param device the device
      * \return the reason in words, empty if it can
@@ -147,6 +150,16 @@ class BsdudpStack : public Object
     uint32_t GetUnfinished() const;
 
     /**
+     * \return whether the node is a host on an Ethernet: its device needs ARP
+     */
+    bool IsOnEthernet() const;
+
+    /**
+     * \return the counters of the link; all 0 if IsOnEthernet() is false
+     */
+    struct bsdudp_tallies GetTallies() const;
+
+    /**
      * \brief TracedCallback signature of Tx and Rx.
      * \param [in] packet the packet, from its IPv4 header on
      */
@@ -198,6 +211,14 @@ class BsdudpStack : public Object
         Counts counts; ///< the counters, if so
     };
 
+    /// A packet for the device.
+    struct Leaving
+    {
+        Ptr<Packet> packet; ///< the packet
+        Address to;         ///< the hardware address of its destination
+        uint16_t protocol;  ///< IPv4 or ARP
+    };
+
     /**
      * \brief Sends a datagram and passes its packets to the device.
      * \param fd the descriptor of the socket
@@ -230,11 +251,40 @@ class BsdudpStack : public Object
                  const Address& to,
                  NetDevice::PacketType type);
 
+    /**
+     * \brief Boots the library's stack.
+     * \param mask the mask of the network
+     */
+    void Boot(Ipv4Mask mask);
+
+    /**
+     * \brief Passes bytes to the library.
+     * \param bytes a packet, or on an Ethernet a frame
+     * \param length how many there are
+     */
+    void Input(const std::vector<uint8_t>& bytes, uint32_t length);
+
+    /**
+     * \brief An IPv4 packet arrived.
+     * \param packet the packet
+     * \param bytes its bytes; on an Ethernet the frame's
+     * \param head how many of them are before the packet
+     * \return the sockets that received a datagram
+     */
+    std::vector<Ptr<BsdudpSocket>>
+    ReceivePacket(Ptr<const Packet> packet, std::vector<uint8_t>& bytes, uint32_t head);
+
     /// The time of the attribute Tick passed, half a second by default.
     void Tick();
 
-    /// Schedules the next tick if a datagram waits for fragments and none is scheduled.
+    /// Makes the ticks of a host on an Ethernet that are due, and sends what they cause.
+    void CatchUp();
+
+    /// Schedules the next tick if it's needed and none is scheduled.
     void ScheduleTick();
+
+    /// \return whether something waits that a tick changes
+    bool NeedsTick() const;
 
     /**
      * \brief Whether an ns-3 packet has these bytes.
@@ -258,16 +308,22 @@ class BsdudpStack : public Object
     /**
      * \brief Takes all packets that wait for the link.
      * \param packet the data that was sent, of which they're cut if the bytes are the same
-     * \return the packets
+     * \return the packets. On links without ARP each goes to the broadcast address of the link, as
+     * in ns-3's own Ipv4Interface
      */
-    std::vector<Ptr<Packet>> TakePackets(Ptr<const Packet> packet);
+    std::vector<Leaving> TakePackets(Ptr<const Packet> packet);
 
     /**
-     * \brief Passes a packet to the device. On links without ARP each goes to the broadcast address
-     * of the link, as in ns-3's own Ipv4Interface.
-     * \param packet the packet
+     * \brief Takes all frames of a host on an Ethernet.
+     * \return the packets in them
      */
-    void Transmit(Ptr<Packet> packet);
+    std::vector<Leaving> TakeFrames();
+
+    /**
+     * \brief Passes packets to the device.
+     * \param leaving the packets
+     */
+    void Transmit(const std::vector<Leaving>& leaving);
 
     /**
      * \brief Records which sockets received a datagram in the last call.
@@ -295,6 +351,9 @@ class BsdudpStack : public Object
     /// \return all counters
     Counts ReadCounts() const;
 
+    /// \return all counters; of a host on an Ethernet without the pings that got a reply
+    Counts ReadDropCounts() const;
+
     /**
      * \brief After a call: reports what it dropped and how many datagrams wait, and schedules the
      * tick.
@@ -310,21 +369,33 @@ class BsdudpStack : public Object
      */
     void Drop(Ptr<const Packet> packet, uint32_t counter);
 
+    /**
+     * \brief Reports what the link of a host on an Ethernet dropped in a call. A packet that had
+     * waited is reported as an empty one, because the library doesn't say which one it was.
+     * \param packet the packet of the call, null of a tick
+     * \param before the link's counters before the call
+     */
+    void ReportLinkDrops(Ptr<const Packet> packet, const BsdudpLinkDrops& before);
+
     /// The library's stack. Queries don't change it, but need a pointer to it.
     mutable bsdudp m_stack = BSDUDP_NONE;
     Ptr<Node> m_node;                            ///< the node
     Ptr<NetDevice> m_device;                     ///< its device
     Ipv4Address m_address;                       ///< the device's address
     Ipv4Address m_broadcast;                     ///< the broadcast address of its network
+    Ipv4Address m_gateway;                       ///< the gateway, on an Ethernet
+    bool m_onEthernet{false};                    ///< whether the device needs ARP
     uint32_t m_mbufs;                            ///< how many mbufs the pool has
     uint32_t m_clusters;                         ///< how many clusters
     uint16_t m_firstId;                          ///< the identification of the first datagram
     Time m_tick;                                 ///< the time between two ticks
     Time m_start;                                ///< when the stack was booted
     EventId m_tickEvent;                         ///< the next tick, if one is needed
+    int64_t m_ticks{0};                          ///< the ticks so far, of a host on an Ethernet
     std::map<int, BsdudpSocket*> m_sockets;      ///< the open sockets by their descriptors
     uint64_t m_tooLong{0};                       ///< sends that were too long
     BsdudpFragments m_fragments;                 ///< the packets of unfinished datagrams
+    BsdudpSent m_sent;                           ///< data of datagrams that may wait to be sent
     TracedValue<uint32_t> m_unfinished{0};       ///< how many datagrams wait for fragments
     TracedCallback<Ptr<const Packet>> m_txTrace; ///< packets that leave
     TracedCallback<Ptr<const Packet>> m_rxTrace; ///< packets that come

@@ -26,9 +26,17 @@ Refuse(const std::string& name)
     NodeContainer nodes;
     nodes.Create(2);
     auto devices = PointToPointHelper().Install(nodes);
-    if (name == "csma")
+    if (name == "frame")
     {
-        BsdudpHelper().Install(CsmaHelper().Install(nodes), addresses);
+        auto csma = CsmaHelper().Install(nodes);
+        csma.Get(0)->SetMtu(1501);
+        BsdudpHelper().Install(csma, addresses);
+    }
+    else if (name == "gateway")
+    {
+        BsdudpHelper bsdudp;
+        bsdudp.SetAttribute("Gateway", Ipv4AddressValue("10.0.1.1"));
+        bsdudp.Install(CsmaHelper().Install(nodes), addresses);
     }
     else if (name == "mtu")
     {
@@ -73,7 +81,9 @@ main(int argc, char* argv[])
 {
     std::string refuse;
     CommandLine cmd(__FILE__);
-    cmd.AddValue("refuse", "csma, mtu, device, stack, later, address, count, bulk", refuse);
+    cmd.AddValue("refuse",
+                 "frame, gateway, mtu, device, stack, later, address, count, bulk",
+                 refuse);
     cmd.Parse(argc, argv);
     GlobalValue::Bind("ChecksumEnabled", BooleanValue(true)); // for the runs without bsdudp
     if (!refuse.empty())
@@ -86,5 +96,7 @@ main(int argc, char* argv[])
     CheckApplications();
     CheckSockets();
     CheckStacks();
+    CheckEthernetTable();
+    CheckEthernet();
     return g_faults == 0 ? 0 : 1;
 }

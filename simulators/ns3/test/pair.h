@@ -9,6 +9,7 @@
 
 #include "ns3/bsdudp-module.h"
 #include "ns3/core-module.h"
+#include "ns3/csma-module.h"
 #include "ns3/internet-module.h"
 #include "ns3/network-module.h"
 #include "ns3/point-to-point-module.h"
@@ -57,7 +58,14 @@ enum Who
 
 inline const char* const WHO[] = {"none", "client", "server", "both"};
 
-/// Two nodes on a point-to-point link that loses packets.
+/// The link between two nodes.
+enum Link
+{
+    POINT_TO_POINT,
+    ETHERNET
+};
+
+/// Two nodes on a link that loses packets.
 struct Pair
 {
     NodeContainer nodes;         ///< the client and the server
@@ -66,13 +74,14 @@ struct Pair
     Ptr<BsdudpStack> client;     ///< that of the client, or null
     Ptr<BsdudpStack> server;     ///< that of the server, or null
 
-    explicit Pair(Who who, double loss = 0, uint32_t mbufs = 16384, uint32_t clusters = 4096)
+    explicit Pair(Who who,
+                  double loss = 0,
+                  uint32_t mbufs = 16384,
+                  uint32_t clusters = 4096,
+                  Link link = POINT_TO_POINT)
     {
         nodes.Create(2);
-        PointToPointHelper link;
-        link.SetDeviceAttribute("DataRate", StringValue("10Mbps"));
-        link.SetChannelAttribute("Delay", StringValue("2ms"));
-        devices = link.Install(nodes);
+        link == ETHERNET ? Connect<CsmaHelper>("Channel") : Connect<PointToPointHelper>("Device");
         Ipv4AddressHelper addresses("10.0.0.0", "255.255.255.0");
         for (uint32_t i = 0; i < 2; i++)
         {
@@ -93,6 +102,17 @@ struct Pair
             stacks.Add(bsdudp.Install(nodes.Get(i), devices.Get(i), addresses).Get(0));
             (i == 0 ? client : server) = stacks.Get(stacks.GetN() - 1);
         }
+    }
+
+    /// Connects the nodes. The rate is an attribute of the channel or of the device.
+    template <typename Helper>
+    void Connect(const std::string& which)
+    {
+        Helper link;
+        which == "Channel" ? link.SetChannelAttribute("DataRate", StringValue("10Mbps"))
+                           : link.SetDeviceAttribute("DataRate", StringValue("10Mbps"));
+        link.SetChannelAttribute("Delay", StringValue("2ms"));
+        devices = link.Install(nodes);
     }
 
     /// Runs until no event is left, which must be soon after the last datagram.
@@ -194,6 +214,9 @@ struct Traced
 /// Datagrams of all lengths at which something changes, by ns-3's echo server and client.
 void CheckTable();
 
+/// The same on a CSMA channel.
+void CheckEthernetTable();
+
 /// The other applications of ns-3 that use UdpSocketFactory.
 void CheckApplications();
 
@@ -202,6 +225,9 @@ void CheckSockets();
 
 /// Stacks: trace sources, floods, and a device that accepts no more packets.
 void CheckStacks();
+
+/// Hosts on an Ethernet, with ns-3's own nodes on the same CSMA channel.
+void CheckEthernet();
 
 } // namespace ns3
 

@@ -38,10 +38,20 @@ operator<<(std::ostream& out, const Count& count)
 
 /// ns-3's echo server and client.
 Count
-Echo(Who who, uint32_t size, double loss, uint32_t count)
+Echo(Who who, uint32_t size, double loss, uint32_t count, Link link = POINT_TO_POINT)
 {
-    Pair pair(who, loss);
+    Pair pair(who, loss, 16384, 4096, link);
     Count got;
+    for (uint32_t i = 0; i < 2 && link == ETHERNET; i++)
+    {
+        // ns-3's own stack holds three packets for an unknown hardware address, so both are learnt
+        // before datagrams of seven packets are sent
+        auto first = Open(pair.nodes.Get(i));
+        first->Bind();
+        Simulator::Schedule(MilliSeconds(100 + 400 * i), [first, i] {
+            first->SendTo(Create<Packet>(1), 0, At(i == 0 ? "10.0.0.2" : "10.0.0.1", 9));
+        });
+    }
     auto server = UdpEchoServerHelper(7).Install(pair.nodes.Get(1));
     UdpEchoClientHelper helper(Ipv4Address("10.0.0.2"), 7);
     helper.SetAttribute("MaxPackets", UintegerValue(count));
@@ -146,6 +156,22 @@ CheckTable()
             Check(loss == 0 ? own == Count{count, count, 0}
                             : own.requests > own.echoes && own.echoes > 0 && own.requests < count,
                   what.str() + ": nothing is tested, or nothing is lost");
+        }
+    }
+}
+
+void
+CheckEthernetTable()
+{
+    for (const uint32_t size : {0, 1, 17, 18, 1472, 1473, 9000, 9216})
+    {
+        const Count own = Echo(NONE, size, 0, 30, ETHERNET);
+        Check(own == Count{30, 30, 0}, "ns-3's own stacks on CSMA: an echo is missing");
+        for (const Who who : {CLIENT, SERVER, BOTH})
+        {
+            std::ostringstream what;
+            what << "bsdudp at " << WHO[who] << " on CSMA, " << size << " bytes";
+            Same(Echo(who, size, 0, 30, ETHERNET), own, what.str());
         }
     }
 }
