@@ -9,6 +9,17 @@
    takes 6 clusters and 13 mbufs when it arrives, and 5 and 20 when it's sent. */
 enum { MBUFS = 40, CLUSTERS = 7, RAM = 6144 };
 
+/* The address comes by DHCP, or with -DFIXED it's 10.0.0.1. */
+#ifdef FIXED
+#define ADDR BSDUDP_IP(10, 0, 0, 1)
+#define MASK 0xffffff00
+#define GATEWAY BSDUDP_IP(10, 0, 0, 2)
+#else
+#define ADDR 0
+#define MASK 0
+#define GATEWAY 0
+#endif
+
 static unsigned char memory[BSDUDP_ETHER_MEMORY(MBUFS, CLUSTERS)] __attribute__((aligned(BSDUDP_ALIGNMENT)));
 static uint8_t ram[RAM];
 
@@ -44,9 +55,9 @@ uint32_t port_stack(void) { return machine_stack(); }
 
 int main(void)
 {
-    const struct device device = {{BSDUDP_IP(10, 0, 0, 1), BSDUDP_IP(10, 0, 0, 255), MBUFS, CLUSTERS, 1500, 1},
-                                  {{2, 0, 0, 0, 0, 1}, 0xffffff00, BSDUDP_IP(10, 0, 0, 2), 0},
-                                  memory, sizeof memory, flash_start, (uint32_t)(flash_end - flash_start), ram, RAM};
+    const struct device device = {{ADDR, 0, MBUFS, CLUSTERS, 1500, 1},
+                                  {{2, 0, 0, 0, 0, 1}, MASK, GATEWAY, 0},
+                                  memory, sizeof memory, flash_start, (uint32_t)(flash_end - flash_start), ram, RAM, 0};
     device_run(&device); /* it says why it doesn't start */
     return 1;
 }

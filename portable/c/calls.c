@@ -280,11 +280,11 @@ int bsdudp_ether_neighbour(struct bsdudp *stack, uint32_t i, struct bsdudp_neigh
 }
 
 #if BSDUDP_MALLOC
-/* A block of `len` bytes, or NULL if boot fails in any case: it then returns the error. */
+/* A block of `len` bytes from an aligned place on, or NULL if boot fails in any case: it then returns the error. */
 static u8 *block_of(const struct bsdudp *stack, const struct bsdudp_config *config, size_t len)
 {
     const int has_sizes = config->mbufs >= 1 && config->mbufs <= 65535 && config->clusters <= 4096;
-    return stack->core.at == 0 && has_sizes ? malloc(len) : NULL;
+    return stack->core.at == 0 && has_sizes ? malloc(len + BSDUDP_ALIGNMENT - 1) : NULL;
 }
 
 /* The block is the stack's, or free again. */

@@ -12,6 +12,7 @@ from portable.tests import replies
 from tests.capi.conftest import runs  # noqa: F401 (a fixture)
 from tests.cases import TOP
 from tests.made import core_for, module, portable_c  # noqa: F401 (fixtures)
+from tools import llvm
 
 CC = os.environ.get("CC", "cc")
 C99 = ["-std=c99", "-Wall", "-Wextra", "-Werror", "-pedantic", "-Wno-unused-parameter", f"-I{TOP / 'portable/tests'}"]
@@ -19,6 +20,7 @@ STRICT = [*C99, f"-I{TOP / 'capi/include'}"]
 SANITIZED = ["-fsanitize=address,undefined", "-fno-sanitize-recover=all"]
 # A program that plays scripts with the library.
 DRIVER = [TOP / "portable/tests/run.c", TOP / "portable/tests/host.c"]
+BOARD = TOP / "portable/board"
 
 
 @pytest.fixture(scope="session")
@@ -33,6 +35,13 @@ def answered(once) -> Callable[[int, pathlib.Path], tuple]:
         return pickle.loads((once(f"scripts-{count}", make) / "scripts").read_bytes())
 
     return of
+
+
+@pytest.fixture(scope="session")
+def board(core_for, once) -> pathlib.Path:  # noqa: F811
+    """The folder of the board's programs. Linking fails unless 64 KB of memory are enough."""
+    library = core_for("cortex-m3")
+    return once("board", lambda folder: llvm.run(BOARD / "build", library, folder))
 
 
 @pytest.fixture

@@ -9,7 +9,7 @@ from typing import NamedTuple
 
 import pytest
 
-from tests.boards.conftest import CC, DRIVER, SANITIZED, STRICT, replies
+from tests.boards.conftest import BOARD, CC, DRIVER, SANITIZED, STRICT, replies
 from tests.cases import TOP
 from tools import llvm
 
@@ -75,7 +75,7 @@ def test_targets_are_known():
 
 @pytest.mark.parametrize("target", TARGETS)
 def test_target_is_made(target, core_for):
-    assert sorted(it.name for it in core_for(target).iterdir()) == ["bsdudp.h", "libbsdudp.a"]
+    assert sorted(it.name for it in core_for(target).iterdir()) == ["bsdudp.h", "bsdudp_notes.h", "libbsdudp.a"]
 
 
 @hosts()
@@ -179,25 +179,17 @@ def test_planted_fault_is_seen(old, new, module, compiled, tmp_path):
 
 # ---- a Cortex-M3 -----------------------------------------------------------------------------------------------------
 
-BOARD = TOP / "portable/board"
 MACHINE = ["timeout", "900", "qemu-system-arm", "-M", "mps2-an385", "-display", "none", "-monitor", "none", "-serial"]
 MACHINE += ["stdio", "-semihosting-config", "enable=on,target=native"]
 # The most of the columns of bench/board's table, for each level: the library, the echo's text, data, bss and call
 # stack, and the instructions of three lengths.
 COSTS = {
-    "-Oz": [41_400, 22_300, 16, 53_000, 1_550, 5_800, 12_700, 47_000],
-    "-Os": [45_400, 24_300, 16, 53_000, 1_000, 2_110, 8_500, 26_600],
-    "-O2": [85_800, 57_300, 16, 53_000, 1_100, 2_050, 7_600, 22_500],
+    "-Oz": [43_300, 22_000, 16, 52_500, 1_500, 5_700, 11_950, 44_800],
+    "-Os": [47_200, 24_000, 16, 52_500, 980, 2_085, 7_860, 24_700],
+    "-O2": [87_500, 56_700, 16, 52_500, 1_050, 2_000, 7_070, 21_100],
 }
 DATA = 2
 on_board = pytest.mark.needs("arm-none-eabi", "qemu-arm")
-
-
-@pytest.fixture(scope="session")
-def board(core_for, once):
-    """Builds the board's programs. Linking fails unless 64 KB of memory are enough."""
-    library = core_for("cortex-m3")
-    return once("board", lambda folder: llvm.run(BOARD / "build", library, folder))
 
 
 @on_board

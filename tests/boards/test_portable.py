@@ -14,7 +14,7 @@ from tests.made import made
 
 pytestmark = [pytest.mark.slow, pytest.mark.needs("rt", "wasm-opt", "wasm2c", "cc")]
 ASKED = set("memcpy memmove memset memcmp _GLOBAL_OFFSET_TABLE_".split())
-PROGRAMS = {"calls": "tests/calls.c", "ether": "tests/ether.c", "wire": "examples/wire.c"}
+PROGRAMS = {it: f"tests/{it}.c" for it in ("calls", "ether", "rehost", "mark")} | {"wire": "examples/wire.c"}
 
 
 class Build(NamedTuple):
@@ -105,8 +105,8 @@ def test_shows_what_the_header_has(symbols):
 
 @pytest.mark.parametrize(
     "of, name",
-    [row("tested", "calls"), row("tested", "ether"), row("tested", "wire"), row("untested", "calls"),
-     row("untested", "ether")],
+    [row("tested", "calls"), row("tested", "ether"), row("tested", "rehost"), row("tested", "mark"),
+     row("tested", "wire"), row("untested", "calls"), row("untested", "ether"), row("untested", "rehost")],
 )  # fmt: skip
 def test_calls(of, name, builds, runs):
     runs(*builds(of, name, PROGRAMS[name]))
