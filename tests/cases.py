@@ -1,17 +1,14 @@
-"""Cases: the input of a program, and its expected output. A case with only arguments, a script and replies can also be
-played by `rt try --cases`, without a proof and without a built program."""
+"""Cases: the input of a program, and its expected output."""
 from __future__ import annotations
 
 import itertools
 import pathlib
-import re
 import subprocess
-import tempfile
 from typing import Iterable, Iterator, NamedTuple, Sequence
 
 import pytest
 
-from tests.goldens import Golden, rt_try
+from tests.goldens import Golden
 
 TOP = pathlib.Path(__file__).resolve().parent.parent
 SHOWN = 200
@@ -19,8 +16,7 @@ Row = "tuple[str, str]"
 
 
 class Case(NamedTuple):
-    """A run of bsdudp. `place` is the file or table with the replies. `rt try` plays a case only if `by_rt` is set,
-    because it takes half a second for each."""
+    """A run of bsdudp. `place` is the file or table with the replies."""
 
     name: str
     words: Sequence[str]
@@ -29,7 +25,6 @@ class Case(NamedTuple):
     status: int = 0
     said: bytes = b""
     place: str = ""
-    by_rt: bool = True
 
 
 def each(cases: Iterable[Case | Golden]) -> pytest.MarkDecorator:
@@ -41,7 +36,7 @@ def each(cases: Iterable[Case | Golden]) -> pytest.MarkDecorator:
 def dialog(name: str, words: Sequence[str], rows: Sequence[tuple[str, str]]) -> Case:
     """Returns a case of lines, each with its reply."""
     script, replies = ("".join(f"{it}\n" for it in column).encode() for column in zip(*rows))
-    return Case(name, words, script, replies, by_rt=False)
+    return Case(name, words, script, replies)
 
 
 def counted(**counters: int) -> tuple[str, str]:
@@ -94,34 +89,3 @@ def run(program: pathlib.Path, case: Case) -> str | None:
     """Plays a case with a built program."""
     done = subprocess.run([program, *case.words], input=case.script, capture_output=True, check=False)
     return difference(case, done.returncode, done.stdout, done.stderr)
-
-
-def tried(cases: Sequence[Case]) -> dict[str, str]:
-    """Plays cases with bsdudp in one `rt try`. Returns the differences, by the cases' names. rt doesn't compare
-    standard error."""
-    with tempfile.TemporaryDirectory() as scratch:
-        known = written(pathlib.Path(scratch), cases)
-        done = rt_try("bsdudp", scratch)
-    text, found = (done.stdout + done.stderr).decode(errors="replace"), {}
-    ended = dict(re.findall(r"(?m)^case=(\S+) (.*)$", text))
-    for name, case in known.items():
-        told = dict(it.split("=", 1) for it in ended.get(name, "").split() if "=" in it)
-        if not told:
-            found[case.name] = f"{case.name}: rt try doesn't name it: {text[-400:]}"
-        elif told.get("run") != "ended" or told.get("output") != "expected":
-            found[case.name] = f"{case.place or case.name}: other replies by `rt try`: {ended[name]}"
-        elif told.get("status") != str(case.status):
-            found[case.name] = f"{case.name}: status {told.get('status')}, and not {case.status}"
-    return found
-
-
-def written(folder: pathlib.Path, cases: Iterable[Case]) -> dict[str, Case]:
-    """Writes cases as the files that `rt try --cases` reads. Returns the cases by the names of their files."""
-    known = {}
-    for number, case in enumerate(cases):
-        name = f"{number}_" + re.sub(r"\W+", "_", case.name)
-        known[name] = case
-        (folder / name).write_bytes(case.script)
-        (folder / f"{name}.args").write_text("".join(f"{it}\n" for it in case.words), encoding="utf-8")
-        (folder / f"{name}.stdout").write_bytes(case.replies)
-    return known

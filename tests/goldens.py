@@ -6,8 +6,7 @@ import json
 import pathlib
 import re
 import subprocess
-import tempfile
-from typing import Iterable, Iterator, NamedTuple
+from typing import Iterator, NamedTuple
 
 TOP = pathlib.Path(__file__).resolve().parent.parent
 PLAY = TOP / "examples/play"
@@ -25,11 +24,6 @@ class Golden(NamedTuple):
     words: list[str]
     file: pathlib.Path
     status: int
-    by_rt = True
-
-
-class Stop(Exception):
-    """The reason why nothing could be played."""
 
 
 class Output(NamedTuple):
@@ -73,39 +67,6 @@ def played(program: pathlib.Path, golden: Golden) -> Output:
     return Output(done.stdout, done.returncode)
 
 
-def rt_try(crate: str, room: str) -> subprocess.CompletedProcess[bytes]:
-    """Plays the cases in a folder by `rt try`, which compiles the program once and proves nothing."""
-    words = ["rt", "try", "--cases", room]
-    return subprocess.run(
-        words, cwd=TOP / "crates" / crate, stdin=subprocess.DEVNULL, capture_output=True, check=False
-    )
-
-
-def tried(goldens: Iterable[Golden]) -> dict[str, Output]:
-    """Runs the bsdplay that `rt try` compiles without a proof, in one build for all. A run that aborts has no
-    output."""
-    known = {re.sub(r"\W+", "_", it.name): it for it in goldens}
-    with tempfile.TemporaryDirectory() as room:
-        for name, golden in known.items():
-            (pathlib.Path(room) / name).touch()
-            words = (str(TOP / it) if (TOP / it).is_file() else it for it in golden.words)
-            (pathlib.Path(room) / f"{name}.args").write_text("".join(f"{it}\n" for it in words), encoding="utf-8")
-        done = rt_try("bsdplay", room)
-    # rt runs the program under another name.
-    text = done.stdout.replace(f"{TOP}/".encode(), b"").replace(b"Usage: program ", b"Usage: bsdplay ")
-    blocks = re.split(rb"(?m)^== (\w+)\n", text)
-    said = done.stderr.decode(errors="replace")
-    status_of = dict(re.findall(r"(?m)^case=(\w+) run=ended status=(\d+) ", said))
-    found = {
-        known[name].name: Output(printed, int(status_of[name]))
-        for name, printed in zip((it.decode() for it in blocks[1::2]), blocks[2::2])
-        if name in known and name in status_of
-    }
-    if not found:
-        raise Stop(f"rt try plays nothing (status {done.returncode}): {said[-1000:].strip()}")
-    return found
-
-
 def text_lines(text: bytes) -> list[str]:
     """Returns the lines of an output, for a message."""
     return text.decode("utf-8", "backslashreplace").splitlines()
@@ -141,11 +102,9 @@ def differences(wanted: bytes, came: bytes) -> Iterator[str]:
         yield "  the ends of lines, or bytes that aren't UTF-8"
 
 
-def fault(golden: Golden, output: Output | None) -> str | None:
+def fault(golden: Golden, output: Output) -> str | None:
     """Returns how the output differs from the golden file, or None."""
     called = f"bsdplay {' '.join(golden.words)}"
-    if output is None:
-        return f"{called}: it stopped before its end"
     place = golden.file.relative_to(TOP)
     if not golden.file.exists():
         return f"{called}: there is no {place}; tools/goldens {golden.name} writes it"
@@ -162,14 +121,3 @@ def fault(golden: Golden, output: Output | None) -> str | None:
 def run(program: pathlib.Path, golden: Golden) -> str | None:
     """Plays a golden file's command line with a built bsdplay."""
     return fault(golden, played(program, golden))
-
-
-def faults(goldens: Iterable[Golden]) -> dict[str, str]:
-    """Returns the differences that `rt try` finds, by the names of the golden files."""
-    known = {it.name: it for it in goldens}
-    try:
-        outputs = tried(known.values())
-    except Stop as why:
-        return dict.fromkeys(known, str(why))
-    found = {name: fault(it, outputs.get(name)) for name, it in known.items()}
-    return {name: it for name, it in found.items() if it}

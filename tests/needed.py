@@ -125,6 +125,8 @@ TOOLS = {
     "ping": Tool(command("ping"), "iputils-ping"),
     "arping": Tool(command("arping"), "iputils-arping"),
     "coap-client": Tool(command("coap-client-notls"), "libcoap3-bin"),
+    "dnsmasq": Tool(command("dnsmasq"), "dnsmasq-base"),
+    "dhcpd": Tool(command("dhcpd"), "isc-dhcp-server"),
     "tftp": Tool(runs("tftp", "-V"), "tftp-hpa"),
     "curl": Tool(command("curl"), "curl"),
     "root": Tool(lambda: os.geteuid() == 0, what="this user isn't root"),

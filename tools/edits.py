@@ -6,9 +6,11 @@ from __future__ import annotations
 
 import pathlib
 import re
+import shutil
+import subprocess
 from typing import Iterator, NamedTuple
 
-
+TOP = pathlib.Path(__file__).resolve().parent.parent
 FOLDERS = ("must-fail", "wrong-texts", "wrong-definitions")
 TABLE = "mutants"
 NAME = re.compile(r"[A-Za-z0-9_-][A-Za-z0-9_.-]*")
@@ -88,6 +90,17 @@ def applied(pairs: list[Pair], crate: pathlib.Path, texts: dict[str, str] | None
             raise Refused(f"this stands in {path} {found} times: {old}")
         made[path] = made[path].replace(old, new)
     return made
+
+
+def copy_files(to: pathlib.Path, *paths: str) -> None:
+    """Copies the present files of the repository that git knows or would add, all of them or those below these
+    paths."""
+    words = ["git", "ls-files", "-z", "--cached", "--others", "--exclude-standard", *paths]
+    found = subprocess.run(words, cwd=TOP, capture_output=True, check=True).stdout.decode().split("\0")
+    for path in filter(None, found):
+        if (TOP / path).is_file():
+            (to / path).parent.mkdir(parents=True, exist_ok=True)
+            shutil.copy2(TOP / path, to / path)
 
 
 def faults(crate: pathlib.Path) -> Iterator[tuple[pathlib.Path, str]]:

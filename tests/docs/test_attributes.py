@@ -7,7 +7,7 @@ from tests.cases import TOP
 PAGE = (TOP / "docs/ns3.md").read_text(encoding="utf-8")
 SOURCE = (TOP / "simulators/ns3/model/bsdudp-stack.cc").read_text(encoding="utf-8")
 ATTRIBUTE = re.compile(
-    r'AddAttribute\(\s*"(\w+)",.*?(\w+)Value\((?:MilliSeconds\()?(\d+)\)+,.*?Make\w+Checker(?:<\w+>)?\(([^()]*)',
+    r'AddAttribute\(\s*"(\w+)",.*?(\w+)Value\((?:MilliSeconds\(|Ipv4Address\()?"?([\d.]+)"?\)+,.*?Make\w+Checker(?:<\w+>)?\(([^()]*)',
     re.DOTALL,
 )
 

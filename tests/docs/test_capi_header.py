@@ -9,16 +9,17 @@ import pytest
 from tests.docs.pages import TOP, read
 
 HEADER = read("capi/include/bsdudp.h")
+BOTH = HEADER + read("capi/include/bsdudp_notes.h")
 CALL = r"/\*((?:(?!\*/).)*)\*/\n((?:int|size_t|const char \*)\s?\*?(bsdudp_\w+)\([^;]*\);)"
-CALLS = {name: (comment, call) for comment, call, name in re.findall(CALL, HEADER, re.S)}
+CALLS = {name: (comment, call) for comment, call, name in re.findall(CALL, BOTH, re.S)}
 # Boot needs no stack in the handle; the others take no handle.
-WITHOUT_STACK = ["bsdudp_memory", "bsdudp_counter_name", "bsdudp_counter_cause"]
+WITHOUT_STACK = ["bsdudp_memory", "bsdudp_mark", "bsdudp_counter_name", "bsdudp_counter_cause"]
 WITHOUT_STACK += ["bsdudp_error_name", "bsdudp_strerror", "bsdudp_boot_strerror", "bsdudp_version"]
 SECTIONS = ["NAME", "SYNOPSIS", "DESCRIPTION", "CALLS", "RETURN VALUE", "ERRORS", "EXAMPLES"]
 
 
 def test_each_call_has_a_comment():
-    assert sorted(CALLS) == sorted(re.findall(r"(?m)^[a-z].*[ *](bsdudp_[a-z_]*)\(", HEADER))
+    assert sorted(CALLS) == sorted(re.findall(r"(?m)^[a-z].*[ *](bsdudp_[a-z_]*)\(", BOTH))
 
 
 @pytest.mark.parametrize("name", CALLS)

@@ -7,8 +7,9 @@ import sys
 
 import pytest
 
+from tests.definitions import joined
 from tests.docs.pages import TOP, Fault, in_code, lines, none_of, part, read, sources_of, table
-from tools import crates, edits, joined
+from tools import crates, edits
 
 ARCHITECTURE = "docs/maintain/architecture.md"
 
@@ -118,7 +119,7 @@ def test_mutants_apply(crate):
 
 
 def test_wrong_definitions_apply_to_the_joined_crate(tmp_path):
-    """`.ci/wrong-bodies` can join flat_model and flat_wire in one crate, and each wrong definition applies there."""
+    """tests/definitions can join flat_model and flat_wire in one crate, and each wrong definition applies there."""
     joined.make(TOP / "crates", tmp_path)
     there = sorted((TOP / "crates" / joined.NAME / joined.EDITS).iterdir())
     assert there

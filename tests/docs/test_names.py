@@ -26,6 +26,7 @@ ITEMS_OF_OTHERS |= {"Config::Connect", "Config::SetDefault", "Packet::Print"}
 OF_OTHERS = {*OF_THE_PAST, *(f"docs/{it}.md" for it in ("DECISIONS", "behaviour", "book"))}
 IMPORT = re.compile(r"\s*(?:ghost |pub )?(?:use|open) ")
 DEFINED = re.compile(r"(?:(?:abbrev|unfoldable) pub|pub (?:record|data)|pub)\s+([^\s:(){}]+)\s")
+STATE_WORD = re.compile(r"^(?:(?:abbrev|unfoldable) )?pub (\w+) : ([^=]*?)\n\1 ", re.M)
 CLAUSE = re.compile(r" *(?:requires|ensures) (\w+) \{ ([A-Z]\w+)\b")
 # How many labels a crate has that aren't in the table of words.md.
 OTHER_LABELS = {"chain_ops": 1, "sock_calls": 7}
@@ -189,6 +190,20 @@ def test_a_fact_has_one_label(name):
     ]
     if len(faults) != OTHER_LABELS.get(name, 0):
         none_of([*faults, Fault(__file__, f"{name} has {len(faults)} other labels, not OTHER_LABELS")])
+
+
+def test_each_word_for_a_state_is_explained():
+    """What a clause sees of the state has a row in words.md, so that a reader can look it up and nobody adds a synonym.
+    The crates flat_* define the state itself."""
+    rows = table("docs/maintain/words.md", "The state as a clause sees it", "Words", "Meaning")[1]
+    explained = {code.split()[0] for row in rows for code in in_code(row.cells[0])}
+    defined: dict[str, str] = {}
+    for path in sorted((TOP / "crates").glob("[!f]*/specs/**/*.antt")):
+        for name, kind in STATE_WORD.findall(path.read_text(encoding="utf-8")):
+            if kind.split()[-1] in ("State", "NetView", "SendView"):
+                defined[name] = f"{path.relative_to(TOP)}:1"
+    faults = [Fault(place, f"`{it}` is a state, without a row") for it, place in defined.items() if it not in explained]
+    none_of(faults + [Fault("docs/maintain/words.md:1", f"no state is `{it}`") for it in explained - set(defined)])
 
 
 def wide_lines(folder: str, kind: str) -> list[Fault]:
