@@ -83,7 +83,7 @@ board_lwip() { # WORK FLAG..
     for name in "" COPIES; do
         board_object "$bench/board/lwip.c" "$work/lwip.o" "${how[@]}" ${name:+-D$name}
         board_program "$work" "$work/lwip.elf" "$work/lwip.o" "${objects[@]}"
-        board_row "$work" "lwIP 2.1.3, \`-Os\`${name:+, with two copies more}" - "$work/lwip.elf"
+        board_row "$work" "lwIP 2.1.3, \`-Os\`${name:+, with two more copies}" - "$work/lwip.elf"
     done
 }
 

@@ -41,6 +41,6 @@ measure_ether() { # WORK
     done
     for file in "" -DCOPIES; do
         ether_program "$work" lwip -DETHER $file -I "$LWIP/src/include" "$bench/board/lwip.c" "${files[@]}"
-        ether_row "$work" "lwIP 2.1.3${file:+, with two copies more}" lwip
+        ether_row "$work" "lwIP 2.1.3${file:+, with two more copies}" lwip
     done
 }
