@@ -14,7 +14,7 @@ python = $(call need,python3,apt-get install python3)
 cc = $(call need,$(or $(CC),cc),apt-get install gcc)
 
 help:
-	@echo "make run [SCRIPT=FILE]       play a script by bsdudp and show each line with its reply: half a minute, no proof"
+	@echo "make run [SCRIPT=FILE]       play a script by bsdudp and show each line with its reply: a minute, no proof"
 	@echo "make play SCRIPT=FILE        play a script by bsdplay, which says what happens to each packet"
 	@echo "make why [CAPTURE=FILE]      read a capture by bsdplay why, which says why its packets were dropped"
 	@echo "make test [K=WORD]           run the tests that need no proof: 3 minutes; with K those with WORD in their name"

@@ -17,9 +17,6 @@ import pytest
 from tests.bsdplay.runs import of_lines, run, same
 from tests.cases import TOP
 
-# A program that is compiled without a proof takes minutes to grade all hand-ins, because it checks each access.
-pytestmark = pytest.mark.proved
-
 KEYS, EXERCISES = TOP / "examples/play", TOP / "examples/exercises"
 EACH_KEY = sorted(it.name for it in KEYS.glob("exercise_*.txt"))
 FIELDS = ["file", "verdict", "right", "wrong", "missing", "first", "note"]

@@ -10,8 +10,6 @@ from tests.bsdplay.runs import of_lines, printed, run, same
 from tests.packets import HERE, MORE, datagram, fragment, ip
 from tests.pcaps import header, record
 
-# A million carries, and packets up to the limits, take minutes in a program that is compiled without a proof.
-pytestmark = pytest.mark.proved
 HOSTS = ["host a", "host b --addr 10.0.0.2", "wire a b"]
 EMPTY = "a: sendto 3 10.0.0.2 7 -"
 PLACE = "no packet under way has this place"

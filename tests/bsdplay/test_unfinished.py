@@ -80,7 +80,6 @@ def test_records_of_an_unfinished_datagram(bsdplay):
     assert told + "with records 1, 3 and 4" in lines
 
 
-@pytest.mark.proved
 def test_a_flood_of_first_fragments(bsdplay):
     """5,000 first fragments in 5 seconds: more than there are clusters."""
     flood = [(number / 1000, piece(number, 0, 1471, more=True)) for number in range(1, 5001)]
