@@ -4,6 +4,7 @@ from __future__ import annotations
 import functools
 import importlib.util
 import os
+import pty
 import shutil
 import subprocess
 from typing import Callable, NamedTuple
@@ -55,6 +56,17 @@ def fuzzes() -> bool:
     words = ["clang", "-fsanitize=fuzzer", "-x", "c", "-", "-o", "/dev/null"]
     text = b"int LLVMFuzzerTestOneInput(const unsigned char *a, unsigned long b) { return !a + !b > 1; }"
     return command("clang")() and not subprocess.run(words, input=text, capture_output=True, check=False).returncode
+
+
+def opens_pty() -> bool:
+    """Returns whether a pseudo-terminal can be opened. A tree without /dev/pts has none."""
+    try:
+        ends = pty.openpty()
+    except OSError:
+        return False
+    for end in ends:
+        os.close(end)
+    return True
 
 
 def runs(*words: str) -> Callable[[], bool]:
@@ -129,6 +141,7 @@ TOOLS = {
     "dhcpd": Tool(command("dhcpd"), "isc-dhcp-server"),
     "tftp": Tool(runs("tftp", "-V"), "tftp-hpa"),
     "curl": Tool(command("curl"), "curl"),
+    "pty": Tool(opens_pty, what="no pseudo-terminal can be opened here"),
     "root": Tool(lambda: os.geteuid() == 0, what="this user isn't root"),
     "netns": Tool(has_namespace, what="no network namespace can be made here"),
     "veth": Tool(has_veth, what="no pair of veth interfaces can be made here"),

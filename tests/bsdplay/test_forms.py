@@ -169,6 +169,7 @@ COLOURS = {
 }
 
 
+@pytest.mark.needs("pty")
 @pytest.mark.parametrize("name", COLOURS)
 def test_a_terminal_has_colours_unless_no_color_says_otherwise(name, bsdplay):
     more, wanted = COLOURS[name]
