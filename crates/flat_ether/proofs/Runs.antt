@@ -23,6 +23,7 @@ use Rattle.flat_ether.specs.Links.{Gives, LinkState, answers_with, gives_claim, 
 use Rattle.flat_ether.specs.declared.link.Link.{Link}
 use Rattle.flat_ether.specs.declared.link.FrameKind.{FrameKind}
 use Rattle.flat_ether.specs.declared.link.FrameKind.TheVariants.{Packet, Martian, Arp, Other}
+use Rattle.flat_ether.proofs.Arrived as Arrived
 use Rattle.flat_ether.proofs.Sent as Sent
 use Rattle.flat_ether.proofs.Turns.{then_leads, transmits, same_output, bytes_of_body, short_body}
 
@@ -204,7 +205,7 @@ module _ (c : Config) (l : Link) where
       here = contains_last [] f F
 
       wider : arp_if (kind_of c l.mac f) f ≡ None → Good (f ∷ F) (G ++ []) old.link
-      wider e = same (f ∷ F) G old.link (Sent.quiet_good c l F G f old.link good e)
+      wider e = same (f ∷ F) G old.link (Arrived.quiet_good c l F G f old.link good e)
 
       taken : Good (f ∷ F) (G ++ []) old.link → (b : Bool)
           → Good (f ∷ F) (G ++ []) (cond b
@@ -248,8 +249,8 @@ module _ (c : Config) (l : Link) where
               still _ h (Sent.refuses_good c l (f ∷ F) (G ++ []) old.link
               (wider (ap (λ (x : FrameKind). arp_if x f) k)))
           by Arp k h =
-              still _ h (same (f ∷ F) G _ (Sent.receives_good c l F G f (ap (λ (x : FrameKind). arp_if x f) k) old.link
-              good))
+              still _ h (same (f ∷ F) G _
+              (Arrived.receives_good c l F G f (ap (λ (x : FrameKind). arp_if x f) k) old.link good))
           by Other k h =
               still _ h (Sent.ignores_good c l (f ∷ F) (G ++ []) old.link
               (wider (ap (λ (x : FrameKind). arp_if x f) k)))

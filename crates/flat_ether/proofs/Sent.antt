@@ -1,24 +1,24 @@
 -- The frames that a host sends: the source of each packet, and its destination on the link.
-use Rattle.std.proofs.Common.{◌≡◌, ◌≢◌, ◌⊎◌, inl, inr, ℕ, Bool, true, false, cond, List, [], ◌∷◌, ◌++◌, length, take, drop, Option, Some, None, refl, sym, ap, ◌∙◌, subst, zero, suc, ◌+◌, ◌-◌, ◌%◌, add-one, get_or}
-use Rattle.std.specs.Prelude.{Contains, ◌==◌, ◌&&◌, ◌||◌, not, filter, is_some, map, nat_lt, position, slice_get, remove}
+use Rattle.std.proofs.Common.{◌≡◌, ◌⊎◌, inl, inr, ℕ, Bool, true, false, cond, List, [], ◌∷◌, ◌++◌, length, take, drop, Option, Some, None, refl, sym, ap, ◌∙◌, subst, zero, suc, ◌+◌, ◌-◌, ◌%◌, add-one, get_or}
+use Rattle.std.specs.Prelude.{Contains, ◌&&◌, not, filter, is_some, map, nat_lt, position, slice_get, remove}
 use Rattle.std.specs.List.{AllByRecursion as Each}
-use Rattle.std.proofs.lemmas.List.Elements.{All-contains_itself, All-head, Contains-append_left, Contains-append_right, recursion_from_All}
+use Rattle.std.proofs.lemmas.List.Elements.{All-contains_itself, Contains-append_left, Contains-append_right, recursion_from_All}
 use Rattle.std.proofs.lemmas.List.Quantifiers.{position-Some}
 use Rattle.std.proofs.lemmas.Option.{none-some, same_Some}
-use Rattle.std.proofs.lemmas.Bool.{and_parts, eq-eqb, eqb-false, eqb-true, false≢true, ne_eqb, not-true}
+use Rattle.std.proofs.lemmas.Bool.{and_parts, eqb-true}
 use Rattle.flat_model.specs.declared.config.Config.{Config}
 use Rattle.flat_model.specs.Machine.Count.{more_by}
 use Rattle.flat_model.specs.Packets.Header.{head_of}
 use Rattle.flat_model.proofs.Laws.{each-append, each-both, each-filter, each-map, each-take, each-weaker}
-use Rattle.flat_ether.specs.Claims.{claim_due, claim_sent, is_claimed}
+use Rattle.flat_ether.specs.Claims.{claim_due, claim_sent}
 use Rattle.flat_ether.specs.Errors.{error_at, error_in}
 use Rattle.flat_ether.specs.declared.error.SocketError.{SocketError}
 use Rattle.flat_model.specs.declared.address.Addr.{Addr}
 use Rattle.flat_ether.specs.Frames.{arp_bytes, arp_of, body_of, ether_broadcast, frame, is_arp, is_host_mac, kind_of, no_mac, same_mac}
 use Rattle.flat_ether.specs.Icmp.{echo_message, echo_reply, port_unreachable, reflected, unreachable_message}
 use Rattle.flat_ether.specs.Laws.{IsMade, IsReply, IsRoute, IsFrameSent, arp_if, last_given, is_arp_from, given_in}
-use Rattle.flat_ether.specs.Links.{Gives, WaitingPacket, LinkState, ages, neighbour_aged, answers_by, answers_now, answers_on, answers_with, asked_at, asks, asks_at, by_route, claim_frame, drops_first, counts_bad_arp, counts_conflict, counts_too_long, counts_icmp_dropped, counts_no_route, first_ready, gives_answer, gives_claim, gives_held, gives_own, gives_reply, gives_request, is_resolvable, has_ip, neighbour_from, receives_arp, holds_packet, ignores, is_answering, is_asked, is_busy, is_conflict, is_request_due, is_rival, is_sound_arp, learns, limits, makes_way, mac_known, mac_in, adds_error_if, adds_error, takes_at, takes_error, mac_of, or_then, queues_reply, neighbour_place, put, puts_answer, puts_echo, puts_unreachable, ready_or, refuses, replies_to, sends, sends_answer, sends_at, sends_held, neighbour_stays, takes_place, ticks, to_hop, unknown, route_of, route_to}
-use Rattle.flat_ether.specs.Routes.{is_near, is_neighbour, route}
+use Rattle.flat_ether.specs.Links.{Gives, WaitingPacket, LinkState, ages, neighbour_aged, answers_by, answers_now, answers_on, answers_with, asked_at, asks, asks_at, by_route, claim_frame, drops_first, counts_bad_arp, counts_conflict, counts_too_long, counts_icmp_dropped, counts_no_route, first_ready, gives_answer, gives_claim, gives_held, gives_own, gives_reply, gives_request, is_resolvable, has_ip, holds_packet, ignores, is_answering, is_asked, is_busy, is_request_due, is_sound_arp, limits, makes_way, mac_known, mac_in, adds_error_if, adds_error, takes_at, takes_error, mac_of, or_then, queues_reply, neighbour_place, put, puts_answer, puts_echo, puts_unreachable, ready_or, refuses, replies_to, sends, sends_answer, sends_at, sends_held, neighbour_stays, takes_place, ticks, to_hop, unknown, route_of, route_to}
+use Rattle.flat_ether.specs.Routes.{is_neighbour, route}
 use Rattle.flat_ether.specs.declared.answer.Answer.{Answer}
 use Rattle.flat_ether.specs.declared.answer.Answer.TheVariants.{Echo, Unreachable, Silence}
 use Rattle.flat_ether.specs.declared.arp.Arp.{Arp}
@@ -31,7 +31,7 @@ use Rattle.flat_ether.specs.declared.mac.Mac.{Mac}
 use Rattle.flat_ether.specs.declared.neighbour.Neighbour.{Neighbour}
 use Rattle.flat_ether.specs.declared.neighbour.PendingReply.{PendingReply}
 use Rattle.flat_ether.proofs.Replies.{reply_route}
-use Rattle.flat_ether.proofs.Tables.{AreDistinct, distinct_again, distinct_stays, each-drop, each_again, new_ip, put_distinct, put_each}
+use Rattle.flat_ether.proofs.Tables.{AreDistinct, distinct_again, distinct_stays, each-drop, each_again, put_distinct, put_each}
 
 each-remove : {X : Type 0} (P : X → Type 0) (xs : List X) (i : ℕ) → Each P xs → Each P (remove xs i)
 each-remove P xs i h = each-append P (take i xs) (drop (suc i) xs) (each-take P i xs h) (each-drop P (suc i) xs h)
@@ -497,13 +497,13 @@ module _ (c : Config) (l : Link) (F G : List (List ℕ)) where
   pub refuses_good : (s : LinkState) → IsGood s → IsGood (refuses s)
   refuses_good s good = same_good s _ good refl refl refl refl refl refl refl
 
-  finds_bad_good : (s : LinkState) → IsGood s → IsGood (counts_bad_arp s)
+  pub finds_bad_good : (s : LinkState) → IsGood s → IsGood (counts_bad_arp s)
   finds_bad_good s good = same_good s _ good refl refl refl refl refl refl refl
 
-  conflict_good : (s : LinkState) → IsGood s → IsGood (counts_conflict s)
+  pub conflict_good : (s : LinkState) → IsGood s → IsGood (counts_conflict s)
   conflict_good s good = same_good s _ good refl refl refl refl refl refl refl
 
-  owes_good : (a : Arp) (s : LinkState) → is_host_mac a.mac ≡ true → IsGood s → IsGood (queues_reply a s)
+  pub owes_good : (a : Arp) (s : LinkState) → is_host_mac a.mac ≡ true → IsGood s → IsGood (queues_reply a s)
   owes_good a s host good = go (is_asked s a)
     where
       inner : (b : Bool) → IsGood (cond b (record s { replies = s.replies ++ record { mac = a.mac; ip = a.ip } ∷ [] })
@@ -656,176 +656,3 @@ module _ (c : Config) (l : Link) (F G : List (List ℕ)) where
   answers_good f Silence s good came = good
   answers_good f Echo s good came = now_good f Echo s good came
   answers_good f Unreachable s good came = now_good f Unreachable s good came
-
--- ---- one more frame arrived
-
--- a neighbour is neither this host nor 0
-neighbour_other : (c : Config) (l : Link) (ip : ℕ) → is_neighbour c l ip ≡ true → (ip ≢ c.addr) × (ip ≢ 0)
-neighbour_other c l ip e =
-    let rest = (and_parts (is_near c l ip) _ e).1 in
-    let zero_not = (and_parts (not (ip == 0)) _ rest).0 in
-    let more = (and_parts (not (ip == 0)) _ rest).1 in
-    let own_not = (and_parts (not (ip == c.addr)) _ more).0 in
-    (eqb-false ip c.addr (not-true _ own_not), eqb-false ip 0 (not-true _ zero_not))
-
-module _ (c : Config) (l : Link) (F G : List (List ℕ)) (f : List ℕ) where
-  abbrev Learned : ℕ → Option Mac
-  Learned ip = last_given c l ip (f ∷ F)
-
-  abbrev Good : List (List ℕ) → LinkState → Type 0
-  Good frames s = IsGood c l frames G s
-
-  here : Contains (f ∷ F) f
-  here = All-head (Contains (f ∷ F)) f F (All-contains_itself (f ∷ F))
-
-  -- the invariant still holds after one more frame, if the neighbours are known by then
-  later_good : (s t : LinkState) → Good F s → t.config ≡ s.config → t.link ≡ s.link → t.replies ≡ s.replies
-      → t.held ≡ s.held → t.answer ≡ s.answer → t.answer_hop ≡ s.answer_hop
-      → Each (IsKnown c l (f ∷ F) G) t.neighbours → AreDistinct t.neighbours → Good (f ∷ F) t
-  later_good s t good a b r h w o known distinct = record {
-    config = a ∙ good.config;
-    link = b ∙ good.link;
-    neighbours = known;
-    distinct = distinct;
-    replies = subst (Each IsFromHost) (sym r) good.replies;
-    held =
-        subst (Each (IsWaiting c l (f ∷ F) G)) (sym h)
-        (each-weaker (λ x is. record { made = is.made; route = is.route }) s.held good.held);
-    answer =
-        subst (λ hop. Each (IsAnswer c l (f ∷ F) G hop) t.answer) (sym o)
-        (subst (Each (IsAnswer c l (f ∷ F) G s.answer_hop)) (sym w)
-        (each-weaker (λ p is. record { made = later_made c F G f p is.made; route = is.route }) s.answer good.answer));
-  }
-
-  known_later : (n : Neighbour) → ((mac : Mac) → n.mac ≡ Some mac → Learned n.ip ≡ last_given c l n.ip F)
-      → IsKnown c l F G n → IsKnown c l (f ∷ F) G n
-  known_later n same is = record { learned = λ mac e. same mac e ∙ is.learned mac e; near = is.near }
-
-  all_later : (s : LinkState) → Good F s
-      → ((n : Neighbour) → (mac : Mac) → n.mac ≡ Some mac → is_neighbour c l n.ip ≡ true
-      → Learned n.ip ≡ last_given c l n.ip F) → Good (f ∷ F) s
-  all_later s good same =
-      later_good s s good refl refl refl refl refl refl
-      (each-weaker (λ n is. known_later n (λ mac e. same n mac e (is.near mac e)) is) s.neighbours good.neighbours)
-      good.distinct
-
-  -- a frame that is no ARP packet for the host
-  pub quiet_good : (s : LinkState) → Good F s → arp_if (kind_of c l.mac f) f ≡ None → Good (f ∷ F) s
-  quiet_good s good e =
-      all_later s good (λ n mac is near. ap (λ (b : Option (List ℕ)). given_in l n.ip b (last_given c l n.ip F)) e)
-
-  module _ (kind : arp_if (kind_of c l.mac f) f ≡ Some (body_of f)) where
-    abbrev a : Arp
-    a = arp_of (body_of f)
-
-    learned_here : (ip : ℕ) (b : Bool) → is_arp_from l ip (body_of f) ≡ b → Learned ip ≡ cond b (Some a.mac)
-        (last_given c l ip F)
-    learned_here ip b e =
-        ap (λ (p : Option (List ℕ)). given_in l ip p (last_given c l ip F)) kind
-        ∙ ap (λ x. cond x (Some (arp_of (body_of f)).mac) (last_given c l ip F)) e
-
-    unsound_good : (s : LinkState) → Good F s → is_sound_arp l (body_of f) ≡ false → Good (f ∷ F) s
-    unsound_good s good e =
-        all_later s good (λ n mac is near. learned_here n.ip false (ap (λ x. x && ((arp_of (body_of f)).ip == n.ip)) e))
-
-    other_learned : (ip : ℕ) → ip ≢ a.ip → Learned ip ≡ last_given c l ip F
-    other_learned ip other = go (is_sound_arp l (body_of f)) refl
-      where
-        go : (x : Bool) → is_sound_arp l (body_of f) ≡ x → Learned ip ≡ last_given c l ip F
-        go true e =
-            learned_here ip false (ap (λ x. x && ((arp_of (body_of f)).ip == ip)) e
-            ∙ ne_eqb _ _ (λ same. other (sym same)))
-        go false e = learned_here ip false (ap (λ x. x && ((arp_of (body_of f)).ip == ip)) e)
-
-    others_good : (s : LinkState) → Good F s → ((n : Neighbour) → is_neighbour c l n.ip ≡ true → n.ip ≢ a.ip)
-        → Good (f ∷ F) s
-    others_good s good other = all_later s good (λ n mac is near. other_learned n.ip (other n near))
-
-    learns_good : (s : LinkState) → Good F s → is_sound_arp l (body_of f) ≡ true → Good (f ∷ F) (learns a s)
-    learns_good s good sound =
-        go (is_neighbour s.config s.link a.ip) (is_some (neighbour_place a.ip s.neighbours)) (a.target == s.config.addr)
-        refl
-        refl
-      where
-        near_is : is_neighbour s.config s.link a.ip ≡ is_neighbour c l a.ip
-        near_is =
-            ap (λ (x : Config). is_neighbour x s.link a.ip) good.config
-            ∙ ap (λ (x : Link). is_neighbour c x a.ip) good.link
-
-        known : is_neighbour c l a.ip ≡ true → IsKnown c l (f ∷ F) G (neighbour_from a)
-        known near = record {
-          learned =
-              λ mac e. learned_here a.ip true (ap (λ x. x && ((arp_of (body_of f)).ip == a.ip)) sound ∙ eq-eqb _ _ refl)
-              ∙ e;
-          near = λ mac e. near;
-        }
-
-        puts : is_neighbour c l a.ip ≡ true → Good (f ∷ F)
-            (record s { neighbours = put (neighbour_from a) s.neighbours })
-        puts near =
-            later_good s _ good refl refl refl refl refl refl
-            (put_each (IsKnown c l (f ∷ F) G) (neighbour_from a) s.neighbours (known near) good.distinct
-            (each-weaker (λ n is other. known_later n (λ mac e. other_learned n.ip other) is) s.neighbours
-            good.neighbours))
-            (put_distinct (neighbour_from a) s.neighbours good.distinct)
-
-        stays_new : neighbour_place a.ip s.neighbours ≡ None → Good (f ∷ F) s
-        stays_new e =
-            later_good s s good refl refl refl refl refl refl
-            (each-both (λ n other is. known_later n (λ mac x. other_learned n.ip other) is) s.neighbours
-            (new_ip a.ip s.neighbours e) good.neighbours) good.distinct
-
-        unplaced : (at : Option ℕ) → is_some at ≡ false → at ≡ None
-        unplaced None e = refl
-        unplaced (Some at) e = absurd (false≢true (sym e))
-
-        go : (near place target : Bool) → is_neighbour s.config s.link a.ip ≡ near
-            → is_some (neighbour_place a.ip s.neighbours) ≡ place
-            → Good (f ∷ F)
-            (cond (near && (place || target)) (record s { neighbours = put (neighbour_from a) s.neighbours }) s)
-        go false place target n p =
-            others_good s good (λ m near same. false≢true (sym n ∙ near_is ∙ ap (is_neighbour c l) (sym same) ∙ near))
-        go true true target n p = puts (sym near_is ∙ n)
-        go true false true n p = puts (sym near_is ∙ n)
-        go true false false n p = stays_new (unplaced (neighbour_place a.ip s.neighbours) p)
-
-    -- the address in conflict is that of this host, or none
-    conflict_others : (s : LinkState) → Good F s → is_conflict s a ≡ true → Good (f ∷ F) s
-    conflict_others s good e = go (a.ip == s.config.addr) refl (is_rival s a) refl e
-      where
-        go : (own : Bool) → (a.ip == s.config.addr) ≡ own → (rival : Bool) → is_rival s a ≡ rival
-            → (own || rival) ≡ true → Good (f ∷ F) s
-        go true own rival r e =
-            let same : a.ip ≡ c.addr = eqb-true _ _ own ∙ ap (λ (x : Config). x.addr) good.config in
-            others_good s good (λ n near is. (neighbour_other c l n.ip near).0 (is ∙ same))
-        go false own true r e =
-            let rest = (and_parts (not (is_claimed s.claim)) _ r).1 in
-            let probe = (and_parts (a.op == 1) _ rest).1 in
-            let zero_ip : a.ip ≡ 0 = eqb-true _ _ (and_parts (a.ip == 0) _ probe).0 in
-            others_good s good (λ n near is. (neighbour_other c l n.ip near).1 (is ∙ zero_ip))
-        go false own false r e = absurd (false≢true e)
-
-    pub receives_good : (s : LinkState) → Good F s → Good (f ∷ F) (receives_arp (body_of f) s)
-    receives_good s good = go (is_sound_arp s.link (body_of f)) refl
-      where
-        sound_is : is_sound_arp l (body_of f) ≡ is_sound_arp s.link (body_of f)
-        sound_is = ap (λ (x : Link). is_sound_arp x (body_of f)) (sym good.link)
-
-        from_host : is_sound_arp l (body_of f) ≡ true → is_host_mac a.mac ≡ true
-        from_host sound =
-            (and_parts (not (same_mac a.mac l.mac)) _ (and_parts (is_arp (body_of f)) _ sound).1).1
-
-        inner : is_sound_arp l (body_of f) ≡ true → (b : Bool) → is_conflict s (arp_of (body_of f)) ≡ b
-            → Good (f ∷ F) (cond b (queues_reply (arp_of (body_of f)) (counts_conflict s))
-            (queues_reply (arp_of (body_of f)) (learns (arp_of (body_of f)) s)))
-        inner sound true e =
-            owes_good c l (f ∷ F) G a (counts_conflict s) (from_host sound)
-            (conflict_good c l (f ∷ F) G s (conflict_others s good e))
-        inner sound false e = owes_good c l (f ∷ F) G a (learns a s) (from_host sound) (learns_good s good sound)
-
-        go : (b : Bool) → is_sound_arp s.link (body_of f) ≡ b
-            → Good (f ∷ F) (cond b (cond (is_conflict s (arp_of (body_of f)))
-            (queues_reply (arp_of (body_of f)) (counts_conflict s))
-            (queues_reply (arp_of (body_of f)) (learns (arp_of (body_of f)) s))) (counts_bad_arp s))
-        go true e = inner (sound_is ∙ e) (is_conflict s (arp_of (body_of f))) refl
-        go false e = finds_bad_good c l (f ∷ F) G s (unsound_good s good (sound_is ∙ e))
