@@ -57,7 +57,7 @@ class NoBuffersError(OSError):
 
 def refused(answer: int, call: str = "", cause: Optional[str] = None) -> OSError:
     """Returns the exception for a negative result of a call. OSError chooses its subclass by the number: EWOULDBLOCK is
-    a BlockingIOError. Its text is `cause`, or else what the result means for this call."""
+    a BlockingIOError. Its text is `cause`; without one, it's what the result means for this call."""
     number = getattr(errno, LIBRARY.error_name(answer))
     text = cause or CAUSES.get((call.partition("_noted")[0], answer)) or LIBRARY.error_text(answer)
     if answer in (POOL_LACKS, QUEUE_IS_FULL):

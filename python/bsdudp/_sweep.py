@@ -131,7 +131,7 @@ def sweep(
 ) -> List[Result]:
     """Calls `scenario(seed)` for each seed. Returns a list of the results, in the order of the seeds.
 
-    client    None: in this process. "cores": on all cores of this computer; a number: in so many processes. A
+    client    None: in this process. "cores": on all cores of this computer; a number: in that number of processes. A
               `distributed.Client`, or the address of a scheduler such as "tcp://10.0.0.9:8786": on a Dask cluster whose
               workers have this package.
     progress  whether a bar on standard error shows how many seeds are done, and the time left. The default is True if

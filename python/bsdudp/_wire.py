@@ -121,18 +121,19 @@ class Wire(Uncopied):
         for stack in stacks:
             if isinstance(stack, Host):
                 raise TypeError("a Wire joins Stacks: carry the frames of a Host by transmit and receive")
+            if not isinstance(stack, Stack):
+                raise TypeError(f"a Wire joins Stacks, and not {type(stack).__name__}")
         self._stacks = stacks
         self._place: Dict[bytes, int] = {}
         for at, stack in enumerate(stacks):
-            self._place[number_of(stack.addr).to_bytes(4, "big")] = at
-        if len(self._place) != len(stacks):
-            raise ValueError("two stacks on a wire have the same address")
+            if self._place.setdefault(number_of(stack.addr).to_bytes(4, "big"), at) != at:
+                raise ValueError(f"two stacks on a wire have the address {stack.addr}")
         every = {number_of(stack.bcast) for stack in stacks} | {LIMITED_BROADCAST}
         self._broadcasts = {number.to_bytes(4, "big") for number in every}
         self._senders = [Sender(stack) for stack in stacks]
         # The places of the stacks that may have packets in their output queues.
         self._may_send: Set[int] = set(range(len(stacks)))
-        # The places of those that may hold unfinished datagrams: a tick changes nothing else in a stack.
+        # The places of those that may hold unfinished datagrams: a tick changes only these.
         self._may_hold: Set[int] = set(range(len(stacks)))
         for at, stack in enumerate(stacks):
             stack._wires = [it for it in stack._wires if it[0]() is not None] + [(weakref.ref(self), at)]
@@ -169,6 +170,8 @@ class Wire(Uncopied):
 
     def sender(self, stack: Stack) -> Sender:
         """Returns the settings for the packets that a stack sends. ValueError if the stack is not on this wire."""
+        if not isinstance(stack, Stack):
+            raise TypeError(f"stack is a Stack, and not {type(stack).__name__}")
         at = self._place.get(number_of(stack.addr).to_bytes(4, "big"))
         if at is None or self._stacks[at] is not stack:
             raise ValueError(f"{stack!r} is not on this wire")

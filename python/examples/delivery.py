@@ -24,7 +24,7 @@ def fragments(length):
 
 
 def slowest(count):
-    """The mean of the greatest of so many delays, in milliseconds."""
+    """The mean of the greatest of `count` delays, in milliseconds."""
     least, most = DELAY
     size = most - least + 1
     return least + sum(1 - (k / size) ** count for k in range(1, size))

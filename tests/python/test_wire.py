@@ -187,6 +187,8 @@ def test_settings_for_one_stack(pair):
         wire.loss
     with bsdudp.Stack("10.0.0.2") as stranger, pytest.raises(ValueError, match="is not on this wire"):
         wire.sender(stranger)
+    with pytest.raises(TypeError, match="is a Stack, and not int"):
+        wire.sender(0)
 
 
 def test_nth_is_lost_and_reported(pair):
@@ -308,6 +310,10 @@ def test_what_a_wire_joins():
         bsdudp.Wire(one, other)
     with bsdudp.Host() as host, pytest.raises(TypeError, match="transmit and receive"):
         bsdudp.Wire([host])
+    with bsdudp.Stack() as one, bsdudp.Stack() as other, pytest.raises(ValueError, match=r"the address 10\.0\.0\.1"):
+        bsdudp.Wire([one, other])
+    with pytest.raises(TypeError, match="joins Stacks, and not str"):
+        bsdudp.Wire(["10.0.0.1"])
     with bsdudp.Stack() as stack:
         assert bsdudp.Wire(iter([stack])).stacks == (stack,)
 
