@@ -184,7 +184,7 @@ function checksOf(step) {
       : i === last ? ["fail", "✗", "failed: "]
       : ["not", "·", "not reached: "];
     return h("li", { class: kind }, h("span", { "aria-hidden": "true" }, mark), h("span", { class: "unseen" }, told),
-      what, i === last && [h("code", {}, name.split(" ")[0]), bothSums(step, name).slice(1)]);
+      h("span", {}, what, i === last && [" (", h("code", {}, name.split(" ")[0]), ")", bothSums(step, name)]));
   }));
 }
 

@@ -89,12 +89,16 @@ function rowOf(step, i) {
       h("code", { class: step.isOk ? "answer" : "answer no" }, replyIn(step)),
       badgesOf(step), markOf(step), h("span", { class: "delta" }, delta))];
   const alone = [isExercise() && note && h("span", { class: "row-note" }, note), askedLine(step),
-    h("span", { class: "after" }, h("span", { class: "answer" }, isAsked ? "a question" : "hidden"))];
+    h("span", { class: "after" }, h("span", { class: "answer" }, isAsked ? askedReply() : "hidden"))];
   return h("li", {}, h("button", { class: "row", type: "button", onclick: () => chooseRow(i) },
     h("span", { class: "number" }, String(page.notes.places[i] + 1)),
     isHidden ? h("span", { class: "sign", "aria-hidden": "true" }, "?") : signOf(step),
     h("span", { class: "what" }, isHidden ? alone : told)));
 }
+
+// The reply to a line that asks: in a printed exercise it's a line to write on.
+const askedReply = () => (isExercise()
+  ? [h("span", { class: "of-screen" }, "a question"), h("span", { class: "of-print to-write" })] : "a question");
 
 // A reply in a row: in print it's whole.
 function replyIn(step) {
@@ -227,13 +231,20 @@ function replay(place) {
   showGutter();
   byId("command").textContent = page.mode === "chain" ? `bsdudp chain${optionWords(page.options)}`
     : "bsdplay script.txt";
-  for (const part of ["look", "curve"]) byId(part).replaceChildren();
+  for (const part of ["look", "curve", "place", "said"]) byId(part).replaceChildren();
+  if (!page.steps.length) byId("look").append(emptyView());
   refreshRows();
   showDrops();
   showScore();
   showMachine();
   select(place);
 }
+
+// A line to begin with, in each tab.
+const FIRST_LINES = { run: "socket", chain: "user 0 6869", wire: "host a --addr 10.0.0.1" };
+
+const emptyView = () => h("p", { class: "panel" }, "This script has no line yet. Write one in \"Edit\", such as ",
+  h("code", {}, FIRST_LINES[page.mode]), ". Its reply, and what it changes, are shown here.");
 
 // The numbers of the lines in the editor. Those of lines that can't be played are red, and the first of these is named
 // below.

@@ -44,13 +44,13 @@ def blocks(kind):
 TRIAL = """
 PYTHONPATH=out/python python3 -c "from bsdudp._library import LIBRARY; print(LIBRARY.version)"
 make page TRIAL=1
-grep -o "An unproved build" page/out/unproved/bsdudp.html
+grep -oE "An unproved build|a proved program|runs proved Rattle code|<!--IF" page/out/unproved/bsdudp.html
 """
 
 
 def test_readme_without_a_proof():
     """The second block, in a clone: the library, the Python package and the page are built without a proof and say
-    so."""
+    so. The page claims no proof anywhere."""
     readme = README.partition("## Try it\n")[2]
     # libc6-dev comes with gcc, because gcc recommends it; here nothing recommended is installed
     installed = ",".join([packages(), *re.findall(r"`apt-get install ([^`]+)`", readme)[1:], "libc6-dev"])

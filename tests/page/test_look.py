@@ -179,6 +179,38 @@ def test_on_a_phone_nothing_speaks_of_keys(at_width):
         at_width(390)
 
 
+# ---- the checks of a packet
+
+
+@pytest.mark.parametrize("width", HEIGHTS)
+def test_the_check_that_failed_is_one_text(width, at_width):
+    """Its rule, its counter and its values follow one another, and aren't columns next to each other."""
+    browser = at_width(width)
+    browser.run("open('run', { name: '07_checksums_and_a_damaged_bit', place: 4 }); revealAll()")
+    said = browser.run("document.querySelector('#look .checks .fail').innerText")
+    assert said.endswith("unless the checksum is 0 (udp.badsum): 0x9470 came, and 0x9870 would be right")
+    parts = "[...document.querySelector('#look .checks .fail').children].filter(it => !it.matches('.unseen')).length"
+    assert browser.run(parts) == 2, "the mark and the text"
+
+
+# ---- a script without a line
+
+
+FIRST_LINES = {"run": "socket", "chain": "user 0 6869", "wire": "host a --addr 10.0.0.1"}
+
+
+@pytest.mark.parametrize("mode, line", FIRST_LINES.items())
+def test_without_a_line_nothing_of_the_last_script_is_left(mode, line, at_width):
+    browser = at_width(1280)
+    browser.run(f"open('run', {{ name: '05_fragments_and_a_hole', place: 8 }}); open('{mode}', {{ text: '' }})")
+    assert browser.run("[byId('place').textContent, byId('said').textContent]") == ["", ""]
+    said = browser.run("byId('look').innerText")
+    assert "no line yet" in said and f"such as {line}." in said
+    browser.run(f"byId('script').value = '{line}\\n'; replay(0)")
+    assert browser.run("byId('place').textContent") == "1 of 1"
+    assert "no line yet" not in browser.run("byId('look').innerText")
+
+
 # ---- the editor
 
 
@@ -223,6 +255,23 @@ def test_print_is_light_and_has_the_script_with_its_replies(at_width):
     finally:
         browser.ask("Emulation.setEmulatedMedia", media="")
         browser.run("showLeft('read')")
+
+
+@pytest.mark.parametrize("name", ["01_a_datagram", "exercise_02_why_dropped"])
+def test_a_printed_question_has_no_buttons_and_an_exercise_lines_to_write_on(name, at_width):
+    browser = at_width(1280)
+    browser.run(f"open('run', {{ name: '{name}', place: 2 }}); showLeft('read')")
+    browser.ask("Emulation.setEmulatedMedia", media="print")
+    try:
+        for what in ("button:not(.row)", "kbd"):
+            seen = f"[...document.querySelectorAll('{what}')].filter(it => it.getClientRects().length).length"
+            assert browser.run(seen) == 0, what
+        widths = browser.run("[...document.querySelectorAll('#rows .to-write')].map(it => it.offsetWidth)")
+        lines = browser.run("page.steps.length") if name.startswith("exercise") else 0
+        assert len(widths) == lines and all(it > 150 for it in widths)
+        assert ("a question" in browser.run("byId('rows').innerText")) == (not lines)
+    finally:
+        browser.ask("Emulation.setEmulatedMedia", media="")
 
 
 # ---- packets that a capture's host dropped
