@@ -36,7 +36,7 @@ static inline void ring_put(struct ring *ring, const uint8_t *frame, size_t len)
     ring->put++;
 }
 
-/* In the loop, as port_receive: copies the oldest frame, and returns its length, or 0 if there is none. */
+/* In the loop, as port_receive: copies the oldest frame, and returns its length, or 0 if the ring is empty. */
 static inline size_t ring_take(struct ring *ring, uint8_t *frame)
 {
     const uint32_t at = ring->taken % RING_FRAMES;
