@@ -93,7 +93,7 @@ def demand(wanted: Iterable[Need], without: Iterable[str]) -> None:
 
 def package_version() -> str:
     """Returns the version of a package: a number, and `~dev` after it until it's released, because that comes before
-    the release. A program asks for the number: in bsdudp.h, bsdudp.pc, CMake and Python's __version__."""
+    the release. A program requests the number: in bsdudp.h, bsdudp.pc, CMake and Python's __version__."""
     return version.newest() + ("" if version.released() else "~dev")
 
 

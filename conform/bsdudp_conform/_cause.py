@@ -13,7 +13,7 @@ APART_MS, MANY_FRAGMENTS, DUE_BYTES, FEW_OTHERS = 5_000, 8, 576, 3
 NO_DATAGRAM, NO_REPLY = "a datagram doesn't come", "a ping gets no reply"
 SURPLUS, NOT_READ = "bytes after the UDP length", not_read(LENGTH)
 BESIDE_PROTOCOL = "in fragments, beside those of another protocol,"
-# What isn't the reason that a datagram is lost, unless nothing else is unusual.
+# What isn't the reason that a datagram is lost, unless it's all that is unusual.
 MILD = ("", "fragments", "don't fragment", "no UDP checksum", "a type of service")
 # What is the reason, however the fragments came.
 GRAVE = ("with options", "with padding")

@@ -38,7 +38,7 @@ class Request(NamedTuple):
 
     @property
     def ways(self) -> Tuple[int, ...]:
-        """Where a reply may go: to the sender, or by the source route that the request has."""
+        """The destinations that a reply may have: the sender, or the hops of the request's source route."""
         routes = [it for it in split(self.options) if it[0] in (LOOSE_ROUTE, STRICT_ROUTE)]
         hops = [int.from_bytes(it[at : at + 4], "big") for it in routes for at in range(3, len(it) - 3, 4)]
         return (self.source, *hops)

@@ -13,9 +13,9 @@ ROUNDS = 3
 # A setting isn't reported if this many of its values explain the same.
 MANY_VALUES = 4
 MOST_CASES, MOST_BYTES = 40, 60_000
-# The settings that only long cases tell apart.
+# The settings that only long cases distinguish.
 LIMITS = ("kept", "largest", "expire", "waiting", "waiting without data")
-# So many cases that a policy doesn't explain are listed.
+# The number of cases that are listed if a policy doesn't explain them.
 MOST_NAMED = 4
 
 

@@ -20,7 +20,7 @@ from ._wire_laws import MUST, SHOULD, Breach, leaving
 
 FAULT, NEVER, POLICY = "FAULT", "NEVER", "policy"
 LEVELS = (FAULT, NEVER, MUST, SHOULD)
-# So many wrong datagrams of a case are reported: to explain one takes the longer, the more packets came.
+# The number of wrong datagrams of a case that are reported: the more packets came, the longer each explanation takes.
 MOST_WRONG = 3
 
 

@@ -1,4 +1,4 @@
-"""Datagrams that wait while nobody reads. Their bytes are different, so that each can be told from the others."""
+"""Datagrams that wait while no program reads. Their bytes are different, so that each can be recognised."""
 from __future__ import annotations
 
 from typing import List, Sequence
