@@ -1,14 +1,10 @@
 -- IP headers with all their fields (RFC 791, section 3.1). Those of the flat machine have type of service 0, time to
 -- live 64 and "don't fragment" clear.
-use Rattle.std.specs.Prelude.{ℕ, ◌+◌, ◌*◌, ◌/◌, ◌%◌, nat_lt, if◌then◌else◌, List, [], ◌∷◌, ◌++◌, length, take, drop, slice_index}
+use Rattle.std.specs.Prelude.{ℕ, ◌+◌, ◌*◌, ◌/◌, ◌%◌, nat_lt, if◌then◌else◌, List, [], ◌∷◌, ◌++◌, slice_index}
 use Rattle.params.specs.declared.TheConstants.{FRAGMENT_UNIT}
 use Rattle.flat_model.specs.Packets.Checksum.{checksum}
 use Rattle.flat_model.specs.Packets.Header.{flag, two_bytes, address_bytes, u16_at, u32_at}
 use Rattle.ip_out.specs.declared.head.IpHead.{IpHead}
-
--- bytes written over others, from an offset on
-abbrev pub header_written : List ℕ → ℕ → List ℕ → List ℕ
-header_written bytes at new = take at bytes ++ (new ++ drop (at + length new) bytes)
 
 -- the field of flags and offset
 abbrev pub flags_of : IpHead → ℕ

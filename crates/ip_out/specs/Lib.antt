@@ -1,3 +1,4 @@
+pub mod Bytes
 pub mod Headings
 pub mod Packets
 pub mod Queues

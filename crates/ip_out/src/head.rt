@@ -1,12 +1,13 @@
 //! IP headers: their fields, and their bytes.
 ghost use Rattle.std.specs.Prelude.{◌≡◌, ℕ, List, [], ◌∷◌, ◌+◌, ◌%◌, ◌≤◌, length, take, IfOk, IfErr, Some, None};
 ghost use Rattle.flat_model.specs.Packets.Checksum.{checksum};
-ghost use Rattle.flat_model.specs.Packets.Header.{u16_at, u32_at, two_bytes, four_bytes, head_fault};
+ghost use Rattle.flat_model.specs.Packets.Header.{head_fault};
 ghost use Rattle.mbuf_chain.specs.Chain.{IsLive, chain_of, string};
+ghost use Rattle.ip_out.specs.Bytes.{written};
 ghost use Rattle.ip_out.specs.Headed.{IsFaultless, carried_of};
-ghost use Rattle.ip_out.specs.Headings.{flags_of, header_written, blank_bytes, bytes_with, head_bytes, head_in};
+ghost use Rattle.ip_out.specs.Headings.{flags_of, blank_bytes, bytes_with, head_bytes, head_in};
 
-use byteorder::{BigEndian, ByteOrder};
+use crate::bytes::{put_u16, put_u32, u16_at, u32_at};
 use chain_ops::m_copydata;
 use flat_model::Why;
 use in_cksum::{Sum, sum_head};
@@ -75,27 +76,9 @@ fn flags_of(head: &IpHead) -> u16
 #[inline(always)]
 fn put_u8(bytes: &mut [u8], at: usize, n: u8)
     requires { at + 1 ≤ length bytes.old }
-    ensures { bytes.new ≡ header_written bytes.old at (n ∷ []) }
+    ensures { bytes.new ≡ written bytes.old at (n ∷ []) }
 {
     bytes[at] = n;
-}
-
-/// Writes a 16-bit number at offset `at`.
-#[inline(always)]
-fn put_u16(bytes: &mut [u8], at: usize, n: u16)
-    requires { at + 2 ≤ length bytes.old }
-    ensures { bytes.new ≡ header_written bytes.old at (two_bytes n) }
-{
-    BigEndian::write_u16(&mut bytes[at..at + 2], n);
-}
-
-/// Writes a 32-bit number at offset `at`.
-#[inline(always)]
-fn put_u32(bytes: &mut [u8], at: usize, n: u32)
-    requires { at + 4 ≤ length bytes.old }
-    ensures { bytes.new ≡ header_written bytes.old at (four_bytes n) }
-{
-    BigEndian::write_u32(&mut bytes[at..at + 4], n);
 }
 
 /// Returns the checksum of a header, computed from its fields.
@@ -141,24 +124,6 @@ pub fn write_head(bytes: &mut [u8], head: IpHead)
 {
     let sum = checksum_of(&head);
     write_with(bytes, &head, sum);
-}
-
-/// Reads a 16-bit number at offset `at`.
-#[inline(always)]
-fn u16_at(bytes: &[u8], at: usize) -> u16
-    requires { at + 2 ≤ length bytes.now }
-    ensures { result ≡ u16_at at bytes.now }
-{
-    BigEndian::read_u16(&bytes[at..])
-}
-
-/// Reads a 32-bit number at offset `at`.
-#[inline(always)]
-fn u32_at(bytes: &[u8], at: usize) -> u32
-    requires { at + 4 ≤ length bytes.now }
-    ensures { result ≡ u32_at at bytes.now }
-{
-    BigEndian::read_u32(&bytes[at..])
 }
 
 /// Decodes the header in the first 20 bytes of a packet.

@@ -1,14 +1,14 @@
 //! The header of a datagram, and its checksum (RFC 768; RFC 1071).
-ghost use Rattle.std.specs.Prelude.{◌≡◌, ℕ, List, ◌+◌, ◌≤◌, ◌++◌, if◌then◌else◌, None, Some, length, take, drop};
-ghost use Rattle.flat_model.specs.Packets.Header.{pseudo_header, two_bytes, u16_at, udp_fault};
+ghost use Rattle.std.specs.Prelude.{◌≡◌, ℕ, List, ◌+◌, ◌≤◌, ◌++◌, if◌then◌else◌, None, Some, length, take};
+ghost use Rattle.flat_model.specs.Packets.Header.{pseudo_header, u16_at, udp_fault};
 ghost use Rattle.flat_model.specs.declared.counters.Why.TheVariants.{UdpBadSum};
 ghost use Rattle.mbuf_chain.specs.Chain.{IsLive, chain_of, string};
 ghost use Rattle.in_cksum.specs.Partial.{sum_of};
 ghost use Rattle.udp.specs.Inside.{header_bytes, header_in, has_right_sum};
 
-use byteorder::{BigEndian, ByteOrder};
 use chain_ops::m_copydata;
 use in_cksum::{Sum, cksum_chain};
+use ip_out::{put_u16, u16_at};
 use mbuf_chain::{Chain, Pool};
 use params::{PROTOCOL_UDP, UDP_HEADER};
 
@@ -26,25 +26,16 @@ pub(crate) struct Header {
     pub(crate) sum: u16,
 }
 
-/// Reads a 16-bit number at offset `at`.
-#[inline(always)]
-pub(crate) fn field(bytes: &[u8], at: usize) -> u16
-    requires { at + 2 ≤ length bytes.now }
-    ensures { result ≡ u16_at at bytes.now }
-{
-    BigEndian::read_u16(&bytes[at..])
-}
-
 /// Decodes the header in the first 8 bytes of a string.
 #[inline(always)]
 pub(crate) fn header_of(bytes: &[u8; HEADER]) -> Header
     ensures { (s : List ℕ) → bytes.now ≡ take UDP_HEADER s → result ≡ header_in s }
 {
     Header {
-        source: field(bytes, 0),
-        destination: field(bytes, 2),
-        len: field(bytes, 4),
-        sum: field(bytes, 6),
+        source: u16_at(bytes, 0),
+        destination: u16_at(bytes, 2),
+        len: u16_at(bytes, 4),
+        sum: u16_at(bytes, 6),
     }
 }
 
@@ -74,24 +65,16 @@ pub(crate) fn read_header(pool: &Pool, chain: &Chain) -> Header
     }
 }
 
-/// Writes two 16-bit numbers, one after the other.
-#[inline(always)]
-fn put_pair(bytes: &mut [u8], first: u16, second: u16)
-    requires { 4 ≤ length bytes.old }
-    ensures { bytes.new ≡ (two_bytes first ++ two_bytes second) ++ drop 4 bytes.old }
-{
-    BigEndian::write_u16(bytes, first);
-    BigEndian::write_u16(&mut bytes[2..], second);
-}
-
 /// Encodes a header.
 #[inline(always)]
 pub(crate) fn to_bytes(header: Header) -> [u8; 8]
     ensures { result ≡ header_bytes header }
 {
     let mut bytes = [0; HEADER];
-    put_pair(&mut bytes, header.source, header.destination);
-    put_pair(&mut bytes[4..], header.len, header.sum);
+    put_u16(&mut bytes, 0, header.source);
+    put_u16(&mut bytes, 2, header.destination);
+    put_u16(&mut bytes, 4, header.len);
+    put_u16(&mut bytes, 6, header.sum);
     bytes
 }
 

@@ -1,8 +1,8 @@
 use Rattle.std.proofs.Common.{◌≡◌, ◌<◌, ◌≤◌, ℕ, List, length, sym, ap, ◌∙◌, subst, arith, rules}
-use Rattle.std.specs.Prelude.{true, false, None, Some}
+use Rattle.std.specs.Prelude.{true, None, Some}
 use Rattle.std.proofs.lemmas.Grind.{common_steps}
 use Rattle.flat_model.specs.Packets.Header.{u16_at, udp_fault}
-use Rattle.flat_model.specs.declared.counters.Why.TheVariants.{UdpBadLength, UdpBadSum, UdpHeaderDrops}
+use Rattle.flat_model.specs.declared.counters.Why.TheVariants.{UdpBadLength, UdpHeaderDrops}
 use Rattle.ip_out.specs.declared.head.IpHead.{IpHead}
 use Rattle.ip_out.specs.Headed.{carried_of}
 use Rattle.udp.specs.declared.header.Header.{Header}
