@@ -20,7 +20,7 @@ use Rattle.flat_model.specs.Machine.Count.{counts_more}
 use Rattle.flat_model.specs.declared.counters.Counters.{Counters}
 use Rattle.flat_model.specs.declared.counter.Counter.TheVariants.{IpFragtimeout}
 use Rattle.mbuf_chain.specs.Frames.{SameAt}
-use Rattle.ip_reass.specs.Arrivals.{machine_with}
+use Rattle.ip_reass.specs.Arrivals.{with_waiting}
 use Rattle.ip_reass.specs.Same.{unfinished_same}
 use Rattle.ip_reass.specs.declared.datagram.Datagram.{Datagram}
 
@@ -249,7 +249,7 @@ gone_is p (d ∷ ds) = elim (cases_lt 1 d.ticks) [
 -- **a tick of the flat machine**
 pub tick_step : (rest : State) (c : Counters) (p q : PoolView) (old new : List Datagram) (n : ℕ) → new ≡ aged old
     → SameAt p q (held_all p new) → n + length (aged old) ≡ length old
-    → ticked (machine_with p old c rest) ≡ machine_with q new (counts_more IpFragtimeout n c) rest
+    → ticked (with_waiting p old c rest) ≡ with_waiting q new (counts_more IpFragtimeout n c) rest
 tick_step rest c p q old new n e same left =
     let shows : unfinished q new ≡ filter (λ (u : Unfinished). ltb 0 u.ticks) (older (unfinished p old)) =
     unfinished_same p q new same ∙ (ap (unfinished p) e ∙ aged_is p old) in

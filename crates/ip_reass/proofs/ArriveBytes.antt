@@ -27,7 +27,7 @@ use Rattle.chain_ops.specs.Trims.{without_first}
 use Rattle.chain_ops.proofs.Laws.Makes.{makes_as, makes_new}
 use Rattle.ledger.specs.Accounts.{IsAccounted, weight_at, entries_weight, weight_owned}
 use Rattle.ip_out.specs.declared.head.IpHead.{IpHead}
-use Rattle.ip_reass.specs.Arrivals.{GoesOn, carried_entries, flat_head, in_hand, key_in, machine_with}
+use Rattle.ip_reass.specs.Arrivals.{GoesOn, carried_entries, flat_head, in_hand, key_in, with_waiting}
 use Rattle.ip_reass.specs.AtOnce.{ArrivesAtOnce, TakesFree, as_stored, fits_at_once, in_cluster, in_mbufs, stored_by}
 use Rattle.ip_reass.specs.Fragments.{QueuedFragment, fragment_of}
 use Rattle.ip_reass.specs.Layouts.{ChainArrives, HasCause, HasLayout, KeyedQueue, Leaves, WaitOrNone, cause_among, fragment_carried, queues, under}
@@ -231,20 +231,20 @@ module _ (p m : PoolView) (r : TableView) (c : Counters) (d : Counters) (packet 
   st : Stored p r m n
   st = stored r ready made.adds
 
-  pub mid_accounts : (rest : State) (held : Weight) → IsAccounted p (machine_with p r.datagrams c rest) held
-      → IsAccounted m (machine_with m r.datagrams d rest) (held ⊕ weight_at m n)
+  pub mid_accounts : (rest : State) (held : Weight) → IsAccounted p (with_waiting p r.datagrams c rest) held
+      → IsAccounted m (with_waiting m r.datagrams d rest) (held ⊕ weight_at m n)
   mid_accounts rest held acc =
       accounts p m [] (n ∷ []) rest held nothing (weight_at m n) r.datagrams r.datagrams c d
-      (subst (λ (w : Weight). IsAccounted p (machine_with p r.datagrams c rest) w) (sym (both-nothing held)) acc)
+      (subst (λ (w : Weight). IsAccounted p (with_waiting p r.datagrams c rest) w) (sym (both-nothing held)) acc)
       st.moves
       ready.table.owned ready.table st.ready.table (same_weight nothing) (one_weighs m n)
 
   pub end_accounts : IsReady q t → Moves m (n ∷ held_all m r.datagrams) q (in_hand result ++ held_all q t.datagrams)
-      → (rest : State) (held : Weight) → IsAccounted p (machine_with p r.datagrams c rest) held
-      → IsAccounted q (machine_with q t.datagrams b rest) (held ⊕ weight_owned q (in_hand result))
+      → (rest : State) (held : Weight) → IsAccounted p (with_waiting p r.datagrams c rest) held
+      → IsAccounted q (with_waiting q t.datagrams b rest) (held ⊕ weight_owned q (in_hand result))
   end_accounts then_ready moves rest held acc =
       accounts p q [] (in_hand result) rest held nothing (weight_owned q (in_hand result)) r.datagrams t.datagrams c b
-      (subst (λ (w : Weight). IsAccounted p (machine_with p r.datagrams c rest) w) (sym (both-nothing held)) acc)
+      (subst (λ (w : Weight). IsAccounted p (with_waiting p r.datagrams c rest) w) (sym (both-nothing held)) acc)
       (moves_trans st.moves moves) ready.table.owned ready.table then_ready.table (same_weight nothing)
       (same_weight (weight_owned q (in_hand result)))
 
@@ -253,11 +253,11 @@ module _ (p m : PoolView) (r : TableView) (c : Counters) (d : Counters) (packet 
       ap (λ (es : List Entry). let f : QueuedFragment = record { offset = h.offset; more = h.more; entries = es } in f)
       made.entries
 
-  module _ (rest : State) (held : Weight) (new : State) (acc : IsAccounted p (machine_with p r.datagrams c rest) held)
+  module _ (rest : State) (held : Weight) (new : State) (acc : IsAccounted p (with_waiting p r.datagrams c rest) held)
       (joins : Joins exact_ledger held (key_in h) (fragment_of (arrived m n h.offset h.more))
-      (machine_with m r.datagrams d rest) new) where
+      (with_waiting m r.datagrams d rest) new) where
     abbrev old : State
-    old = counts_fragment (machine_with p r.datagrams c rest)
+    old = counts_fragment (with_waiting p r.datagrams c rest)
 
     abbrev w : Weight
     w = entries_weight (in_cluster packet k).entries
@@ -276,26 +276,26 @@ module _ (p m : PoolView) (r : TableView) (c : Counters) (d : Counters) (packet 
 
     by_size : (is_large : Bool) → Joins exact_ledger held (key_in h)
         (fragment_of (fragment_carried (stored_by is_large packet k) h)) old new
-        → ChainArrives held h (stored_by is_large packet k) (machine_with p r.datagrams c rest) new
+        → ChainArrives held h (stored_by is_large packet k) (with_waiting p r.datagrams c rest) new
     by_size true joined_now =
-        arrives_cluster held (machine_with p r.datagrams c rest) new h (in_cluster packet k) fits.good refl (record {
+        arrives_cluster held (with_waiting p r.datagrams c rest) new h (in_cluster packet k) fits.good refl (record {
           answer = true;
           mid = old;
           has_buffers = inl (sym one_more, refl);
           goes_on = record { yes = λ _. joined_now; no = λ e. absurd (true≢false e) };
         })
     by_size false joined_now =
-        arrives_plain held (machine_with p r.datagrams c rest) new h (in_mbufs packet) fits.good refl joined_now
+        arrives_plain held (with_waiting p r.datagrams c rest) new h (in_mbufs packet) fits.good refl joined_now
 
-    arrives : ChainArrives held h (as_stored packet k) (machine_with p r.datagrams c rest) new
+    arrives : ChainArrives held h (as_stored packet k) (with_waiting p r.datagrams c rest) new
     arrives = by_size (nat_le 208 (length packet)) joins_now
 
   pub at_once : TakesFree p packet k
       → ((rest : State) (held : Weight) (new : State)
-      → IsAccounted m (machine_with m r.datagrams d rest) (held ⊕ weight_at m n)
-      → GoesOn held q result (machine_with q t.datagrams b rest) new
+      → IsAccounted m (with_waiting m r.datagrams d rest) (held ⊕ weight_at m n)
+      → GoesOn held q result (with_waiting q t.datagrams b rest) new
       → Joins exact_ledger held (key_in h) (fragment_of (arrived m n h.offset h.more))
-      (machine_with m r.datagrams d rest)
+      (with_waiting m r.datagrams d rest)
       new)
       → HasLayout m r.datagrams (key_in h) (arrived m n h.offset h.more) result q t.datagrams
       → HasCause (cause_among (under (key_in h) (queues q t.datagrams)) (arrived m n h.offset h.more)) result

@@ -34,16 +34,16 @@ use Rattle.ip_reass.specs.Table.{held_all, AreDistinct, IsTable, unfinished, unf
 use Rattle.ip_reass.specs.Inside.Steps.{datagram_at}
 use Rattle.ip_reass.specs.Same.{held_all_same, table_same, unfinished_same, queues_same, table_weighs}
 use Rattle.ip_reass.specs.Layouts.{queues, fragment_carried, ChainArrives}
-use Rattle.ip_reass.specs.Arrivals.{machine_with, flat_head, key_in, IsPulled, pulled_entries, carried_entries}
+use Rattle.ip_reass.specs.Arrivals.{with_waiting, flat_head, key_in, IsPulled, pulled_entries, carried_entries}
 use Rattle.ip_reass.specs.declared.datagram.Datagram.{Datagram}
 use Rattle.ip_reass.proofs.Places.{found_passes}
 
 -- ---- the accounts after a step: for the chains that the arrival holds, and for the table
 pub accounts : (p q : PoolView) (xs ys : List ℕ) (rest : State) (held a b : Weight) (ds es : List Datagram)
-    (c d : Counters) → IsAccounted p (machine_with p ds c rest) (held ⊕ a)
+    (c d : Counters) → IsAccounted p (with_waiting p ds c rest) (held ⊕ a)
     → Moves p (xs ++ held_all p ds) q (ys ++ held_all q es)
     → IsOwned p (xs ++ held_all p ds) → IsTable p ds → IsTable q es → SameWeight (weight_owned p xs) a
-    → SameWeight (weight_owned q ys) b → IsAccounted q (machine_with q es d rest) (held ⊕ b)
+    → SameWeight (weight_owned q ys) b → IsAccounted q (with_waiting q es d rest) (held ⊕ b)
 accounts p q xs ys rest held a b ds es c d acc m owns is after wa wb =
     let sockets : Weight = all_of (λ (socket : Socket). all_of (λ x. x.item.weight) socket.queue) rest.sockets in
     let output : Weight = all_of (λ (item : Item). item.weight) rest.output in
@@ -55,8 +55,8 @@ accounts p q xs ys rest held a b ds es c d acc m owns is after wa wb =
     all_of-append (weight_at q) ys (held_all q es) in
     let tp = table_weighs p ds is.each in
     let tq = table_weighs q es after.each in
-    let shifts : Shifts (machine_with p ds c rest) (held ⊕ a) (weight_owned p (xs ++ held_all p ds))
-    (machine_with q es d rest)
+    let shifts : Shifts (with_waiting p ds c rest) (held ⊕ a) (weight_owned p (xs ++ held_all p ds))
+    (with_waiting q es d rest)
     (held ⊕ b) (weight_owned q (ys ++ held_all q es)) = record {
       mbufs =
           omega (
@@ -166,28 +166,28 @@ module _ (held : Weight) (old new : State) (h : IpHead) (v : ChainView) where
 -- the test for the header's mbuf and, if it passed, the fragment that joins the others
 pub tests_of : (rest : State) (held : Weight) (new : State) (k : Key) (f : Fragment) (w : Weight) (p q : PoolView)
     (ds es : List Datagram) (c d : Counters) (answer : Bool) → IsPulled p ds c w answer q es d rest held
-    → (answer ≡ true → Joins exact_ledger held k f (machine_with q es d rest) new)
-    → (answer ≡ false → new ≡ machine_with q es d rest)
-    → Tests exact_ledger (machine_with p ds c rest) (held ⊕ w) 1 new (λ mid. Joins exact_ledger held k f mid new)
+    → (answer ≡ true → Joins exact_ledger held k f (with_waiting q es d rest) new)
+    → (answer ≡ false → new ≡ with_waiting q es d rest)
+    → Tests exact_ledger (with_waiting p ds c rest) (held ⊕ w) 1 new (λ mid. Joins exact_ledger held k f mid new)
 tests_of rest held new k f w p q ds es c d true t joins ended = record {
   answer = true;
-  mid = machine_with q es t.mid rest;
+  mid = with_waiting q es t.mid rest;
   has_buffers = t.has_buffers;
   goes_on =
       record {
-        yes = λ e. subst (λ (x : Counters). Joins exact_ledger held k f (machine_with q es x rest) new) t.counts
+        yes = λ e. subst (λ (x : Counters). Joins exact_ledger held k f (with_waiting q es x rest) new) t.counts
             (joins refl);
         no = λ e. absurd (false≢true (sym e));
       };
 }
 tests_of rest held new k f w p q ds es c d false t joins ended = record {
   answer = false;
-  mid = machine_with q es t.mid rest;
+  mid = with_waiting q es t.mid rest;
   has_buffers = t.has_buffers;
   goes_on =
       record {
         yes = λ e. absurd (false≢true e);
-        no = λ e. ended refl ∙ ap (λ (x : Counters). machine_with q es x rest) t.counts;
+        no = λ e. ended refl ∙ ap (λ (x : Counters). with_waiting q es x rest) t.counts;
       };
 }
 
@@ -224,20 +224,20 @@ some_by_key p k (d ∷ ds) x e = go (is_key k (unfinished_of p d)) refl (some_by
 -- ---- a fragment joins the others with its key
 pub joins_none : (rest : State) (held : Weight) (new : State) (k : Key) (f : Fragment) (p : PoolView)
     (ds : List Datagram) (c : Counters) → find (is_key k) (unfinished p ds) ≡ None
-    → Tests exact_ledger (machine_with p ds c rest) (held ⊕ f.weight) 1 new
+    → Tests exact_ledger (with_waiting p ds c rest) (held ⊕ f.weight) 1 new
     (λ mid. Inserts exact_ledger held k f (begun k) (begin_unfinished k mid) new)
-    → Joins exact_ledger held k f (machine_with p ds c rest) new
+    → Joins exact_ledger held k f (with_waiting p ds c rest) new
 joins_none rest held new k f p ds c none tests =
     record { none = λ e. tests; some = λ x e. absurd (none-some x (sym none ∙ e)) }
 
 pub joins_some : (rest : State) (held : Weight) (new : State) (k : Key) (f : Fragment) (p : PoolView)
     (ds : List Datagram) (c : Counters) (d : Datagram) → find (is_key k) (unfinished p ds) ≡ Some (unfinished_of p d)
-    → Inserts exact_ledger held k f (unfinished_of p d) (machine_with p ds c rest) new
-    → Joins exact_ledger held k f (machine_with p ds c rest) new
+    → Inserts exact_ledger held k f (unfinished_of p d) (with_waiting p ds c rest) new
+    → Joins exact_ledger held k f (with_waiting p ds c rest) new
 joins_some rest held new k f p ds c d found inserts = record {
   none = λ e. absurd (none-some (unfinished_of p d) (sym e ∙ found));
   some =
-      λ x e. subst (λ (u : Unfinished). Inserts exact_ledger held k f u (machine_with p ds c rest) new)
+      λ x e. subst (λ (u : Unfinished). Inserts exact_ledger held k f u (with_waiting p ds c rest) new)
       (ap or_d (sym found ∙ e)) inserts;
 }
   where
@@ -254,8 +254,8 @@ slice_at (d ∷ ds) (suc i) l = slice_at ds i (omega arith)
 pub joins_found : (rest : State) (held : Weight) (new : State) (k : Key) (f : Fragment) (p : PoolView)
     (ds : List Datagram) (c : Counters) (i : ℕ) → IsFirst k ds i → AreDistinct p ds
     → (is_key k (unfinished_of p (datagram_at ds i)) ≡ true → count_by (is_key k) (unfinished p ds) ≤ 1
-    → Inserts exact_ledger held k f (unfinished_of p (datagram_at ds i)) (machine_with p ds c rest) new)
-    → Joins exact_ledger held k f (machine_with p ds c rest) new
+    → Inserts exact_ledger held k f (unfinished_of p (datagram_at ds i)) (with_waiting p ds c rest) new)
+    → Joins exact_ledger held k f (with_waiting p ds c rest) new
 joins_found rest held new k f p ds c i first distinct step =
     let key : find (is_key k) (unfinished p ds) ≡ Some (unfinished_of p (datagram_at ds i)) =
     some_by_key p k ds (datagram_at ds i) (first.here ∙ slice_at ds i first.within) in
@@ -266,30 +266,30 @@ joins_found rest held new k f p ds c i first distinct step =
 -- ---- the header's mbuf
 pub pulled_lacking : (rest : State) (held w : Weight) (p q r : PoolView) (ds es : List Datagram) (c mid d : Counters)
     (answer : Bool) → answer ≡ false
-    → HasBuffers exact_ledger (machine_with p ds c rest) (held ⊕ w) (need_mbufs 1) answer (machine_with q es mid rest)
+    → HasBuffers exact_ledger (with_waiting p ds c rest) (held ⊕ w) (need_mbufs 1) answer (with_waiting q es mid rest)
     → unfinished r es ≡ unfinished q es → d ≡ counted NoBufs mid → IsPulled p ds c w false r es d rest held
 pulled_lacking rest held w p q r ds es c mid d answer refused af shows counts = record {
   mid = mid;
   has_buffers =
-      subst (λ (us : List Unfinished). HasBuffers exact_ledger (machine_with p ds c rest) (held ⊕ w) (need_mbufs 1)
+      subst (λ (us : List Unfinished). HasBuffers exact_ledger (with_waiting p ds c rest) (held ⊕ w) (need_mbufs 1)
       false
       (record rest { unfinished = us; counters = mid })) (sym shows)
-      (subst (λ (b : Bool). HasBuffers exact_ledger (machine_with p ds c rest) (held ⊕ w) (need_mbufs 1) b
-      (machine_with q es mid rest)) refused af);
+      (subst (λ (b : Bool). HasBuffers exact_ledger (with_waiting p ds c rest) (held ⊕ w) (need_mbufs 1) b
+      (with_waiting q es mid rest)) refused af);
   counts = counts;
 }
 
 pub pulled_done : (rest : State) (held w : Weight) (p q r : PoolView) (ds es : List Datagram) (c mid : Counters)
     (answer : Bool) → answer ≡ true
-    → HasBuffers exact_ledger (machine_with p ds c rest) (held ⊕ w) (need_mbufs 1) answer (machine_with q es mid rest)
+    → HasBuffers exact_ledger (with_waiting p ds c rest) (held ⊕ w) (need_mbufs 1) answer (with_waiting q es mid rest)
     → unfinished r es ≡ unfinished q es → IsPulled p ds c w true r es mid rest held
 pulled_done rest held w p q r ds es c mid answer agrees af shows = record {
   mid = mid;
   has_buffers =
-      subst (λ (us : List Unfinished). HasBuffers exact_ledger (machine_with p ds c rest) (held ⊕ w) (need_mbufs 1) true
+      subst (λ (us : List Unfinished). HasBuffers exact_ledger (with_waiting p ds c rest) (held ⊕ w) (need_mbufs 1) true
       (record rest { unfinished = us; counters = mid })) (sym shows)
-      (subst (λ (b : Bool). HasBuffers exact_ledger (machine_with p ds c rest) (held ⊕ w) (need_mbufs 1) b
-      (machine_with q es mid rest)) agrees af);
+      (subst (λ (b : Bool). HasBuffers exact_ledger (with_waiting p ds c rest) (held ⊕ w) (need_mbufs 1) b
+      (with_waiting q es mid rest)) agrees af);
   counts = refl;
 }
 
@@ -331,7 +331,7 @@ module _ (rest : State) (held : Weight) (new : State) (h : IpHead) (p q r : Pool
     (c c1 d : Counters) (n n' : ℕ) (good : is_bad_fragment (flat_head h) (h.total - 20) ≡ false)
     (counts : c1 ≡ counts_more IpFragments 1 c)
     (entries : (chain_of q n').entries ≡ pulled_entries (chain_of p n)) (t : Trimmed q es n' r)
-    (joins : Joins exact_ledger held (key_in h) (fragment_of (arrived r n' h.offset h.more)) (machine_with r es d rest)
+    (joins : Joins exact_ledger held (key_in h) (fragment_of (arrived r n' h.offset h.more)) (with_waiting r es d rest)
     new) where
   carried_now : fragment_of (arrived r n' h.offset h.more) ≡ fragment_of (fragment_carried (chain_of p n) h)
   carried_now =
@@ -339,47 +339,47 @@ module _ (rest : State) (held : Weight) (new : State) (h : IpHead) (p q r : Pool
       (ap (λ (v : ChainView). v.entries) t.chain ∙ ap (without_first 20) entries)
 
   -- the fragment joins the others in the state after the test for its header's mbuf
-  joins_then : (s : State) → machine_with r es d rest ≡ s
+  joins_then : (s : State) → with_waiting r es d rest ≡ s
       → Joins exact_ledger held (key_in h) (fragment_of (fragment_carried (chain_of p n) h)) s new
   joins_then s now =
       subst (λ (x : State). Joins exact_ledger held (key_in h) (fragment_of (fragment_carried (chain_of p n) h)) x new)
-      now (subst (λ (x : Fragment). Joins exact_ledger held (key_in h) x (machine_with r es d rest) new) carried_now
+      now (subst (λ (x : Fragment). Joins exact_ledger held (key_in h) x (with_waiting r es d rest) new) carried_now
       joins)
 
   pub some_plain : is_some (entry_of (chain_of p n) 0).cluster ≡ false → q ≡ p → es ≡ ds → d ≡ c1
-      → ChainArrives held h (chain_of p n) (machine_with p ds c rest) new
+      → ChainArrives held h (chain_of p n) (with_waiting p ds c rest) new
   some_plain plain q_is es_is d_is =
       let shows : unfinished r es ≡ unfinished p ds = t.shows ∙ (λ j. unfinished (q_is j) (es_is j)) in
-      let now : machine_with r es d rest ≡ counts_fragment (machine_with p ds c rest) =
+      let now : with_waiting r es d rest ≡ counts_fragment (with_waiting p ds c rest) =
       λ j. record rest { unfinished = shows j; counters = (d_is ∙ counts) j } in
-      arrives_plain held (machine_with p ds c rest) new h (chain_of p n) good plain
-      (joins_then (counts_fragment (machine_with p ds c rest)) now)
+      arrives_plain held (with_waiting p ds c rest) new h (chain_of p n) good plain
+      (joins_then (counts_fragment (with_waiting p ds c rest)) now)
 
   pub some_cluster : is_some (entry_of (chain_of p n) 0).cluster ≡ true
       → IsPulled p ds c1 (weight_at p n) true q es d rest held
-      → ChainArrives held h (chain_of p n) (machine_with p ds c rest) new
+      → ChainArrives held h (chain_of p n) (with_waiting p ds c rest) new
   some_cluster cluster tested =
-      let now : machine_with r es d rest ≡ machine_with q es d rest =
+      let now : with_waiting r es d rest ≡ with_waiting q es d rest =
       λ j. record rest { unfinished = t.shows j; counters = d } in
-      let was : machine_with p ds c1 rest ≡ counts_fragment (machine_with p ds c rest) =
-      ap (λ (x : Counters). machine_with p ds x rest) counts in
-      arrives_cluster held (machine_with p ds c rest) new h (chain_of p n) good cluster
+      let was : with_waiting p ds c1 rest ≡ counts_fragment (with_waiting p ds c rest) =
+      ap (λ (x : Counters). with_waiting p ds x rest) counts in
+      arrives_cluster held (with_waiting p ds c rest) new h (chain_of p n) good cluster
       (subst (λ (s : State). Tests exact_ledger s (held ⊕ weight_at p n) 1 new
       (λ mid. Joins exact_ledger held (key_in h) (fragment_of (fragment_carried (chain_of p n) h)) mid new)) was
       (tests_of rest held new (key_in h) (fragment_of (fragment_carried (chain_of p n) h)) (weight_at p n) p q ds es c1
-      d true tested (λ e. joins_then (machine_with q es d rest) now) (λ e. absurd (false≢true (sym e)))))
+      d true tested (λ e. joins_then (with_waiting q es d rest) now) (λ e. absurd (false≢true (sym e)))))
 
 -- **no mbuf was free for its header**
 pub none_cluster : (rest : State) (held : Weight) (new : State) (h : IpHead) (p q : PoolView) (ds es : List Datagram)
     (c c1 d : Counters) (n : ℕ) (answer : Bool) → is_bad_fragment (flat_head h) (h.total - 20) ≡ false
     → c1 ≡ counts_more IpFragments 1 c
     → is_some (entry_of (chain_of p n) 0).cluster ≡ true → IsPulled p ds c1 (weight_at p n) answer q es d rest held
-    → answer ≡ false → new ≡ machine_with q es d rest
-    → ChainArrives held h (chain_of p n) (machine_with p ds c rest) new
+    → answer ≡ false → new ≡ with_waiting q es d rest
+    → ChainArrives held h (chain_of p n) (with_waiting p ds c rest) new
 none_cluster rest held new h p q ds es c c1 d n answer good counts cluster tested refused is =
-    let was : machine_with p ds c1 rest ≡ counts_fragment (machine_with p ds c rest) =
-    ap (λ (x : Counters). machine_with p ds x rest) counts in
-    arrives_cluster held (machine_with p ds c rest) new h (chain_of p n) good cluster
+    let was : with_waiting p ds c1 rest ≡ counts_fragment (with_waiting p ds c rest) =
+    ap (λ (x : Counters). with_waiting p ds x rest) counts in
+    arrives_cluster held (with_waiting p ds c rest) new h (chain_of p n) good cluster
     (subst (λ (s : State). Tests exact_ledger s (held ⊕ weight_at p n) 1 new
     (λ mid. Joins exact_ledger held (key_in h) (fragment_of (fragment_carried (chain_of p n) h)) mid new)) was
     (tests_of rest held new (key_in h) (fragment_of (fragment_carried (chain_of p n) h)) (weight_at p n) p q ds es c1 d
@@ -397,6 +397,6 @@ carried_len p r n n' len long e = omega (arith, carried_size p n len long, ap le
 
 -- the same weight with other counters
 pub accounted_counters : (p : PoolView) (ds : List Datagram) (c d : Counters) (rest : State) (held : Weight)
-    → IsAccounted p (machine_with p ds c rest) held → IsAccounted p (machine_with p ds d rest) held
+    → IsAccounted p (with_waiting p ds c rest) held → IsAccounted p (with_waiting p ds d rest) held
 accounted_counters p ds c d rest held a =
     record { mbufs = a.mbufs; clusters = a.clusters; total = a.total; references = a.references }

@@ -18,7 +18,7 @@ use Rattle.ip_reass.specs.Fragments.{QueuedFragment, fragment_of, fragments, map
 use Rattle.ip_reass.specs.Layouts.{KeyedQueue, queue_of, queues, no_queue, keyed_queue_at}
 use Rattle.ip_reass.specs.Table.{unfinished, unfinished_of}
 use Rattle.ip_reass.specs.Inside.Steps.{datagram_at, no_datagram, InsertsIn, TakesOut}
-use Rattle.ip_reass.specs.Arrivals.{machine_with}
+use Rattle.ip_reass.specs.Arrivals.{with_waiting}
 use Rattle.ip_reass.specs.declared.datagram.Datagram.{Datagram}
 use Rattle.mbuf_chain.specs.Owners.{Moves}
 use Rattle.mbuf_chain.specs.Frames.{IsBounded}
@@ -63,8 +63,8 @@ pub settles_kept : (rest : State) (held : Weight) (k : Key) (p q : PoolView) (ds
     (i n : ℕ) (f : QueuedFragment) (new : State) → i < length ds
     → is_key k (unfinished_of p (datagram_at ds i)) ≡ true → count_by (is_key k) (unfinished p ds) ≤ 1
     → (la : InsertsIn p ds i n f true q es) → ((m : ℕ) → ¬ IsWhole (map_of (fragments q la.train)) m)
-    → new ≡ machine_with q es c rest → Inserts exact_ledger held k (fragment_of f) (unfinished_of p (datagram_at ds i))
-    (machine_with p ds c rest) new
+    → new ≡ with_waiting q es c rest → Inserts exact_ledger held k (fragment_of f) (unfinished_of p (datagram_at ds i))
+    (with_waiting p ds c rest) new
 settles_kept rest held k p q ds es c i n f new l here most la waits is = record {
   yes = λ e. absurd (false≢true (sym la.covered ∙ e));
   no = λ e. inr (
@@ -88,8 +88,8 @@ pub settles_whole : (rest : State) (held : Weight) (k : Key) (p q r : PoolView) 
     m
     → bytes_below (map_of (fragments q la.train)) m ≡ flat_bytes (joined_fragments (queued q la.train))
     → (chain_of r out).entries ≡ joined_fragments (queued q la.train) → d ≡ counts_more IpReassembled 1 c
-    → WholeArrives exact_ledger held k.source k.destination k.protocol (item_at r out) (machine_with r hs d rest) new
-    → Inserts exact_ledger held k (fragment_of f) (unfinished_of p (datagram_at ds i)) (machine_with p ds c rest) new
+    → WholeArrives exact_ledger held k.source k.destination k.protocol (item_at r out) (with_waiting r hs d rest) new
+    → Inserts exact_ledger held k (fragment_of f) (unfinished_of p (datagram_at ds i)) (with_waiting p ds c rest) new
 settles_whole rest held k p q r ds es hs c d i n out m f new l here most la ta whole join bytes entries counts goes =
     let bs : Map = overlay (map_of (fragments p (datagram_at ds i).fragments)) (fragment_of f) in
     let item : item_at r out ≡ record {
@@ -102,27 +102,27 @@ settles_whole rest held k p q r ds es hs c d i n out m f new l here most la ta w
     let left : unfinished r hs ≡ filter (λ (u : Unfinished). not (is_key k u)) (unfinished p ds) =
     ta.shows ∙ (ap (λ (us : List Unfinished). remove us i) la.shows
     ∙ (remove-set (unfinished p ds) i _ ∙ sym (ended k p ds i l here most))) in
-    let now : machine_with r hs d rest ≡ counts_reassembled (end_unfinished k (machine_with p ds c rest)) =
+    let now : with_waiting r hs d rest ≡ counts_reassembled (end_unfinished k (with_waiting p ds c rest)) =
     λ j. record rest { unfinished = left j; counters = counts j } in
     let arrives : WholeArrives exact_ledger held k.source k.destination k.protocol
     (record {
       bytes = bytes_below (map_of (fragments q la.train)) m;
       weight =
           entries_weight (joined_fragments (queued q la.train));
-    }) (counts_reassembled (end_unfinished k (machine_with p ds c rest))) new =
+    }) (counts_reassembled (end_unfinished k (with_waiting p ds c rest))) new =
     subst (λ (s : State). WholeArrives exact_ledger held k.source k.destination k.protocol
     (record {
       bytes = bytes_below (map_of (fragments q la.train)) m;
       weight = entries_weight (joined_fragments (queued q la.train));
     }) s new) now
-    (subst (λ (x : Item). WholeArrives exact_ledger held k.source k.destination k.protocol x (machine_with r hs d rest)
+    (subst (λ (x : Item). WholeArrives exact_ledger held k.source k.destination k.protocol x (with_waiting r hs d rest)
     new)
     item goes) in
-    let settled : Settles exact_ledger held k (map_of (fragments q la.train)) (machine_with p ds c rest) new =
+    let settled : Settles exact_ledger held k (map_of (fragments q la.train)) (with_waiting p ds c rest) new =
     inl (m, whole, entries_weight (joined_fragments (queued q la.train)), join, arrives) in
     record {
       yes = λ e. absurd (false≢true (sym la.covered ∙ e));
-      no = λ e. subst (λ (b : Map). Settles exact_ledger held k b (machine_with p ds c rest) new) la.map settled;
+      no = λ e. subst (λ (b : Map). Settles exact_ledger held k b (with_waiting p ds c rest) new) la.map settled;
     }
 
 -- ---- the same for a table that was lent as a slice
@@ -166,13 +166,13 @@ module _ {p q : PoolView} {ds es back : List Datagram} {i n : ℕ} {f : QueuedFr
     -- the datagram waits
     pub lent_kept : (rest : State) (held : Weight) (k : Key) (c : Counters) (new : State) → i < length ds
         → is_key k (unfinished_of p (datagram_at ds i)) ≡ true → count_by (is_key k) (unfinished p ds) ≤ 1
-        → ((m : ℕ) → ¬ IsWhole (map_of (fragments q (datagram_at es i).fragments)) m) → new ≡ machine_with q back c rest
-        → Inserts exact_ledger held k (fragment_of f) (unfinished_of p (datagram_at ds i)) (machine_with p ds c rest)
+        → ((m : ℕ) → ¬ IsWhole (map_of (fragments q (datagram_at es i).fragments)) m) → new ≡ with_waiting q back c rest
+        → Inserts exact_ledger held k (fragment_of f) (unfinished_of p (datagram_at ds i)) (with_waiting p ds c rest)
         new
     lent_kept rest held k c new l here most waits is =
         settles_kept rest held k p q ds es c i n f new l here most e.inserts
         (λ m w. waits m (subst (λ (t : TrainView). IsWhole (map_of (fragments q t)) m) (sym e.train_is) w))
-        (is ∙ ap (λ (zs : List Datagram). machine_with q zs c rest) e.back_is)
+        (is ∙ ap (λ (zs : List Datagram). with_waiting q zs c rest) e.back_is)
 
     whole_here : (m : ℕ) → IsWhole (map_of (fragments q (datagram_at es i).fragments)) m
         → IsWhole (map_of (fragments q e.inserts.train)) m
@@ -194,9 +194,9 @@ module _ {p q : PoolView} {ds es back : List Datagram} {i n : ℕ} {f : QueuedFr
       pub lent_whole : (rest : State) (held : Weight) (k : Key) (c d : Counters) (new : State)
           → is_key k (unfinished_of p (datagram_at ds i)) ≡ true → count_by (is_key k) (unfinished p ds) ≤ 1
           → d ≡ counts_more IpReassembled 1 c
-          → WholeArrives exact_ledger held k.source k.destination k.protocol (item_at r out) (machine_with r hs d rest)
+          → WholeArrives exact_ledger held k.source k.destination k.protocol (item_at r out) (with_waiting r hs d rest)
           new
-          → Inserts exact_ledger held k (fragment_of f) (unfinished_of p (datagram_at ds i)) (machine_with p ds c rest)
+          → Inserts exact_ledger held k (fragment_of f) (unfinished_of p (datagram_at ds i)) (with_waiting p ds c rest)
           new
       lent_whole rest held k c d new here most counts goes =
           let whole : IsWhole (map_of (fragments q e.inserts.train)) m = whole_here m w in

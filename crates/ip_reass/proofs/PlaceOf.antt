@@ -13,7 +13,7 @@ use Rattle.mbuf_chain.specs.Owners.{IsOwned, Moves}
 use Rattle.mbuf_chain.proofs.Laws.Owners.{moves_trans}
 use Rattle.ledger.specs.Accounts.{IsAccounted, weight_at}
 use Rattle.ledger.specs.Reserve.{Reserves, are_free}
-use Rattle.ip_reass.specs.Arrivals.{machine_with}
+use Rattle.ip_reass.specs.Arrivals.{with_waiting}
 use Rattle.ip_reass.specs.Fragments.{fragment_of}
 use Rattle.ip_reass.specs.Inside.Place.{RequestsMbuf, IsFirst, HasBegun, HasPlace}
 use Rattle.ip_reass.specs.Inside.Steps.{datagram_at}
@@ -36,7 +36,7 @@ pub asks : (p q : PoolView) (r s : TableView) (c d : Counters) (answer : Bool) �
     → (are_free p 1 0 ≡ true → (q ≡ p) × (s ≡ r) × (d ≡ c)) → (are_free p 1 0 ≡ false → length s.datagrams ≡ 0)
     → RequestsMbuf p r c answer q s d
 asks p q r s c d answer reserves moves ready is kept none = record {
-  has_buffers = λ rest held acc. (reserves (machine_with p r.datagrams c rest) held refl refl acc).has_buffers;
+  has_buffers = λ rest held acc. (reserves (with_waiting p r.datagrams c rest) held refl refl acc).has_buffers;
   waits = wait_reserved p q r s c d (are_free p 1 0) kept none;
   none = λ refused. none_reserved p q r s c d answer kept none is refused;
   ready = ready;
@@ -51,13 +51,13 @@ pub record Placed (p : PoolView) (r : TableView) (c : Counters) (k : Key) (n i :
   pub stays : Stays p r.datagrams n q s.datagrams
   pub room : q.mbufs ≤ 2 * s.room
   pub step : (rest : State) (held : Weight) (new : State) (offset : ℕ) (more : Bool)
-      → IsAccounted p (machine_with p r.datagrams c rest) (held ⊕ weight_at p n)
+      → IsAccounted p (with_waiting p r.datagrams c rest) (held ⊕ weight_at p n)
       → (is_key k (unfinished_of q (datagram_at s.datagrams i)) ≡ true
       → count_by (is_key k) (unfinished q s.datagrams) ≤ 1
       → Inserts exact_ledger held k (fragment_of (arrived q n offset more))
       (unfinished_of q (datagram_at s.datagrams i))
-      (machine_with q s.datagrams d rest) new)
-      → Joins exact_ledger held k (fragment_of (arrived p n offset more)) (machine_with p r.datagrams c rest) new
+      (with_waiting q s.datagrams d rest) new)
+      → Joins exact_ledger held k (fragment_of (arrived p n offset more)) (with_waiting p r.datagrams c rest) new
   pub layout : (offset : ℕ) (more : Bool) (result : Arrival) (t : PoolView) (ts : List Datagram)
       → LeavesAt i (arrived q n offset more) (queues q s.datagrams) t result (queues t ts)
       → HasLayout p r.datagrams k (arrived p n offset more) result t ts
@@ -149,9 +149,9 @@ pub record Lacks (p : PoolView) (r : TableView) (c : Counters) (k : Key) (n : �
   pub waits : WaitOrNone (queues p r.datagrams) (queues t s.datagrams)
   pub none : queues t s.datagrams ≡ []
   pub step : (rest : State) (held : Weight) (new : State) (offset : ℕ) (more : Bool) (e : Counters)
-      → IsAccounted p (machine_with p r.datagrams c rest) (held ⊕ weight_at p n) → e ≡ counted NoBufs d
-      → new ≡ machine_with t s.datagrams e rest
-      → Joins exact_ledger held k (fragment_of (arrived p n offset more)) (machine_with p r.datagrams c rest) new
+      → IsAccounted p (with_waiting p r.datagrams c rest) (held ⊕ weight_at p n) → e ≡ counted NoBufs d
+      → new ≡ with_waiting t s.datagrams e rest
+      → Joins exact_ledger held k (fragment_of (arrived p n offset more)) (with_waiting p r.datagrams c rest) new
 
 pub lacks_in : (p : PoolView) (r : TableView) (c : Counters) (k k' : Key) (n : ℕ)
     → IsOwned p (n ∷ held_all p r.datagrams) → (q t : PoolView) (s : TableView) (d : Counters) (o : Option ℕ) → k' ≡ k

@@ -23,7 +23,7 @@ use Rattle.ip_reass.specs.Table.{held, held_all, new_datagram, AllUnfinished, Ha
 use Rattle.ip_reass.specs.Same.{held_all_same, table_same, unfinished_same, queues_same}
 use Rattle.ip_reass.specs.Layouts.{queues}
 use Rattle.ip_reass.specs.Inside.Steps.{datagram_at, no_datagram}
-use Rattle.ip_reass.specs.Arrivals.{machine_with}
+use Rattle.ip_reass.specs.Arrivals.{with_waiting}
 use Rattle.ledger.specs.Accounts.{weight_at}
 use Rattle.ip_reass.specs.declared.datagram.Datagram.{Datagram}
 use Rattle.ip_reass.proofs.Places.{none_found}
@@ -81,12 +81,12 @@ freed p q r ds es c st is gone =
 -- ---- the two results of the test for a key's mbuf
 pub lacking : (rest : State) (held : Weight) (new : State) (k : Key) (f : Fragment) (p q r : PoolView)
     (ds es : List Datagram) (c mid d : Counters)
-    → HasBuffers exact_ledger (machine_with p ds c rest) (held ⊕ f.weight) (need_mbufs 1) false
-    (machine_with q es mid rest) → unfinished r es ≡ unfinished q es → d ≡ counted NoBufs mid
-    → new ≡ machine_with r es d rest → TestsForKey held k f (machine_with p ds c rest) new
+    → HasBuffers exact_ledger (with_waiting p ds c rest) (held ⊕ f.weight) (need_mbufs 1) false
+    (with_waiting q es mid rest) → unfinished r es ≡ unfinished q es → d ≡ counted NoBufs mid
+    → new ≡ with_waiting r es d rest → TestsForKey held k f (with_waiting p ds c rest) new
 lacking rest held new k f p q r ds es c mid d af shows counts is = record {
   answer = false;
-  mid = machine_with q es mid rest;
+  mid = with_waiting q es mid rest;
   has_buffers = af;
   goes_on = record {
     yes = λ e. absurd (false≢true e);
@@ -97,7 +97,7 @@ lacking rest held new k f p q r ds es c mid d af shows counts is = record {
 -- the datagrams that are left after a test
 none_then : (rest : State) (w : Weight) (k : Key) (p q : PoolView) (ds es : List Datagram) (c mid : Counters)
     → find (is_key k) (unfinished p ds) ≡ None
-    → HasBuffers exact_ledger (machine_with p ds c rest) w (need_mbufs 1) true (machine_with q es mid rest)
+    → HasBuffers exact_ledger (with_waiting p ds c rest) w (need_mbufs 1) true (with_waiting q es mid rest)
     → count_by (is_key k) (unfinished q es) ≡ 0
 none_then rest w k p q ds es c mid none (inl a) =
     ap (λ (s : State). count_by (is_key k) s.unfinished) a.1 ∙ none_found (is_key k) (unfinished p ds) none
@@ -138,12 +138,12 @@ began p q ds es n h i k is owns adds e i_is =
 pub begins_here : (rest : State) (held : Weight) (new : State) (k : Key) (p q r : PoolView)
     (ds es hs : List Datagram) (c d : Counters) (n i offset : ℕ) (more : Bool)
     → find (is_key k) (unfinished p ds) ≡ None
-    → HasBuffers exact_ledger (machine_with p ds c rest) (held ⊕ weight_at p n) (need_mbufs 1) true
-    (machine_with q es d rest) → chain_of r n ≡ chain_of p n → Began q es n k r hs i
+    → HasBuffers exact_ledger (with_waiting p ds c rest) (held ⊕ weight_at p n) (need_mbufs 1) true
+    (with_waiting q es d rest) → chain_of r n ≡ chain_of p n → Began q es n k r hs i
     → (is_key k (unfinished_of r (datagram_at hs i)) ≡ true → count_by (is_key k) (unfinished r hs) ≤ 1
     → Inserts exact_ledger held k (fragment_of (arrived r n offset more)) (unfinished_of r (datagram_at hs i))
-    (machine_with r hs d rest) new)
-    → TestsForKey held k (fragment_of (arrived p n offset more)) (machine_with p ds c rest) new
+    (with_waiting r hs d rest) new)
+    → TestsForKey held k (fragment_of (arrived p n offset more)) (with_waiting p ds c rest) new
 begins_here rest held new k p q r ds es hs c d n i offset more none af chain b step =
     let zero_then : count_by (is_key k) (unfinished q es) ≡ 0 =
     none_then rest (held ⊕ weight_at p n) k p q ds es c d none af in
@@ -159,21 +159,21 @@ begins_here rest held new k p q r ds es hs c d n i offset more none af chain b s
     ) in
     let inserts = step here most in
     let a : Inserts exact_ledger held k (fragment_of (arrived p n offset more)) (unfinished_of r (datagram_at hs i))
-    (machine_with r hs d rest) new =
+    (with_waiting r hs d rest) new =
     subst (λ (v : ChainView). Inserts exact_ledger held k
     (fragment_of (record { offset = offset; more = more; entries = v.entries })) (unfinished_of r (datagram_at hs i))
-    (machine_with r hs d rest) new) chain inserts in
-    let b' : Inserts exact_ledger held k (fragment_of (arrived p n offset more)) (begun k) (machine_with r hs d rest)
+    (with_waiting r hs d rest) new) chain inserts in
+    let b' : Inserts exact_ledger held k (fragment_of (arrived p n offset more)) (begun k) (with_waiting r hs d rest)
     new =
     subst (λ (u : Unfinished). Inserts exact_ledger held k (fragment_of (arrived p n offset more)) u
-    (machine_with r hs d rest) new) b.at a in
+    (with_waiting r hs d rest) new) b.at a in
     let c' : Inserts exact_ledger held k (fragment_of (arrived p n offset more)) (begun k)
-    (begin_unfinished k (machine_with q es d rest)) new =
+    (begin_unfinished k (with_waiting q es d rest)) new =
     subst (λ (us : List Unfinished). Inserts exact_ledger held k (fragment_of (arrived p n offset more)) (begun k)
     (record rest { unfinished = us; counters = d }) new) b.shows b' in
     record {
       answer = true;
-      mid = machine_with q es d rest;
+      mid = with_waiting q es d rest;
       has_buffers = af;
       goes_on = record { yes = λ e. c'; no = λ e. absurd (false≢true (sym e)) };
     }

@@ -21,8 +21,8 @@ use Rattle.ip_reass.specs.declared.arrival.Arrival.{Arrival}
 use Rattle.ip_reass.specs.declared.arrival.Arrival.TheVariants.{Kept, Whole, Dropped}
 
 -- the machine with these unfinished datagrams and counters, and the machine `rest` in all other fields
-abbrev pub machine_with : PoolView → List Datagram → Counters → State → State
-machine_with p ds c rest = record rest { unfinished = unfinished p ds; counters = c }
+abbrev pub with_waiting : PoolView → List Datagram → Counters → State → State
+with_waiting p ds c rest = record rest { unfinished = unfinished p ds; counters = c }
 
 -- what the flat machine reads of a header, and the key of its fragment
 abbrev pub flat_head : IpHead → Head
@@ -80,8 +80,8 @@ GoesOn held q (Dropped why) now new = new ≡ now
 pub record IsPulled (p : PoolView) (ds : List Datagram) (c : Counters) (w : Weight) (answer : Bool) (q : PoolView)
     (es : List Datagram) (d : Counters) (rest : State) (held : Weight) : Type 0 where
   pub mid : Counters
-  pub has_buffers : HasBuffers exact_ledger (machine_with p ds c rest) (held ⊕ w) (need_mbufs 1) answer
-      (machine_with q es mid rest)
+  pub has_buffers : HasBuffers exact_ledger (with_waiting p ds c rest) (held ⊕ w) (need_mbufs 1) answer
+      (with_waiting q es mid rest)
   pub counts : d ≡ (if answer then mid else counted NoBufs mid)
 
 -- ---- layouts

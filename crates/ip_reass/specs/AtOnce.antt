@@ -11,7 +11,7 @@ use Rattle.mbuf_chain.specs.Chain.{ChainView, PoolView, alone, references}
 use Rattle.ledger.specs.Accounts.{IsAccounted}
 use Rattle.ledger.specs.Reserve.{are_free}
 use Rattle.ip_out.specs.declared.head.IpHead.{IpHead}
-use Rattle.ip_reass.specs.Arrivals.{GoesOn, flat_head, key_in, machine_with}
+use Rattle.ip_reass.specs.Arrivals.{GoesOn, flat_head, key_in, with_waiting}
 use Rattle.ip_reass.specs.Layouts.{ChainArrives, HasCause, HasLayout, cause_of, fragment_carried, queues, under}
 use Rattle.ip_reass.specs.declared.arrival.Arrival.{Arrival}
 use Rattle.ip_reass.specs.declared.datagram.Datagram.{Datagram}
@@ -67,8 +67,8 @@ pub record ArrivesAtOnce (p : PoolView) (ds : List Datagram) (c : Counters) (pac
     (result : Arrival) (q : PoolView) (es : List Datagram) (d : Counters) : Type 0 where
   pub cluster : ℕ
   pub free : TakesFree p packet cluster
-  pub step : (rest : State) (held : Weight) (new : State) → IsAccounted p (machine_with p ds c rest) held
-      → GoesOn held q result (machine_with q es d rest) new
-      → ChainArrives held h (as_stored packet cluster) (machine_with p ds c rest) new
+  pub step : (rest : State) (held : Weight) (new : State) → IsAccounted p (with_waiting p ds c rest) held
+      → GoesOn held q result (with_waiting q es d rest) new
+      → ChainArrives held h (as_stored packet cluster) (with_waiting p ds c rest) new
   pub layout : HasLayout p ds (key_in h) (fragment_carried (as_stored packet cluster) h) result q es
   pub cause : HasCause (cause_of (as_stored packet cluster) h (under (key_in h) (queues q es))) result

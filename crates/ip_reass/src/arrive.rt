@@ -7,7 +7,7 @@ ghost use Rattle.flat_model.specs.Machine.Arrival.{Joins, is_bad_fragment};
 ghost use Rattle.mbuf_chain.specs.Chain.{chain_of, entry_of, string};
 ghost use Rattle.mbuf_chain.specs.Owners.{IsOwned, Moves};
 ghost use Rattle.ledger.specs.Accounts.{IsAccounted, weight_at, weight_owned};
-ghost use Rattle.ip_reass.specs.Arrivals.{GoesOn, HasWhole, IsPulled, flat_head, in_hand, key_in, machine_with, pulled_entries};
+ghost use Rattle.ip_reass.specs.Arrivals.{GoesOn, HasWhole, IsPulled, flat_head, in_hand, key_in, with_waiting, pulled_entries};
 ghost use Rattle.ip_reass.specs.Fragments.{fragment_of};
 ghost use Rattle.ip_reass.specs.Layouts.{ChainArrives, HasCause, HasLayout, WaitOrNone, cause_among, cause_of, fragment_carried, queues, under};
 ghost use Rattle.ip_reass.specs.Table.{IsReady, held_all};
@@ -96,11 +96,11 @@ impl Reass {
         requires some { 0 < length (string (chain_of pool.old chain)) }
         requires small { head.offset + length (string (chain_of pool.old chain)) ≤ IP_MAX_DATA }
         ensures step { (rest : State) (held : Weight) (new : State) →
-            IsAccounted pool.old (machine_with pool.old self.old.datagrams counters.old rest)
+            IsAccounted pool.old (with_waiting pool.old self.old.datagrams counters.old rest)
             (held ⊕ weight_at pool.old chain) →
-            GoesOn held pool.new result (machine_with pool.new self.new.datagrams counters.new rest) new →
+            GoesOn held pool.new result (with_waiting pool.new self.new.datagrams counters.new rest) new →
             Joins exact_ledger held (key_in head) (fragment_of (arrived pool.old chain head.offset head.more))
-            (machine_with pool.old self.old.datagrams counters.old rest) new }
+            (with_waiting pool.old self.old.datagrams counters.old rest) new }
         ensures whole { HasWhole pool.new head result }
         ensures layout { HasLayout pool.old self.old.datagrams (key_in head)
             (arrived pool.old chain head.offset head.more) result pool.new self.new.datagrams }
@@ -147,7 +147,7 @@ impl Reass {
             × (self.new ≡ self.old) × (counters.new ≡ counters.old) × (result ≡ Some chain) }
         ensures tested { is_some (entry_of (chain_of pool.old chain) 0).cluster ≡ true →
             (rest : State) (held : Weight) →
-            IsAccounted pool.old (machine_with pool.old self.old.datagrams counters.old rest)
+            IsAccounted pool.old (with_waiting pool.old self.old.datagrams counters.old rest)
             (held ⊕ weight_at pool.old chain) →
             IsPulled pool.old self.old.datagrams counters.old (weight_at pool.old chain) (is_some result) pool.new
             self.new.datagrams counters.new
@@ -201,15 +201,15 @@ impl Reass {
         requires header { IP_HEADER ≤ head.total }
         requires offset { head.offset ≤ IP_MAX_PACKET }
         ensures step { (rest : State) (held : Weight) (new : State) →
-            IsAccounted pool.old (machine_with pool.old self.old.datagrams counters.old rest)
+            IsAccounted pool.old (with_waiting pool.old self.old.datagrams counters.old rest)
             (held ⊕ weight_at pool.old chain) →
-            GoesOn held pool.new result (machine_with pool.new self.new.datagrams counters.new rest) new →
+            GoesOn held pool.new result (with_waiting pool.new self.new.datagrams counters.new rest) new →
             ChainArrives held head (chain_of pool.old chain)
-            (machine_with pool.old self.old.datagrams counters.old rest) new }
+            (with_waiting pool.old self.old.datagrams counters.old rest) new }
         ensures accounts { (rest : State) (held : Weight) →
-            IsAccounted pool.old (machine_with pool.old self.old.datagrams counters.old rest)
+            IsAccounted pool.old (with_waiting pool.old self.old.datagrams counters.old rest)
             (held ⊕ weight_at pool.old chain) →
-            IsAccounted pool.new (machine_with pool.new self.new.datagrams counters.new rest)
+            IsAccounted pool.new (with_waiting pool.new self.new.datagrams counters.new rest)
             (held ⊕ weight_owned pool.new (in_hand result)) }
         ensures whole { HasWhole pool.new head result }
         ensures layout { HasLayout pool.old self.old.datagrams (key_in head)

@@ -6,7 +6,7 @@ ghost use Rattle.mbuf_chain.specs.Chain.{alone, free_clusters, references};
 ghost use Rattle.mbuf_chain.specs.Owners.{Moves};
 ghost use Rattle.chain_ops.specs.Makes.{HasMbufs, Makes};
 ghost use Rattle.ledger.specs.Accounts.{IsAccounted, weight_owned};
-ghost use Rattle.ip_reass.specs.Arrivals.{HasWhole, carried_entries, in_hand, machine_with};
+ghost use Rattle.ip_reass.specs.Arrivals.{HasWhole, carried_entries, in_hand, with_waiting};
 ghost use Rattle.ip_reass.specs.AtOnce.{ArrivesAtOnce, TakesFree, as_stored, fits_at_once, in_cluster, in_mbufs, is_sound};
 ghost use Rattle.ip_reass.specs.Table.{IsReady, held_all};
 
@@ -131,8 +131,8 @@ impl Reass {
         ensures arrives { ArrivesAtOnce pool.old self.old.datagrams counters.old packet.now head result
             pool.new self.new.datagrams counters.new }
         ensures accounts { (rest : State) (held : Weight) →
-            IsAccounted pool.old (machine_with pool.old self.old.datagrams counters.old rest) held →
-            IsAccounted pool.new (machine_with pool.new self.new.datagrams counters.new rest)
+            IsAccounted pool.old (with_waiting pool.old self.old.datagrams counters.old rest) held →
+            IsAccounted pool.new (with_waiting pool.new self.new.datagrams counters.new rest)
             (held ⊕ weight_owned pool.new (in_hand result)) }
         ensures whole { HasWhole pool.new head result }
         ensures ready { IsReady pool.new self.new }

@@ -7,7 +7,7 @@ ghost use Rattle.flat_model.specs.Machine.Arrival.{Inserts};
 ghost use Rattle.flat_model.specs.declared.counters.Why.TheVariants.{FragmentDropped};
 ghost use Rattle.mbuf_chain.specs.Chain.{chain_of, string};
 ghost use Rattle.mbuf_chain.specs.Owners.{IsOwned, Moves};
-ghost use Rattle.ip_reass.specs.Arrivals.{GoesOn, HasWhole, in_hand, key_in, machine_with};
+ghost use Rattle.ip_reass.specs.Arrivals.{GoesOn, HasWhole, in_hand, key_in, with_waiting};
 ghost use Rattle.ip_reass.specs.Fragments.{fragment_of, fragments, map_of};
 ghost use Rattle.ip_reass.specs.Layouts.{HasCause, LeavesAt, queues};
 ghost use Rattle.ip_reass.specs.Table.{IsTable, held_all, unfinished, unfinished_of};
@@ -121,11 +121,11 @@ pub(crate) fn insert_and_count(
     ensures step { (rest : State) (held : Weight) (new : State) →
         is_key (key_in fragment.head) (unfinished_of pool.old (datagram_at table.old.items i)) ≡ true →
         count_by (is_key (key_in fragment.head)) (unfinished pool.old table.old.items) ≤ 1 →
-        GoesOn held pool.new result (machine_with pool.new table.new.items counters.new rest) new →
+        GoesOn held pool.new result (with_waiting pool.new table.new.items counters.new rest) new →
         Inserts exact_ledger held (key_in fragment.head)
         (fragment_of (arrived pool.old fragment.chain fragment.head.offset fragment.head.more))
         (unfinished_of pool.old (datagram_at table.old.items i))
-        (machine_with pool.old table.old.items counters.old rest) new }
+        (with_waiting pool.old table.old.items counters.old rest) new }
     ensures whole { HasWhole pool.new fragment.head result }
     ensures layout { LeavesAt i (arrived pool.old fragment.chain fragment.head.offset fragment.head.more)
         (queues pool.old table.old.items)

@@ -8,7 +8,7 @@ ghost use Rattle.flat_model.specs.declared.counters.Counters.{Counters};
 ghost use Rattle.mbuf_chain.specs.Chain.{PoolView};
 ghost use Rattle.mbuf_chain.specs.Owners.{Moves};
 ghost use Rattle.mbuf_chain.specs.Frames.{SameAt};
-ghost use Rattle.ip_reass.specs.Arrivals.{machine_with};
+ghost use Rattle.ip_reass.specs.Arrivals.{with_waiting};
 ghost use Rattle.ip_reass.specs.Inside.Index.{buckets_of};
 ghost use Rattle.ip_reass.specs.Table.{aged, unfinished, has_key, new_datagram, holds, held_all, AllUnfinished, IsTable, IsReady};
 
@@ -99,8 +99,8 @@ impl Reass {
     /// have none left are freed with all their mbufs. Returns how many were freed.
     pub fn tick(&mut self, pool: &mut Pool) -> u32
         requires { IsReady pool.old self.old }
-        ensures step { (rest : State) (c : Counters) → ticked (machine_with pool.old self.old.datagrams c rest)
-            ≡ machine_with pool.new self.new.datagrams (counts_more IpFragtimeout result c) rest }
+        ensures step { (rest : State) (c : Counters) → ticked (with_waiting pool.old self.old.datagrams c rest)
+            ≡ with_waiting pool.new self.new.datagrams (counts_more IpFragtimeout result c) rest }
         ensures aged { self.new.datagrams ≡ aged self.old.datagrams }
         ensures gone { result + length (aged self.old.datagrams) ≡ length self.old.datagrams }
         ensures ready { IsReady pool.new self.new }

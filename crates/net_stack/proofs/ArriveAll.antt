@@ -20,10 +20,10 @@ use Rattle.ip_out.specs.Packets.{train_packets, AreBegunPlain, BeginPlain}
 use Rattle.ip_out.proofs.Laws.{none_wait}
 use Rattle.ip_reass.specs.Table.{TableView, IsReady, held_all, unfinished}
 use Rattle.sock_calls.specs.Sockets.{SocksView, IsSocks, queued_chains, with_net}
-use Rattle.sock_calls.specs.Delivery.{NetView, IsAccountedAt, KeepsParts, held_with, state_at}
+use Rattle.sock_calls.specs.Delivery.{NetView, IsAccountedAt, KeepsParts, held_with, net_state}
 use Rattle.net_stack.specs.Inside.Arrivals.{IsArrived, AreArriving, HaveArrived}
 use Rattle.net_stack.proofs.PartSteps.{output_weighs}
-use Rattle.net_stack.proofs.Aside.{Aside, aside, as_held, as_owned, net_seen}
+use Rattle.net_stack.proofs.Aside.{Aside, aside, as_held, as_owned, host_view}
 
 -- the first packet of a train, after it was removed
 record IsFirst (p : PoolView) (t : TrainView) (q : PoolView) (c : ℕ) (u : TrainView) : Type 0 where
@@ -97,7 +97,7 @@ is_later p q c u xs ys owned held plain m =
 
 pub record IsOneMore (v : NetView) (t : TrainView) (q : PoolView) (s : SocksView) (ds : TableView) (b : Counters)
     (u : TrainView) : Type 0 where
-  pub way : AreArriving v t (net_seen q s ds b) u
+  pub way : AreArriving v t (host_view q s ds b) u
   pub held : IsHeld q u
   pub plain : BeginPlain q u
   pub owned : IsOwned q (numbers q u ++ (held_all q ds.datagrams ++ queued_chains q s.queues))
@@ -116,12 +116,12 @@ one_owned {q = q} {s = s} {ds = ds} {c = c} t u a =
 
 pub one_more : {v : NetView} {t u u1 : TrainView} {q q1 q2 : PoolView} {s s2 : SocksView} {ds ds2 : TableView}
     {a b : Counters} {c : ℕ} (tag : ℕ)
-    → AreArriving v t (net_seen q s ds a) u → IsHeld q u → BeginPlain q u
+    → AreArriving v t (host_view q s ds a) u → IsHeld q u → BeginPlain q u
     → IsOwned q (numbers q u ++ (held_all q ds.datagrams ++ queued_chains q s.queues)) → IsReady q ds
     → 0 < u.len → queued_packets q1 u1 ≡ remove (queued_packets q u) 0
     → queued_packet_at q u 0 ≡ record { number = c; entries = (chain_of q1 c).entries; tag = tag } → IsHeld q1 u1
     → Moves q (numbers q u) q1 (c ∷ numbers q1 u1)
-    → IsArrived (net_seen q1 s ds a) c (net_seen q2 s2 ds2 b)
+    → IsArrived (host_view q1 s ds a) c (host_view q2 s2 ds2 b)
     → IsOneMore v t q2 s2 ds2 b u1
 one_more {v} {t} {u} {u1} {q} {q1} {q2} {s} {s2} {ds} {ds2} {a} {b} {c} tag w held plain owned table some
     is_queued_packets is_queued_packet held1 m arrived =
@@ -183,8 +183,8 @@ one_more {v} {t} {u} {u1} {q} {q1} {q2} {s} {s2} {ds} {ds2} {a} {b} {c} tag w he
 pub all_arrived : (v : NetView) (t : TrainView) (w : NetView) (u : TrainView) → AreArriving v t w u → u.len ≡ 0
     → HaveArrived v t w
 all_arrived v t w u way none = record {
-  step = λ rest acc. way.goes rest (state_at w rest) acc
-      (subst (λ (items : List Item). AllArrive exact_ledger items (state_at w rest) (state_at w rest))
+  step = λ rest acc. way.goes rest (net_state w rest) acc
+      (subst (λ (items : List Item). AllArrive exact_ledger items (net_state w rest) (net_state w rest))
       (sym (none_wait w.pool u none)) refl);
   parts = subst (λ (left : List ℕ). KeepsParts v (numbers v.pool t) w left) (none_left w.pool u none) way.parts;
 }

@@ -31,10 +31,10 @@ use Rattle.ip_reass.specs.Table.{TableView, IsReady, held_all, unfinished}
 use Rattle.ip_reass.specs.Arrivals.{CameBy, carried_at, flat_head}
 use Rattle.ip_reass.specs.Arrivals as reass
 use Rattle.sock_calls.specs.Sockets.{SocksView, IsSocks, queued_chains, with_sockets, with_net}
-use Rattle.sock_calls.specs.Delivery.{NetView, state_at, KeepsParts, IsInput}
+use Rattle.sock_calls.specs.Delivery.{NetView, net_state, KeepsParts, IsInput}
 use Rattle.sock_calls.proofs.Laws.{keeps_trans, only_weighs, without_weighs}
 use Rattle.net_stack.specs.Inside.Arrivals.{is_ours_or_all, IsFragmentTaken, IsArrived}
-use Rattle.net_stack.proofs.Aside.{Aside, aside, aside_keeps, as_held, net_seen, BesideSocks, beside_socks}
+use Rattle.net_stack.proofs.Aside.{Aside, aside, aside_keeps, as_held, host_view, BesideSocks, beside_socks}
 
 -- ---- a chain with other entries
 
@@ -72,24 +72,24 @@ freed {p} {q} {ds} {s} c owned table socks e = aside (c ∷ []) [] owned table s
 pub record Arrived (p : PoolView) (ds : TableView) (a : Counters) (c : ℕ) (h : IpHead) (q : PoolView) (es : TableView)
     (b : Counters) (hand : List ℕ) (Then : Weight → State → State → Type 0) : Type 0 where
   pub step : (rest : State) (held : Weight) (origin : Origin) (new : State) → CameBy origin (chain_of p c)
-      → IsAccounted p (reass.machine_with p ds.datagrams a rest) (held ⊕ weight_at p c)
-      → Then held (reass.machine_with q es.datagrams b rest) new
+      → IsAccounted p (reass.with_waiting p ds.datagrams a rest) (held ⊕ weight_at p c)
+      → Then held (reass.with_waiting q es.datagrams b rest) new
       → FragmentArrives exact_ledger origin held (flat_head h) (carried_at p c)
-      (reass.machine_with p ds.datagrams a rest) new
-  pub accounts : (rest : State) (held : Weight) → IsAccounted p (reass.machine_with p ds.datagrams a rest)
-      (held ⊕ weight_at p c) → IsAccounted q (reass.machine_with q es.datagrams b rest) (held ⊕ weight_owned q hand)
+      (reass.with_waiting p ds.datagrams a rest) new
+  pub accounts : (rest : State) (held : Weight) → IsAccounted p (reass.with_waiting p ds.datagrams a rest)
+      (held ⊕ weight_at p c) → IsAccounted q (reass.with_waiting q es.datagrams b rest) (held ⊕ weight_owned q hand)
   pub moves : Moves p (c ∷ held_all p ds.datagrams) q (hand ++ held_all q es.datagrams)
 
 -- its datagram is still incomplete, or the fragment was dropped
 pub waits : {p q : PoolView} {ds es : TableView} {s : SocksView} {a b : Counters} {c : ℕ} {h : IpHead}
     → IsOwned p (c ∷ (held_all p ds.datagrams ++ queued_chains p s.queues)) → IsSocks p s
     → Arrived p ds a c h q es b [] (λ held now new. new ≡ now)
-    → IsFragmentTaken (net_seen p s ds a) c h (net_seen q s es b)
+    → IsFragmentTaken (host_view p s ds a) c h (host_view q s es b)
 waits {p} {q} {ds} {es} {s} {a} {b} {c} {h} owned socks is =
     let beside : BesideSocks p s (c ∷ held_all p ds.datagrams) q [] (held_all q es.datagrams) =
     beside_socks (c ∷ held_all p ds.datagrams) [] (held_all q es.datagrams) owned socks is.moves in
     let now : (rest : State) → with_net q s (unfinished q es.datagrams) b rest
-    ≡ reass.machine_with q es.datagrams b (with_sockets p s rest) =
+    ≡ reass.with_waiting q es.datagrams b (with_sockets p s rest) =
     λ rest i. machine (record rest { unfinished = unfinished q es.datagrams; counters = b })
     (λ fd. beside.socks.shows fd i) s.pcbs in
     record {
@@ -109,13 +109,13 @@ pub completes : {p q : PoolView} {ds es : TableView} {s : SocksView} {a b : Coun
     {u : NetView} (g : IpHead) → IsOwned p (c ∷ (held_all p ds.datagrams ++ queued_chains p s.queues)) → IsSocks p s
     → Arrived p ds a c h q es b (d ∷ []) (λ held now new. WholeArrives exact_ledger held g.src g.dst g.proto
     (item_at q d) now new)
-    → IsInput (net_seen q s es b) d g.src g.dst g.proto u
-    → IsFragmentTaken (net_seen p s ds a) c h u
+    → IsInput (host_view q s es b) d g.src g.dst g.proto u
+    → IsFragmentTaken (host_view p s ds a) c h u
 completes {p} {q} {ds} {es} {s} {a} {b} {c} {d} {h} {u} g owned socks is input =
     let beside : BesideSocks p s (c ∷ held_all p ds.datagrams) q (d ∷ []) (held_all q es.datagrams) =
     beside_socks (c ∷ held_all p ds.datagrams) (d ∷ []) (held_all q es.datagrams) owned socks is.moves in
     let now : (rest : State) → with_net q s (unfinished q es.datagrams) b rest
-    ≡ reass.machine_with q es.datagrams b (with_sockets p s rest) =
+    ≡ reass.with_waiting q es.datagrams b (with_sockets p s rest) =
     λ rest i. machine (record rest { unfinished = unfinished q es.datagrams; counters = b })
     (λ fd. beside.socks.shows fd i) s.pcbs in
     let mid : (rest : State) (held : Weight) → IsAccounted p (with_net p s (unfinished p ds.datagrams) a rest)
@@ -125,8 +125,8 @@ completes {p} {q} {ds} {es} {s} {a} {b} {c} {d} {h} {u} g owned socks is input =
     (sym (now rest)) (is.accounts (with_sockets p s rest) held acc)) in
     record {
       step = λ rest held origin came acc.
-          is.step (with_sockets p s rest) held origin (state_at u rest) came acc
-          (subst (λ (t : State). WholeArrives exact_ledger held g.src g.dst g.proto (item_at q d) t (state_at u rest))
+          is.step (with_sockets p s rest) held origin (net_state u rest) came acc
+          (subst (λ (t : State). WholeArrives exact_ledger held g.src g.dst g.proto (item_at q d) t (net_state u rest))
           (now rest) (input.step rest held (mid rest held acc)));
       parts = record {
         accounts = λ rest held acc. input.parts.accounts rest held (mid rest held acc);
@@ -177,7 +177,7 @@ pub ends_here : {p q : PoolView} {ds : TableView} {s : SocksView} {a b e : Count
     → ((rest : State) (held : Weight) (origin : Origin)
     → Arrives exact_ledger origin held (item_at p c) (with_net p s (unfinished p ds.datagrams) a rest)
     (ends why (counts_packet (with_net p s (unfinished p ds.datagrams) a rest))))
-    → IsArrived (net_seen p s ds a) c (net_seen q s ds e)
+    → IsArrived (host_view p s ds a) c (host_view q s ds e)
 ends_here {p} {q} {ds} {s} {a} {b} {e} {c} why table socks owned gone is_b is_e ended =
     let beside : Aside p ds s (c ∷ []) q [] = freed c owned table socks gone in
     let count : e ≡ counted why (counts_more IpTotal 1 a) = is_e ∙ ap (counted why) is_b in
@@ -329,13 +329,13 @@ ours_pass {p} {q} {ds} {s} {a} {b} {c} {h} is rest held origin new part all =
 
 pub fragment_arrives : {p q : PoolView} {ds : TableView} {s : SocksView} {a b : Counters} {c : ℕ} {h : IpHead}
     {u : NetView} → IsForUs p ds s a c h q b → is_fragment (flat_head h) ≡ true
-    → IsFragmentTaken (net_seen q s ds b) c h u → IsArrived (net_seen p s ds a) c u
+    → IsFragmentTaken (host_view q s ds b) c h u → IsArrived (host_view p s ds a) c u
 fragment_arrives {p} {q} {ds} {s} {a} {b} {c} {h} {u} is part taken = record {
-  step = λ rest held origin came acc. ours_pass is rest held origin (state_at u rest)
+  step = λ rest held origin came acc. ours_pass is rest held origin (net_state u rest)
       (λ e. subst (λ (x : Item). FragmentArrives exact_ledger origin held (flat_head h) x
-      (counts_packet (with_net p s (unfinished p ds.datagrams) a rest)) (state_at u rest)) (carried_cut is)
+      (counts_packet (with_net p s (unfinished p ds.datagrams) a rest)) (net_state u rest)) (carried_cut is)
       (subst (λ (t : State). FragmentArrives exact_ledger origin held (flat_head h) (carried_at q c) t
-      (state_at u rest)) (counted_now is rest)
+      (net_state u rest)) (counted_now is rest)
       (taken.step rest held origin (came_cut origin h.total (chain_of p c) (chain_of q c) is.cut.entries came)
       (is.cut.beside.accounts a b rest held acc))))
       (λ e. absurd (true≢false (sym part ∙ e)));
@@ -345,22 +345,22 @@ fragment_arrives {p} {q} {ds} {s} {a} {b} {c} {h} {u} is part taken = record {
 pub whole_arrives : {p q r : PoolView} {ds : TableView} {s : SocksView} {a b : Counters} {c : ℕ} {h : IpHead}
     {u : NetView} → IsForUs p ds s a c h q b → is_fragment (flat_head h) ≡ false
     → IsChanged q ds s c r (without_first 20 (chain_of q c).entries)
-    → IsInput (net_seen r s ds b) c h.src h.dst h.proto u
-    → IsArrived (net_seen p s ds a) c u
+    → IsInput (host_view r s ds b) c h.src h.dst h.proto u
+    → IsArrived (host_view p s ds a) c u
 whole_arrives {p} {q} {r} {ds} {s} {a} {b} {c} {h} {u} is all off input =
     let item : item_at r c ≡ carried (item_at p c) =
     (λ i. record {
       bytes = (ap flat_bytes off.entries ∙ without_first_bytes 20 (chain_of q c).entries) i;
       weight = (ap entries_weight off.entries ∙ without_weighs 20 (chain_of q c).entries) i;
     }) ∙ carried_cut is in
-    let cut : KeepsParts (net_seen p s ds a) (c ∷ []) (net_seen r s ds b) (c ∷ []) =
+    let cut : KeepsParts (host_view p s ds a) (c ∷ []) (host_view r s ds b) (c ∷ []) =
     keeps_trans (aside_keeps a b is.cut.beside) (aside_keeps b b off.beside) in
     record {
-      step = λ rest held origin came acc. ours_pass is rest held origin (state_at u rest)
+      step = λ rest held origin came acc. ours_pass is rest held origin (net_state u rest)
           (λ e. absurd (true≢false (sym e ∙ all)))
           (λ e. subst (λ (x : Item). WholeArrives exact_ledger held h.src h.dst h.proto x
-          (counts_packet (with_net p s (unfinished p ds.datagrams) a rest)) (state_at u rest)) item
-          (subst (λ (t : State). WholeArrives exact_ledger held h.src h.dst h.proto (item_at r c) t (state_at u rest))
+          (counts_packet (with_net p s (unfinished p ds.datagrams) a rest)) (net_state u rest)) item
+          (subst (λ (t : State). WholeArrives exact_ledger held h.src h.dst h.proto (item_at r c) t (net_state u rest))
           (off.beside.shows b rest ∙ counted_now is rest)
           (input.step rest held (cut.accounts rest held acc))));
       parts = keeps_trans cut input.parts;

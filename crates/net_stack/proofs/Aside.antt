@@ -14,13 +14,13 @@ use Rattle.ledger.proofs.Laws.{accounted_after}
 use Rattle.pcb_table.specs.Table.{machine}
 use Rattle.ip_reass.specs.Table.{TableView, IsReady, held_all, unfinished}
 use Rattle.sock_calls.specs.Sockets.{SocksView, IsSocks, queued_chains, with_net}
-use Rattle.sock_calls.specs.Delivery.{NetView, KeepsParts, held_with, seen}
+use Rattle.sock_calls.specs.Delivery.{NetView, KeepsParts, held_with, net_view}
 use Rattle.sock_calls.proofs.Laws.{Kept, kept}
 use Rattle.net_stack.proofs.PartSteps.{ReassKept, reass_kept}
 
 -- the parts that an arrival reads and changes
-abbrev pub net_seen : PoolView → SocksView → TableView → Counters → NetView
-net_seen p s r c = seen p s (unfinished p r.datagrams) (held_all p r.datagrams) c
+abbrev pub host_view : PoolView → SocksView → TableView → Counters → NetView
+host_view p s r c = net_view p s (unfinished p r.datagrams) (held_all p r.datagrams) c
 
 -- `held_with` adds the weights of all the chains to `held`
 hand_weighs : (p : PoolView) (held : Weight) (xs : List ℕ) → held_with p held xs ≡ held ⊕ weight_owned p xs
@@ -114,7 +114,7 @@ aside {p} {q} {ds} {s} ins outs owned table socks m =
 
 -- the sockets and the accounts are kept, whatever was counted
 pub aside_keeps : {p q : PoolView} {ds : TableView} {s : SocksView} {ins outs : List ℕ} (a b : Counters)
-    → Aside p ds s ins q outs → KeepsParts (net_seen p s ds a) ins (net_seen q s ds b) outs
+    → Aside p ds s ins q outs → KeepsParts (host_view p s ds a) ins (host_view q s ds b) outs
 aside_keeps a b x = record { accounts = x.accounts a b; ready = x.socks.ready; pcbs = refl; moves = x.moves }
 
 -- ---- the sockets stay the same in a step on the unfinished datagrams and the caller's chains

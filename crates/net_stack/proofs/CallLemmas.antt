@@ -16,7 +16,7 @@ use Rattle.mbuf_chain.specs.Owners.{Moves}
 use Rattle.mbuf_chain.specs.Train.{TrainView}
 use Rattle.mbuf_chain.proofs.Laws.Owners.{moves_none}
 use Rattle.ip_out.specs.Packets.{train_packets}
-use Rattle.ip_reass.specs.Arrivals.{machine_with}
+use Rattle.ip_reass.specs.Arrivals.{with_waiting}
 use Rattle.ip_reass.specs.Table.{TableView, IsReady, held_all}
 use Rattle.sock_calls.specs.Sockets.{SocksView, IsSocks, IsCalled, queued_chains, with_sockets}
 use Rattle.net_stack.specs.Stack.{StackView, state_of}
@@ -111,8 +111,8 @@ output_called s v q u reply is e g =
 
 pub reass_called : (s : Fields) (v : StackView) (q : PoolView) (r : TableView) (n : ℕ) (d : Counters) → IsStackInside s
     → stack_of s ≡ v
-    → ((rest : State) (c : Counters) → ticked (machine_with s.host.pool s.host.reass.datagrams c rest)
-    ≡ machine_with q r.datagrams (counts_more IpFragtimeout n c) rest)
+    → ((rest : State) (c : Counters) → ticked (with_waiting s.host.pool s.host.reass.datagrams c rest)
+    ≡ with_waiting q r.datagrams (counts_more IpFragtimeout n c) rest)
     → IsReady q r → Moves s.host.pool (held_all s.host.pool s.host.reass.datagrams) q (held_all q r.datagrams)
     → d ≡ counts_more IpFragtimeout n s.host.net.counters
     → Called v Tick Done (with_reass s q r d)
@@ -120,6 +120,6 @@ reass_called s v q r n d is e step ready m counts =
     called s (with_reass s q r d) v Tick Done is e refl refl refl
     (reass_step (stack_of s) q r d Tick Done is.stack tt ready m (
       refl,
-      ap (λ (c : Counters). machine_with q r.datagrams c (state_of (stack_of s))) counts
+      ap (λ (c : Counters). with_waiting q r.datagrams c (state_of (stack_of s))) counts
           ∙ sym (step (state_of (stack_of s)) s.host.net.counters),
     ))

@@ -27,11 +27,11 @@ use Rattle.ledger.proofs.Laws.{some_free, test_is}
 use Rattle.ip_out.specs.Headed.{carried_of}
 use Rattle.ip_reass.specs.Table.{TableView, IsReady, held_all, unfinished}
 use Rattle.sock_calls.specs.Sockets.{SocksView, IsSocks, queued_chains, with_net, with_sockets}
-use Rattle.sock_calls.specs.Delivery.{NetView, state_at}
+use Rattle.sock_calls.specs.Delivery.{NetView, net_state}
 use Rattle.sock_calls.specs.Whole.{ArrivesWhole, DeliversWhole, EndsWhole, HasOne, StoresWhole, carried_item}
 use Rattle.sock_calls.proofs.Laws.{keeps_trans}
 use Rattle.net_stack.specs.Inside.Arrivals.{EndsFor, HasCome, IsAsked}
-use Rattle.net_stack.proofs.Aside.{Aside, aside, aside_keeps, counters_accounts, net_seen}
+use Rattle.net_stack.proofs.Aside.{Aside, aside, aside_keeps, counters_accounts, host_view}
 use Rattle.net_stack.proofs.ArriveLemmas.{passes}
 use Rattle.net_stack.proofs.ReceiveLemmas.{asked_keeps, asked_socks}
 use Rattle.net_stack.proofs.PartSteps.{ReassKept, reass_kept}
@@ -82,7 +82,7 @@ asked_now p r a n has = record {
 pub again : {p q : PoolView} {s : SocksView} {r t : TableView} {a b : Counters} {packet : List ℕ} {u : NetView}
     → IsSocks p s → IsOwned p (held_all p r.datagrams ++ queued_chains p s.queues)
     → IsAsked p r a (need_of (wire (length packet))) true q t b → Has q (wire (length packet))
-    → HasCome (net_seen q s t b) packet u → HasCome (net_seen p s r a) packet u
+    → HasCome (host_view q s t b) packet u → HasCome (host_view p s r a) packet u
 again {p} {q} {s} {r} {t} {a} {b} {packet} {u} socks owned is has came =
     let beside = asked_socks socks owned is in
     let old : State → State = λ rest. with_net p s (unfinished p r.datagrams) a rest in
@@ -95,7 +95,7 @@ again {p} {q} {s} {r} {t} {a} {b} {packet} {u} socks owned is has came =
       step = λ rest acc.
           let acc2 = keeps.accounts rest nothing acc in
           let one = came.step rest acc2 in
-          let there : has_enough (state_at (net_seen q s t b) rest) nothing (need_of (wire (length packet))) ≡ true =
+          let there : has_enough (net_state (host_view q s t b) rest) nothing (need_of (wire (length packet))) ≡ true =
           enough (length packet) acc2 has in (
             true,
             mid rest,
@@ -105,8 +105,8 @@ again {p} {q} {s} {r} {t} {a} {b} {packet} {u} socks owned is has came =
                   × AreTaken exact_ledger m (need_of (wire (length packet))).clusters clusters
                   × Arrives exact_ledger (By_wire (length packet)) nothing
                   (record { bytes = packet; weight = flat.weight_of (entries_on clusters (wire (length packet))) }) m
-                  (state_at u rest)) (now rest)
-                  (goes (state_at (net_seen q s t b) rest) (state_at u rest) packet there one);
+                  (net_state u rest)) (now rest)
+                  (goes (net_state (host_view q s t b) rest) (net_state u rest) packet there one);
               no = λ e. absurd (true≢false e);
             },
           );
@@ -145,8 +145,8 @@ comes_in packet acc has then = (
 -- the packet was dropped
 pub ended : {p : PoolView} {s : SocksView} {r : TableView} {a b c : Counters} (packet : List ℕ) (why : Why)
     → IsSocks p s → IsReady p r → IsOwned p (held_all p r.datagrams ++ queued_chains p s.queues)
-    → Has p (wire (length packet)) → EndsFor (net_seen p s r a) packet why → b ≡ counts_more IpTotal 1 a
-    → c ≡ counted why b → HasCome (net_seen p s r a) packet (net_seen p s r c)
+    → Has p (wire (length packet)) → EndsFor (host_view p s r a) packet why → b ≡ counts_more IpTotal 1 a
+    → c ≡ counted why b → HasCome (host_view p s r a) packet (host_view p s r c)
 ended {p} {s} {r} {a} {b} {c} packet why socks ready owned has is is_b is_c =
     let count : c ≡ counted why (counts_more IpTotal 1 a) = is_c ∙ ap (counted why) is_b in
     let keeps : Aside p r s [] p [] = aside [] [] owned ready socks (moves_none p []) in
@@ -167,12 +167,12 @@ ended {p} {s} {r} {a} {b} {c} packet why socks ready owned has is is_b is_c =
 
 -- a packet for this machine that is no fragment
 pub whole_passes : (v : NetView) (packet : List ℕ) (rest new : State) (w : Weight) → head_fault packet ≡ None
-    → is_for_us (state_at v rest).config (head_of packet).destination ≡ true → is_fragment (head_of packet) ≡ false
-    → ArrivesWhole packet (record { bytes = carried_of packet; weight = w }) (counts_packet (state_at v rest)) new
-    → Arrives exact_ledger (By_wire (length packet)) nothing (record { bytes = packet; weight = w }) (state_at v rest)
+    → is_for_us (net_state v rest).config (head_of packet).destination ≡ true → is_fragment (head_of packet) ≡ false
+    → ArrivesWhole packet (record { bytes = carried_of packet; weight = w }) (counts_packet (net_state v rest)) new
+    → Arrives exact_ledger (By_wire (length packet)) nothing (record { bytes = packet; weight = w }) (net_state v rest)
     new
 whole_passes v packet rest new w none ours whole arrives =
-    passes packet (By_wire (length packet)) nothing w (state_at v rest) new none (record {
+    passes packet (By_wire (length packet)) nothing w (net_state v rest) new none (record {
       yes = λ _. record { yes = λ e. absurd (true≢false (sym e ∙ whole)); no = λ _. arrives };
       no = λ e. absurd (true≢false (sym ours ∙ e));
     })
@@ -181,9 +181,9 @@ pub whole_ends : (p : PoolView) (s : SocksView) (r : TableView) (a : Counters) (
     → head_fault packet ≡ None
     → ((rest : State) → is_for_us (with_net p s (unfinished p r.datagrams) a rest).config (head_of packet).destination
     ≡ true)
-    → is_fragment (head_of packet) ≡ false → EndsWhole p s packet why → EndsFor (net_seen p s r a) packet why
+    → is_fragment (head_of packet) ≡ false → EndsWhole p s packet why → EndsFor (host_view p s r a) packet why
 whole_ends p s r a packet why none ours whole is = λ rest w.
-    whole_passes (net_seen p s r a) packet rest
+    whole_passes (host_view p s r a) packet rest
     (ends why (counts_packet (with_net p s (unfinished p r.datagrams) a rest)))
     w none (ours rest) whole
     (is (record rest { unfinished = unfinished p r.datagrams; counters = counts_more IpTotal 1 a }) w)
@@ -209,7 +209,7 @@ module _ {p q : PoolView} {s t : SocksView} {r : TableView} {packet : List ℕ}
       → head_fault packet ≡ None
       → ((rest : State) → is_for_us (with_net p s (unfinished p r.datagrams) a rest).config
       (head_of packet).destination ≡ true)
-      → is_fragment (head_of packet) ≡ false → HasCome (net_seen p s r a) packet (net_seen q t r b)
+      → is_fragment (head_of packet) ≡ false → HasCome (host_view p s r a) packet (host_view q t r b)
   came_whole a b is_b has none ours whole = record {
     step = λ rest acc.
         let held : State = record rest { unfinished = unfinished p r.datagrams; counters = counts_more IpTotal 1 a } in
@@ -229,7 +229,7 @@ module _ {p q : PoolView} {s t : SocksView} {r : TableView} {packet : List ℕ}
           subst (λ (new : State). Arrives exact_ledger (By_wire (length packet)) nothing
               (record { bytes = packet; weight = flat.weight_of (entries_on done.0 (wire (length packet))) })
               (with_net p s (unfinished p r.datagrams) a rest) new) (sym now)
-              (whole_passes (net_seen p s r a) packet rest (with_sockets q t held)
+              (whole_passes (host_view p s r a) packet rest (with_sockets q t held)
               (flat.weight_of (entries_on done.0 (wire (length packet)))) none (ours rest) whole done.2),
         );
     parts = record {
@@ -256,8 +256,8 @@ pub came_delivered : (p : PoolView) (s : SocksView) (r : TableView) (a : Counter
     → b ≡ counts_more IpTotal 1 a → Has p (wire (length packet)) → head_fault packet ≡ None
     → ((rest : State) → is_for_us (with_net p s (unfinished p r.datagrams) a rest).config (head_of packet).destination
     ≡ true)
-    → is_fragment (head_of packet) ≡ false → DeliversWhole (net_seen p s r b) packet u
-    → HasCome (net_seen p s r a) packet u
+    → is_fragment (head_of packet) ≡ false → DeliversWhole (host_view p s r b) packet u
+    → HasCome (host_view p s r a) packet u
 came_delivered p s r a {b} {packet} {u} is_b has none ours whole is = record {
   step = λ rest acc.
       let old : State = with_net p s (unfinished p r.datagrams) a rest in
@@ -273,9 +273,9 @@ came_delivered p s r a {b} {packet} {u} is_b has none ours whole is = record {
               (free_as counts old refl (λ c. refl) done.0
               (recursion_from_All (IsFree counts nothing) done.0 done.1.free));
         },
-        whole_passes (net_seen p s r a) packet rest (state_at u rest)
+        whole_passes (host_view p s r a) packet rest (net_state u rest)
             (flat.weight_of (entries_on done.0 (wire (length packet)))) none (ours rest) whole
-            (subst (λ (m : State). ArrivesWhole packet (carried_item done.0 packet) m (state_at u rest)) same done.2),
+            (subst (λ (m : State). ArrivesWhole packet (carried_item done.0 packet) m (net_state u rest)) same done.2),
       );
   parts = record {
     accounts = λ rest held acc. is.parts.accounts rest held (counters_accounts b acc);

@@ -25,9 +25,9 @@ use Rattle.ip_reass.specs.Arrivals.{CameByWire}
 use Rattle.ip_reass.specs.Table.{TableView, IsReady, held_all, unfinished}
 use Rattle.sock_calls.proofs.Laws.{keeps_trans, placed_weight, bag_of_times, free_each}
 use Rattle.sock_calls.specs.Sockets.{SocksView, IsSocks, queued_chains, with_net}
-use Rattle.sock_calls.specs.Delivery.{NetView, KeepsParts, state_at}
+use Rattle.sock_calls.specs.Delivery.{NetView, KeepsParts, net_state}
 use Rattle.net_stack.specs.Inside.Arrivals.{HasCome, IsArrived, IsAsked, IsPacketStored}
-use Rattle.net_stack.proofs.Aside.{Aside, aside, aside_keeps, counters_accounts, net_seen, BesideSocks, beside_socks}
+use Rattle.net_stack.proofs.Aside.{Aside, aside, aside_keeps, counters_accounts, host_view, BesideSocks, beside_socks}
 
 -- ---- the first mbuf shows how the packet came
 
@@ -86,7 +86,7 @@ asked_socks {p} {q} {s} {r} {t} socks owned is =
 -- and it keeps all parts, whatever was counted
 pub asked_keeps : {p q : PoolView} {s : SocksView} {r t : TableView} {a b : Counters} {need : Need} {answer : Bool}
     (d : Counters) → IsSocks p s → IsOwned p (held_all p r.datagrams ++ queued_chains p s.queues)
-    → IsAsked p r a need answer q t b → KeepsParts (net_seen p s r a) [] (net_seen q s t d) []
+    → IsAsked p r a need answer q t b → KeepsParts (host_view p s r a) [] (host_view q s t d) []
 asked_keeps {p} {q} {s} {r} {t} {a} {b} d socks owned is =
     let beside = asked_socks socks owned is in
     let now : (rest : State) → with_net q s (unfinished q t.datagrams) d rest
@@ -106,7 +106,7 @@ pub lost : {p q : PoolView} {s : SocksView} {r t : TableView} {a b d : Counters}
     (packet : List ℕ) → IsSocks p s → IsOwned p (held_all p r.datagrams ++ queued_chains p s.queues)
     → IsAsked p r a need answer q t b
     → need ≡ need_of (wire (length packet)) → answer ≡ false → d ≡ counted NoBufs b
-    → HasCome (net_seen p s r a) packet (net_seen q s t d)
+    → HasCome (host_view p s r a) packet (host_view q s t d)
 lost {p} {q} {s} {r} {t} {a} {b} {d} {need} {answer} packet socks owned is is_need no_answer is_d =
     let beside = asked_socks socks owned is in
     let mid : State → State = λ rest. record (with_net p s (unfinished p r.datagrams) a rest)
@@ -146,8 +146,8 @@ pub came : {p q q1 : PoolView} {s : SocksView} {r t : TableView} {a b : Counters
     {u : NetView} (packet : List ℕ) → IsSocks p s → IsOwned p (held_all p r.datagrams ++ queued_chains p s.queues)
     → IsAsked p r a need answer q t b → need ≡ need_of (wire (length packet)) → answer ≡ true → IsReady q t
     → IsPacketStored q packet q1 c
-    → IsArrived (net_seen q1 s t b) c u
-    → HasCome (net_seen p s r a) packet u
+    → IsArrived (host_view q1 s t b) c u
+    → HasCome (host_view p s r a) packet u
 came {p} {q} {q1} {s} {r} {t} {a} {b} {need} {answer} {c} {u} packet socks owned is is_need yes_answer ready placed
     arrived =
     let beside = asked_socks socks owned is in
@@ -160,7 +160,7 @@ came {p} {q} {q1} {s} {r} {t} {a} {b} {need} {answer} {c} {u} packet socks owned
     let asked : (rest : State) → IsAccounted p (old rest) nothing
     → Reserves (old rest) nothing need answer (mid rest) q =
     λ rest acc. is.reserves (old rest) nothing refl refl acc in
-    let placed_out : KeepsParts (net_seen p s r a) [] (net_seen q1 s t b) (c ∷ []) =
+    let placed_out : KeepsParts (host_view p s r a) [] (host_view q1 s t b) (c ∷ []) =
     keeps_trans (asked_keeps b socks owned is) (aside_keeps b b x) in
     let item : item_at q1 c ≡ record {
       bytes = packet;
@@ -187,10 +187,10 @@ came {p} {q} {q1} {s} {r} {t} {a} {b} {need} {answer} {c} {u} packet socks owned
                   (free_each q (mid rest) placed.clusters (asked rest acc).accounted placed.free.exist
                   placed.free.free);
             },
-            subst (λ (i : Item). Arrives exact_ledger (By_wire (length packet)) nothing i (mid rest) (state_at u rest))
+            subst (λ (i : Item). Arrives exact_ledger (By_wire (length packet)) nothing i (mid rest) (net_state u rest))
                 item
                 (subst (λ (m : State). Arrives exact_ledger (By_wire (length packet)) nothing (item_at q1 c) m
-                (state_at u rest)) (x.shows b rest ∙ now rest)
+                (net_state u rest)) (x.shows b rest ∙ now rest)
                 (arrived.step rest nothing (By_wire (length packet))
                 (came_by_wire (chain_of q1 c) placed.clusters packet placed.made.entries placed.number placed.bytes_are)
                 (placed_out.accounts rest nothing acc))),

@@ -17,9 +17,9 @@ use Rattle.ip_out.specs.Packets.{train_packets}
 use Rattle.ip_reass.specs.Table.{TableView, IsReady, held_all, unfinished}
 use Rattle.sock_calls.specs.Sockets.{SocksView, queues_of, queued_chains}
 use Rattle.sock_calls.specs.Outgoing.{SendView, sending}
-use Rattle.net_stack.proofs.Aside.{net_seen}
+use Rattle.net_stack.proofs.Aside.{host_view}
 use Rattle.net_stack.specs.Inside.Arrivals.{HaveArrived}
-use Rattle.net_stack.specs.Inside.Sending.{all_in, no_train, out_chains, AreParts, IsTried, HasSent}
+use Rattle.net_stack.specs.Inside.Sending.{host_state, no_train, out_chains, AreParts, IsTried, HasSent}
 use Rattle.net_stack.proofs.PartSteps.{OutputKept, output_kept}
 
 -- the chains that an arrival may touch
@@ -42,7 +42,7 @@ looped_owned {v} {u} {r} {t} is owned = λ k. omega (
 pub has_sent : {fd : ℕ} {to : Option Addr} {bytes : List ℕ} {v u : SendView} {r t t2 : TableView}
     {result : Result ℕ Errno} {q : PoolView} {s : SocksView} {c : Counters}
     → IsOwned v.pool (held_all v.pool r.datagrams ++ out_chains v) → IsTried fd to bytes v r result u t
-    → HaveArrived (net_seen u.pool u.socks t u.net.counters) u.net.looped (net_seen q s t2 c) → IsReady q t2
+    → HaveArrived (host_view u.pool u.socks t u.net.counters) u.net.looped (host_view q s t2 c) → IsReady q t2
     → HasSent fd to bytes v r result (sending q s (record (u.net) { looped = no_train; counters = c })) t2
 has_sent {fd} {to} {bytes} {v} {u} {r} {t} {t2} {result} {q} {s} {c} owned tried arrived ready =
     let p : PoolView = u.pool in
@@ -67,7 +67,7 @@ has_sent {fd} {to} {bytes} {v} {u} {r} {t} {t2} {result} {q} {s} {c} owned tried
       next_id = u.net.next_id;
       unfinished = unfinished q t2.datagrams;
       counters = c;
-    }) (queues_of q s.queues) s.pcbs ≡ all_in w t2 rest =
+    }) (queues_of q s.queues) s.pcbs ≡ host_state w t2 rest =
     λ rest i. machine (record rest {
       output = sym o.shows i;
       next_id = u.net.next_id;
@@ -75,8 +75,8 @@ has_sent {fd} {to} {bytes} {v} {u} {r} {t} {t2} {result} {q} {s} {c} owned tried
       counters = c;
     }) (queues_of q s.queues) s.pcbs in
     record {
-      step = λ rest mtu acc. tried.goes rest (all_in w t2 rest) mtu acc
-          (subst (λ (new : State). AllArrive exact_ledger (train_packets p u.net.looped) (all_in u t rest) new)
+      step = λ rest mtu acc. tried.goes rest (host_state w t2 rest) mtu acc
+          (subst (λ (new : State). AllArrive exact_ledger (train_packets p u.net.looped) (host_state u t rest) new)
           (now rest)
           (arrived.step (rest_of rest) (tried.accounts rest acc)));
       socks = arrived.parts.ready;

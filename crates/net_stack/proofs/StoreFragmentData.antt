@@ -32,10 +32,10 @@ use Rattle.ip_reass.specs.declared.arrival.Arrival.{Arrival}
 use Rattle.ip_reass.specs.declared.arrival.Arrival.TheVariants.{Whole}
 use Rattle.ip_reass.proofs.Laws.{Fits, stored_arrives, stored_weight}
 use Rattle.sock_calls.specs.Sockets.{SocksView, IsSocks, queued_chains, with_net, with_sockets}
-use Rattle.sock_calls.specs.Delivery.{NetView, IsInput, KeepsParts, state_at}
+use Rattle.sock_calls.specs.Delivery.{NetView, IsInput, KeepsParts, net_state}
 use Rattle.sock_calls.proofs.Laws.{free_each, keeps_trans}
 use Rattle.net_stack.specs.Inside.Arrivals.{HasCome}
-use Rattle.net_stack.proofs.Aside.{BesideSocks, as_held, beside_socks, net_seen}
+use Rattle.net_stack.proofs.Aside.{BesideSocks, as_held, beside_socks, host_view}
 use Rattle.net_stack.proofs.ArriveLemmas.{IsHeaded, passes}
 
 -- a packet in one cluster, or in two mbufs
@@ -70,7 +70,7 @@ module _ (p : PoolView) (s : SocksView) (r : TableView) (a c : Counters) (packet
   old rest = with_net p s (unfinished p r.datagrams) a rest
 
   abbrev mid : State → State
-  mid rest = reass.machine_with p r.datagrams c (with_sockets p s rest)
+  mid rest = reass.with_waiting p r.datagrams c (with_sockets p s rest)
 
   mid_is : (rest : State) → mid rest ≡ counts_packet (old rest)
   mid_is rest = λ i. with_net p s (unfinished p r.datagrams) (counts i) rest
@@ -149,7 +149,7 @@ module _ (p : PoolView) (s : SocksView) (r : TableView) (a c : Counters) (packet
         )
 
     pub comes : (rest new : State) → IsAccounted p (old rest) nothing
-        → GoesOn nothing q result (reass.machine_with q t.datagrams b (with_sockets p s rest)) new
+        → GoesOn nothing q result (reass.with_waiting q t.datagrams b (with_sockets p s rest)) new
         → ComesIn exact_ledger packet (old rest) new
     comes rest new acc goes =
         let chain = is.step (with_sockets p s rest) nothing new (mid_accounts rest nothing acc) goes in
@@ -186,21 +186,21 @@ module _ (p : PoolView) (s : SocksView) (r : TableView) (a c : Counters) (packet
 
     module _ (socks : IsSocks p s) (owned : IsOwned p (held_all p r.datagrams ++ queued_chains p s.queues))
         (moves : Moves p (held_all p r.datagrams) q (in_hand result ++ held_all q t.datagrams))
-        (accounts : (rest : State) (held : Weight) → IsAccounted p (reass.machine_with p r.datagrams c rest) held
-        → IsAccounted q (reass.machine_with q t.datagrams b rest) (held ⊕ weight_owned q (in_hand result))) where
+        (accounts : (rest : State) (held : Weight) → IsAccounted p (reass.with_waiting p r.datagrams c rest) held
+        → IsAccounted q (reass.with_waiting q t.datagrams b rest) (held ⊕ weight_owned q (in_hand result))) where
       beside : BesideSocks p s (held_all p r.datagrams) q (in_hand result) (held_all q t.datagrams)
       beside = beside_socks (held_all p r.datagrams) (in_hand result) (held_all q t.datagrams) owned socks moves
 
       abbrev then_net : State → State
       then_net rest = with_net q s (unfinished q t.datagrams) b rest
 
-      now : (rest : State) → then_net rest ≡ reass.machine_with q t.datagrams b (with_sockets p s rest)
+      now : (rest : State) → then_net rest ≡ reass.with_waiting q t.datagrams b (with_sockets p s rest)
       now rest =
           λ i. machine (record rest { unfinished = unfinished q t.datagrams; counters = b })
           (λ fd. beside.socks.shows fd i) s.pcbs
 
       -- the parts are kept
-      pub placed : KeepsParts (net_seen p s r a) [] (net_seen q s t b) (in_hand result)
+      pub placed : KeepsParts (host_view p s r a) [] (host_view q s t b) (in_hand result)
       placed = record {
         accounts = λ rest held acc. as_held held (in_hand result)
             (subst (λ (m : State). IsAccounted q m (held ⊕ weight_owned q (in_hand result))) (sym (now rest))
@@ -212,10 +212,10 @@ module _ (p : PoolView) (s : SocksView) (r : TableView) (a c : Counters) (packet
 
       -- it waits, or ended
       pub came_kept : in_hand result ≡ [] → ((x y : State) → y ≡ x → GoesOn nothing q result x y)
-          → HasCome (net_seen p s r a) packet (net_seen q s t b)
+          → HasCome (host_view p s r a) packet (host_view q s t b)
       came_kept none waits = record {
         step = λ rest acc. comes rest (then_net rest) acc (waits _ _ (now rest));
-        parts = subst (λ (hand : List ℕ). KeepsParts (net_seen p s r a) [] (net_seen q s t b) hand) none placed;
+        parts = subst (λ (hand : List ℕ). KeepsParts (host_view p s r a) [] (host_view q s t b) hand) none placed;
       }
 
 -- its datagram is complete, and was delivered to the sockets
@@ -226,21 +226,21 @@ pub came_whole : {p q : PoolView} {s : SocksView} (r t : TableView) {a b c : Cou
     → ArrivesAtOnce p r.datagrams c packet h (Whole d g) q t.datagrams b → IsSocks p s
     → IsOwned p (held_all p r.datagrams ++ queued_chains p s.queues)
     → Moves p (held_all p r.datagrams) q (d ∷ held_all q t.datagrams)
-    → ((rest : State) (held : Weight) → IsAccounted p (reass.machine_with p r.datagrams c rest) held
-    → IsAccounted q (reass.machine_with q t.datagrams b rest) (held ⊕ weight_owned q (d ∷ [])))
-    → IsInput (net_seen q s t b) d g.src g.dst g.proto u → HasCome (net_seen p s r a) packet u
+    → ((rest : State) (held : Weight) → IsAccounted p (reass.with_waiting p r.datagrams c rest) held
+    → IsAccounted q (reass.with_waiting q t.datagrams b rest) (held ⊕ weight_owned q (d ∷ [])))
+    → IsInput (host_view q s t b) d g.src g.dst g.proto u → HasCome (host_view p s r a) packet u
 came_whole {p} {q} {s} r t {a} {b} {c} {packet} {h} {d} {u} g head part ours fits counts is socks owned moves accounts
     input =
-    let kept : KeepsParts (net_seen p s r a) [] (net_seen q s t b) (d ∷ []) =
+    let kept : KeepsParts (host_view p s r a) [] (host_view q s t b) (d ∷ []) =
     placed p s r a c packet h head part ours fits counts (Whole d g) q t b is socks owned moves accounts in
     let same : (rest : State) → with_net q s (unfinished q t.datagrams) b rest
-    ≡ reass.machine_with q t.datagrams b (with_sockets p s rest) =
+    ≡ reass.with_waiting q t.datagrams b (with_sockets p s rest) =
     now p s r a c packet h head part ours fits counts (Whole d g) q t b is socks owned moves accounts in
     record {
       step = λ rest acc.
-          comes p s r a c packet h head part ours fits counts (Whole d g) q t b is rest (state_at u rest) acc
+          comes p s r a c packet h head part ours fits counts (Whole d g) q t b is rest (net_state u rest) acc
           (subst (λ (m : State). WholeArrives exact_ledger nothing g.src g.dst g.proto (item_at q d) m
-          (state_at u rest))
+          (net_state u rest))
           (same rest) (input.step rest nothing (kept.accounts rest nothing acc)));
       parts = keeps_trans kept input.parts;
     }

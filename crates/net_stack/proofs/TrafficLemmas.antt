@@ -20,7 +20,7 @@ use Rattle.ip_reass.specs.Table.{TableView, IsReady, held_all}
 use Rattle.sock_calls.specs.declared.net.Net.{Net}
 use Rattle.sock_calls.specs.Sockets.{SocksView, queued_chains}
 use Rattle.sock_calls.specs.Outgoing.{CanSend, sending}
-use Rattle.net_stack.proofs.Aside.{net_seen}
+use Rattle.net_stack.proofs.Aside.{host_view}
 use Rattle.net_stack.specs.Stack.{StackView, IsStack, state_of, rest_of_stack, stack_chains}
 use Rattle.net_stack.specs.Inside.Arrivals.{HasCome}
 use Rattle.net_stack.specs.Inside.Hosts.{KeepsOutput, arrival_view, send_view}
@@ -51,7 +51,7 @@ come_owned s is = λ k. omega (
 
 pub rx_step : (s : StackView) (packet : List ℕ) (q : PoolView) (w : SocksView) (es : TableView) (c : Counters)
     → IsStack s → IsEvent (Comes packet) → IsReady q es
-    → HasCome (net_seen s.pool s.socks s.reass s.counters) packet (net_seen q w es c)
+    → HasCome (host_view s.pool s.socks s.reass s.counters) packet (host_view q w es c)
     → Stepped s (Comes packet) Done (record s { pool = q; socks = w; reass = es; counters = c })
 rx_step s packet q w es c is can ready came = input_step s q w es c (Comes packet) Done is can came.parts.ready ready
     came.parts.moves (refl, came.step (rest_of_stack s) (accounts s is))

@@ -30,20 +30,20 @@ use Rattle.ip_reass.specs.Table.{TableView, IsReady, held_all, unfinished}
 use Rattle.ip_reass.specs.Same.{length-unfinished, table_weighs}
 use Rattle.sock_calls.specs.Sockets.{queues_of, queued_chains}
 use Rattle.sock_calls.specs.Sends.{SendsOnce}
-use Rattle.sock_calls.specs.Outgoing.{SendView, CanSend, IsSent, sending, state_in}
+use Rattle.sock_calls.specs.Outgoing.{SendView, CanSend, IsSent, sending, send_state}
 use Rattle.sock_calls.proofs.Laws.{Kept, kept, sends_at_once, sends_again}
-use Rattle.net_stack.specs.Inside.Sending.{is_pool_lack, lacks_pool, all_in, out_chains, AreParts, IsTried}
+use Rattle.net_stack.specs.Inside.Sending.{is_pool_lack, lacks_pool, host_state, out_chains, AreParts, IsTried}
 use Rattle.net_stack.proofs.PartSteps.{ReassKept, reass_kept, OutputKept, output_kept, output_weighs}
 
 -- ---- one test
 
 pub record IsOnce (fd : ℕ) (to : Option Addr) (bytes : List ℕ) (v : SendView) (r : TableView) (result : Result ℕ Errno)
     (u : SendView) : Type 0 where
-  pub step : (rest : State) → rest.config.mtu ≡ v.net.mtu → IsAccounted v.pool (all_in v r rest) nothing
-      → SendsOnce exact_ledger fd to bytes (all_in v r rest) (sent_reply result) (train_packets u.pool u.net.looped)
-      (all_in u r rest)
-  pub accounts : (rest : State) → IsAccounted v.pool (all_in v r rest) nothing
-      → IsAccounted u.pool (all_in u r rest) (weight_owned u.pool (numbers u.pool u.net.looped))
+  pub step : (rest : State) → rest.config.mtu ≡ v.net.mtu → IsAccounted v.pool (host_state v r rest) nothing
+      → SendsOnce exact_ledger fd to bytes (host_state v r rest) (sent_reply result) (train_packets u.pool u.net.looped)
+      (host_state u r rest)
+  pub accounts : (rest : State) → IsAccounted v.pool (host_state v r rest) nothing
+      → IsAccounted u.pool (host_state u r rest) (weight_owned u.pool (numbers u.pool u.net.looped))
   pub parts : AreParts v r u r
 
 pub once : {fd : ℕ} {to : Option Addr} {bytes : List ℕ} {v u : SendView} {r : TableView} {result : Result ℕ Errno}
@@ -56,14 +56,16 @@ once {fd} {to} {bytes} {v} {u} {r} {result} is ready owned =
     let same : SameAt p q xs = same_beside xs is.moves (λ k. omega (arith, owned k, times-append k xs (out_chains v)))
     (λ k h. omega (arith, h, owned k, times-append k xs (out_chains v), live_at_most p k)) in
     let rk : ReassKept p q r = reass_kept p q r same ready in
-    let now : (rest : State) → state_in u (record rest { unfinished = unfinished p r.datagrams }) ≡ all_in u r rest =
-    λ rest i. state_in u (record rest { unfinished = sym rk.shows i }) in
+    let now : (rest : State) → send_state u
+    (record rest { unfinished = unfinished p r.datagrams }) ≡ host_state u r rest =
+    λ rest i. send_state u (record rest { unfinished = sym rk.shows i }) in
     record {
-      step = λ rest mtu acc. subst (λ (t : State). SendsOnce exact_ledger fd to bytes (all_in v r rest)
+      step = λ rest mtu acc. subst (λ (t : State). SendsOnce exact_ledger fd to bytes (host_state v r rest)
           (sent_reply result) (train_packets q u.net.looped) t) (now rest)
           (is.step (record rest { unfinished = unfinished p r.datagrams }) mtu acc);
       accounts = λ rest acc. subst (λ (t : State). IsAccounted q t (weight_owned q (numbers q u.net.looped))) (now rest)
-          (subst (λ (w : Weight). IsAccounted q (state_in u (record rest { unfinished = unfinished p r.datagrams })) w)
+          (subst (λ (w : Weight). IsAccounted q (send_state u
+          (record rest { unfinished = unfinished p r.datagrams })) w)
           (output_weighs q (numbers q u.net.looped))
           (is.accounts (record rest { unfinished = unfinished p r.datagrams }) acc));
       parts = record {
@@ -125,8 +127,8 @@ pub tried_at_once : {fd : ℕ} {to : Option Addr} {bytes : List ℕ} {v u : Send
     {result : Result ℕ Errno} → lacks_pool result ≡ false → IsOnce fd to bytes v r result u
     → IsTried fd to bytes v r result u r
 tried_at_once {fd} {to} {bytes} {v} {u} {r} {result} enough is = record {
-  goes = λ rest new mtu acc all. sends_at_once fd to bytes (all_in v r rest) (sent_reply result)
-      (train_packets u.pool u.net.looped) (all_in u r rest) new (no_lack result enough) (is.step rest mtu acc) all;
+  goes = λ rest new mtu acc all. sends_at_once fd to bytes (host_state v r rest) (sent_reply result)
+      (train_packets u.pool u.net.looped) (host_state u r rest) new (no_lack result enough) (is.step rest mtu acc) all;
   accounts = is.accounts;
   parts = is.parts;
 }
@@ -135,10 +137,10 @@ tried_at_once {fd} {to} {bytes} {v} {u} {r} {result} enough is = record {
 
 pub record IsReclaimed (v : SendView) (r : TableView) (q : PoolView) (t : TableView) (c : Counters) : Type 0 where
   pub can : CanSend (sending q v.socks (record (v.net) { counters = c }))
-  pub shows : (rest : State) → all_in (sending q v.socks (record (v.net) { counters = c })) t rest
-      ≡ reclaimed (all_in v r rest)
-  pub accounts : (rest : State) → IsAccounted v.pool (all_in v r rest) nothing
-      → IsAccounted q (all_in (sending q v.socks (record (v.net) { counters = c })) t rest) nothing
+  pub shows : (rest : State) → host_state (sending q v.socks (record (v.net) { counters = c })) t rest
+      ≡ reclaimed (host_state v r rest)
+  pub accounts : (rest : State) → IsAccounted v.pool (host_state v r rest) nothing
+      → IsAccounted q (host_state (sending q v.socks (record (v.net) { counters = c })) t rest) nothing
   pub owned : IsOwned q (held_all q t.datagrams ++ out_chains (sending q v.socks (record (v.net) { counters = c })))
   pub moves : Moves v.pool (held_all v.pool r.datagrams ++ out_chains v) q
       (held_all q t.datagrams ++ out_chains (sending q v.socks (record (v.net) { counters = c })))
@@ -170,7 +172,7 @@ gives_back {v} {r} {t} {q} {c} k can ready owned none count is_c m =
     let empty : t.datagrams ≡ [] = none_of t.datagrams none in
     let counts : c ≡ counts_more IpReclaimed (length (unfinished p r.datagrams)) v.net.counters = is_c
     ∙ ap (λ (n : ℕ). counts_more IpReclaimed n v.net.counters) (count ∙ sym (length-unfinished p r.datagrams)) in
-    let now : (rest : State) → all_in w t rest ≡ reclaimed (all_in v r rest) =
+    let now : (rest : State) → host_state w t rest ≡ reclaimed (host_state v r rest) =
     λ rest i. machine (record rest {
       unfinished = unfinished q (empty i);
       output = o.shows i;
@@ -204,7 +206,7 @@ gives_back {v} {r} {t} {q} {c} k can ready owned none count is_c m =
       };
       shows = now;
       accounts = λ rest acc. subst (λ (x : State). IsAccounted q x nothing) (sym (now rest))
-          (let old : State = all_in v r rest in
+          (let old : State = host_state v r rest in
           let ws : Weight = all_of (λ (socket : Socket). all_of (λ d. d.item.weight) socket.queue)
           (sockets_with (queues_of p v.socks.queues) v.socks.pcbs) in
           let wu : Weight = all_of (λ (u : Unfinished). mbuf ⊕ weight_of_pieces u.bytes) (unfinished p r.datagrams) in
@@ -236,14 +238,14 @@ pub tried_again : {fd : ℕ} {to : Option Addr} {bytes : List ℕ} {v u w : Send
     → IsTried fd to bytes v r result w t
 tried_again {fd} {to} {bytes} {v} {u} {w} {r} {t} {first} {result} {q} {c} lack one back two = record {
   goes = λ rest new mtu acc all.
-      sends_again fd to bytes (all_in v r rest) (train_packets u.pool u.net.looped) (all_in u r rest)
+      sends_again fd to bytes (host_state v r rest) (train_packets u.pool u.net.looped) (host_state u r rest)
       (sent_reply result)
-      (train_packets w.pool w.net.looped) (all_in w t rest) new
-      (subst (λ (reply : Reply). SendsOnce exact_ledger fd to bytes (all_in v r rest) reply
-      (train_packets u.pool u.net.looped) (all_in u r rest)) lack.reply (one.step rest mtu acc))
+      (train_packets w.pool w.net.looped) (host_state w t rest) new
+      (subst (λ (reply : Reply). SendsOnce exact_ledger fd to bytes (host_state v r rest) reply
+      (train_packets u.pool u.net.looped) (host_state u r rest)) lack.reply (one.step rest mtu acc))
       (subst (λ (old : State). SendsOnce exact_ledger fd to bytes old (sent_reply result)
       (train_packets w.pool w.net.looped)
-      (all_in w t rest)) (back.shows rest) (two.step rest mtu (back.accounts rest acc)))
+      (host_state w t rest)) (back.shows rest) (two.step rest mtu (back.accounts rest acc)))
       all;
   accounts = λ rest acc. two.accounts rest (back.accounts rest acc);
   parts = record {

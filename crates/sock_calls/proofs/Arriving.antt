@@ -29,7 +29,7 @@ use Rattle.sockbuf.specs.SockBuf.{SockBufView}
 use Rattle.udp.specs.Datagrams as udp
 use Rattle.udp.proofs.Laws.{delivered_arrives, dropped_arrives, data_weight}
 use Rattle.sock_calls.specs.Sockets.{SocksView, IsSocks, queues_of, queued_chains, with_net}
-use Rattle.sock_calls.specs.Delivery.{seen, IsDelivered, IsInput, socket_named, sockets_named}
+use Rattle.sock_calls.specs.Delivery.{net_view, IsDelivered, IsInput, socket_named, sockets_named}
 use Rattle.sock_calls.proofs.Frames.{Kept, kept}
 use Rattle.sock_calls.proofs.Delivered.{freed, freed_accounts, ends_here, shows_same}
 use Rattle.sock_calls.proofs.Copies.{named_is}
@@ -130,10 +130,10 @@ pub delivered_input : {p q r : PoolView} {t u : Table} {bs cs : List SockBufView
     {xs ys zs : List ℕ} {c e : Counters} {chain d : ℕ} {h : IpHead} {to : List ℕ} {from : Addr}
     → IsSocks p (record { pcbs = t; queues = bs }) → IsOwned p (chain ∷ (xs ++ queued_chains p bs))
     → udp.IsForSockets p chain h t q to from d → Moves p (chain ∷ []) q (d ∷ []) → vs ≡ us → ys ≡ xs
-    → IsDelivered (seen q (record { pcbs = t; queues = bs }) vs ys c) d to from
-    (seen r (record { pcbs = u; queues = cs }) ws zs e)
-    → IsInput (seen p (record { pcbs = t; queues = bs }) us xs c) chain h.src h.dst h.proto
-    (seen r (record { pcbs = u; queues = cs }) ws zs e)
+    → IsDelivered (net_view q (record { pcbs = t; queues = bs }) vs ys c) d to from
+    (net_view r (record { pcbs = u; queues = cs }) ws zs e)
+    → IsInput (net_view p (record { pcbs = t; queues = bs }) us xs c) chain h.src h.dst h.proto
+    (net_view r (record { pcbs = u; queues = cs }) ws zs e)
 delivered_input {p} {q} {r} {t} {u} {bs} {cs} {us} {vs} {ws} {xs} {ys} {zs} {c} {e} {chain} {d} {h} {to} {from} socks
     owned is m same_vs same_ys done =
     let s : SocksView = record { pcbs = t; queues = bs } in
@@ -178,8 +178,8 @@ pub dropped_input : {p q : PoolView} {t : Table} {bs : List SockBufView} {us vs 
     {c e : Counters} {chain : ℕ} {h : IpHead} (why : Why)
     → IsSocks p (record { pcbs = t; queues = bs }) → IsOwned p (chain ∷ (xs ++ queued_chains p bs))
     → udp.IsDropped p chain h t q why → (SameAt p q xs → vs ≡ us) → (SameAt p q xs → ys ≡ xs) → e ≡ counted why c
-    → IsInput (seen p (record { pcbs = t; queues = bs }) us xs c) chain h.src h.dst h.proto
-    (seen q (record { pcbs = t; queues = bs }) vs ys e)
+    → IsInput (net_view p (record { pcbs = t; queues = bs }) us xs c) chain h.src h.dst h.proto
+    (net_view q (record { pcbs = t; queues = bs }) vs ys e)
 dropped_input {p} {q} {t} {bs} {us} {vs} {xs} {ys} {c} {e} {chain} {h} why socks owned is same_vs same_ys is_e =
     let s : SocksView = record { pcbs = t; queues = bs } in
     let gone = freed p q chain xs s owned socks is.freed in
@@ -207,16 +207,16 @@ pub delivered_to : {p q r : PoolView} {t t' u : Table} {bs cs : List SockBufView
     → IsSocks p (record { pcbs = t; queues = bs }) → IsOwned p (chain ∷ (xs ++ queued_chains p bs))
     → udp.IsForSockets p chain h t q to from d → Moves p (chain ∷ []) q (d ∷ []) → vs ≡ us → ys ≡ xs → t' ≡ t
     → fds ≡ to
-    → IsDelivered (seen q (record { pcbs = t'; queues = bs }) vs ys c) d fds from
-    (seen r (record { pcbs = u; queues = cs }) ws zs e)
-    → IsInput (seen p (record { pcbs = t; queues = bs }) us xs c) chain h.src h.dst h.proto
-    (seen r (record { pcbs = u; queues = cs }) ws zs e)
+    → IsDelivered (net_view q (record { pcbs = t'; queues = bs }) vs ys c) d fds from
+    (net_view r (record { pcbs = u; queues = cs }) ws zs e)
+    → IsInput (net_view p (record { pcbs = t; queues = bs }) us xs c) chain h.src h.dst h.proto
+    (net_view r (record { pcbs = u; queues = cs }) ws zs e)
 delivered_to {p} {q} {r} {t} {t'} {u} {bs} {cs} {us} {vs} {ws} {xs} {ys} {zs} {c} {e} {chain} {d} {h} {to} {fds} {from}
     socks owned is m same_vs same_ys same_t same_to done =
-    let then = seen r (record { pcbs = u; queues = cs }) ws zs e in
+    let then = net_view r (record { pcbs = u; queues = cs }) ws zs e in
     delivered_input socks owned is m same_vs same_ys
-    (subst (λ (l : List ℕ). IsDelivered (seen q (record { pcbs = t; queues = bs }) vs ys c) d l from then) same_to
-    (subst (λ (x : Table). IsDelivered (seen q (record { pcbs = x; queues = bs }) vs ys c) d fds from then) same_t
+    (subst (λ (l : List ℕ). IsDelivered (net_view q (record { pcbs = t; queues = bs }) vs ys c) d l from then) same_to
+    (subst (λ (x : Table). IsDelivered (net_view q (record { pcbs = x; queues = bs }) vs ys c) d fds from then) same_t
     done))
 
 pub dropped_to : {p q : PoolView} {t t' : Table} {bs : List SockBufView} {us vs : List Unfinished} {xs ys : List ℕ}
@@ -224,10 +224,10 @@ pub dropped_to : {p q : PoolView} {t t' : Table} {bs : List SockBufView} {us vs 
     → IsSocks p (record { pcbs = t; queues = bs }) → IsOwned p (chain ∷ (xs ++ queued_chains p bs))
     → udp.IsDropped p chain h t q why → (SameAt p q xs → vs ≡ us) → (SameAt p q xs → ys ≡ xs) → t' ≡ t
     → e ≡ counted why c
-    → IsInput (seen p (record { pcbs = t; queues = bs }) us xs c) chain h.src h.dst h.proto
-    (seen q (record { pcbs = t'; queues = bs }) vs ys e)
+    → IsInput (net_view p (record { pcbs = t; queues = bs }) us xs c) chain h.src h.dst h.proto
+    (net_view q (record { pcbs = t'; queues = bs }) vs ys e)
 dropped_to {p} {q} {t} {t'} {bs} {us} {vs} {xs} {ys} {c} {e} {chain} {h} why socks owned is same_vs same_ys same_t
     is_e =
-    subst (λ (u : Table). IsInput (seen p (record { pcbs = t; queues = bs }) us xs c) chain h.src h.dst h.proto
-    (seen q (record { pcbs = u; queues = bs }) vs ys e)) (sym same_t)
+    subst (λ (u : Table). IsInput (net_view p (record { pcbs = t; queues = bs }) us xs c) chain h.src h.dst h.proto
+    (net_view q (record { pcbs = u; queues = bs }) vs ys e)) (sym same_t)
     (dropped_input why socks owned is same_vs same_ys is_e)

@@ -28,7 +28,7 @@ use Rattle.ledger.specs.Accounts.{item_of, item_at, entries_weight, weight_at, I
 use Rattle.ledger.proofs.Laws.{accounted_after}
 use Rattle.sockbuf.specs.SockBuf.{SockBufView}
 use Rattle.sock_calls.specs.Sockets.{SocksView, IsSocks, queues_of, queued_chains, with_net}
-use Rattle.sock_calls.specs.Delivery.{NetView, seen, state_at, queues_at, Offers, IsAppended, IsOffered, IsDelivered, no_block, socket_named, sockets_named}
+use Rattle.sock_calls.specs.Delivery.{NetView, net_view, net_state, queues_at, Offers, IsAppended, IsOffered, IsDelivered, no_block, socket_named, sockets_named}
 use Rattle.sock_calls.specs.Inside.Delivering.{IsUnderWay}
 use Rattle.sock_calls.proofs.Frames.{Kept, kept, keeps_none, keeps_trans}
 use Rattle.sock_calls.proofs.Going.{bag_of_times}
@@ -149,8 +149,8 @@ appending_offers held sender item to old mid new n is a copy at now ec es em ap 
 pub lacking_offer : {p q : PoolView} {t : Table} {bs : List SockBufView} {us vs : List Unfinished} {xs ys : List ℕ}
     {c d e : Counters} {chain n : ℕ} (fd : ℕ) (sender : Addr)
     → IsTested p t bs us xs c chain n false q vs ys d → n ≡ (weight_at p chain).mbufs → e ≡ counted NoBufs d
-    → IsOffered (seen p (record { pcbs = t; queues = bs }) us xs c) chain fd sender
-    (seen q (record { pcbs = t; queues = bs }) vs ys e)
+    → IsOffered (net_view p (record { pcbs = t; queues = bs }) us xs c) chain fd sender
+    (net_view q (record { pcbs = t; queues = bs }) vs ys e)
 lacking_offer {p} {q} {t} {bs} {us} {vs} {xs} {ys} {c} {d} {e} {chain} {n} fd sender i is_n is_e =
     let s : SocksView = record { pcbs = t; queues = bs } in
     let x = tested p q chain xs ys s i.owned i.socks i.moves in
@@ -197,10 +197,10 @@ pub copy_offer : {p q r z : PoolView} {t u : Table} {bs cs : List SockBufView} {
     {xs ys ms zs : List ℕ} {c d e : Counters} {chain n : ℕ} (fd copy : ℕ) (sender : Addr)
     → IsTested p t bs us xs c chain n true q vs ys d → n ≡ (weight_at p chain).mbufs → Moves q [] r (copy ∷ [])
     → item_at r copy ≡ item_at q chain → ws ≡ vs → ms ≡ ys
-    → IsAppended (seen r (record { pcbs = t; queues = bs }) ws ms d) copy fd sender
-    (seen z (record { pcbs = u; queues = cs }) ks zs e)
-    → IsOffered (seen p (record { pcbs = t; queues = bs }) us xs c) chain fd sender
-    (seen z (record { pcbs = u; queues = cs }) ks zs e)
+    → IsAppended (net_view r (record { pcbs = t; queues = bs }) ws ms d) copy fd sender
+    (net_view z (record { pcbs = u; queues = cs }) ks zs e)
+    → IsOffered (net_view p (record { pcbs = t; queues = bs }) us xs c) chain fd sender
+    (net_view z (record { pcbs = u; queues = cs }) ks zs e)
 copy_offer {p} {q} {r} {z} {t} {u} {bs} {cs} {us} {vs} {ws} {ks} {xs} {ys} {ms} {zs} {c} {d} {e} {chain} {n} fd copy
     sender i is_n m is_copy same_ws same_ms done =
     let s : SocksView = record { pcbs = t; queues = bs } in
@@ -354,15 +354,15 @@ module _ (v : NetView) (c : ℕ) (fds : List ℕ) (sender : Addr) where
         goes = λ rest held new a later.
             let step = o.step rest held found.0 found.1 (w.parts.accounts rest held a) in
             let offers : Offers held sender (item_at v.pool c) (socket_named (queues_at v) v.socks.pcbs fd)
-            (state_at u rest) (state_at x rest) =
-            subst (λ (a : Socket). Offers held sender (item_at v.pool c) a (state_at u rest) (state_at x rest)) to
+            (net_state u rest) (net_state x rest) =
+            subst (λ (a : Socket). Offers held sender (item_at v.pool c) a (net_state u rest) (net_state x rest)) to
             (subst (λ (ch : ChainView). Offers held sender (item_of ch.entries) (socket_with (queues_at u) found.0)
-            (state_at u rest) (state_at x rest)) w.chain step) in
+            (net_state u rest) (net_state x rest)) w.chain step) in
             w.goes rest held new a
             (subst (λ (l : List ℕ). Delivers exact_ledger held sender (item_at v.pool c)
-            (sockets_named (queues_at v) v.socks.pcbs l) (state_at u rest) new) (sym d)
+            (sockets_named (queues_at v) v.socks.pcbs l) (net_state u rest) new) (sym d)
             (more_delivers held sender (item_at v.pool c) (queues_at v) v.socks.pcbs fd (drop (suc i) fds)
-            (state_at u rest) (state_at x rest) new (drop_length fds (suc i) more) offers later));
+            (net_state u rest) (net_state x rest) new (drop_length fds (suc i) more) offers later));
         untouched = λ k h. o.others k (λ e. apart k d h e) ∙ w.untouched k (omega (arith, h, ap (times_among k) d));
         chain = o.chain ∙ w.chain;
         parts = keeps_trans w.parts o.parts;
@@ -394,12 +394,12 @@ module _ (v : NetView) (c : ℕ) (fds : List ℕ) (sender : Addr) where
       record {
         step = λ rest held a.
             let step = o.step rest held found.0 found.1 (w.parts.accounts rest held a) in
-            w.goes rest held (state_at x rest) a
+            w.goes rest held (net_state x rest) a
             (subst (λ (l : List ℕ). Delivers exact_ledger held sender (item_at v.pool c)
-            (sockets_named (queues_at v) v.socks.pcbs l) (state_at u rest) (state_at x rest)) (sym one)
-            (subst (λ (a : Socket). Appends exact_ledger held sender (item_at v.pool c) a (state_at u rest)
-            (state_at x rest)) to
+            (sockets_named (queues_at v) v.socks.pcbs l) (net_state u rest) (net_state x rest)) (sym one)
+            (subst (λ (a : Socket). Appends exact_ledger held sender (item_at v.pool c) a (net_state u rest)
+            (net_state x rest)) to
             (subst (λ (ch : ChainView). Appends exact_ledger held sender (item_of ch.entries)
-            (socket_with (queues_at u) found.0) (state_at u rest) (state_at x rest)) w.chain step)));
+            (socket_with (queues_at u) found.0) (net_state u rest) (net_state x rest)) w.chain step)));
         parts = keeps_trans w.parts o.parts;
       }

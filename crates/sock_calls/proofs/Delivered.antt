@@ -25,7 +25,7 @@ use Rattle.ledger.specs.Reserve.{Reserves}
 use Rattle.ledger.proofs.Laws.{accounted_after}
 use Rattle.sockbuf.specs.SockBuf.{SockBufView, datagram_from}
 use Rattle.sock_calls.specs.Sockets.{SocksView, IsSocks, StepsAt, queues_of, queued_chains, with_net, with_sockets}
-use Rattle.sock_calls.specs.Delivery.{seen, IsAppended}
+use Rattle.sock_calls.specs.Delivery.{net_view, IsAppended}
 use Rattle.sock_calls.proofs.Weights.{queue_weight, socks_weigh}
 use Rattle.sock_calls.proofs.Frames.{Kept, kept}
 
@@ -242,8 +242,8 @@ pub record IsFull (p : PoolView) (t : Table) (bs : List SockBufView) (us : List 
 
 pub full_end : {p q : PoolView} {t : Table} {bs : List SockBufView} {us vs : List Unfinished} {xs ys : List ℕ}
     {c d : Counters} {chain fd : ℕ} (sender : Addr) → IsFull p t bs us xs c chain fd q vs ys d
-    → IsAppended (seen p (record { pcbs = t; queues = bs }) us xs c) chain fd sender
-    (seen q (record { pcbs = t; queues = bs }) vs ys d)
+    → IsAppended (net_view p (record { pcbs = t; queues = bs }) us xs c) chain fd sender
+    (net_view q (record { pcbs = t; queues = bs }) vs ys d)
 full_end {p} {q} {t} {bs} {us} {vs} {xs} {ys} {c} {d} {chain} {fd} sender f =
     let s : SocksView = record { pcbs = t; queues = bs } in
     let gone = freed p q chain xs s f.owned f.socks f.freed in
@@ -284,8 +284,8 @@ pub lacking_end : {p q r : PoolView} {t : Table} {bs : List SockBufView} {us vs 
     → IsTested p t bs us xs c chain 1 false q vs ys d → Named fd t
     → fits (queues_of p bs fd) (length (string (chain_of p chain))) ≡ true
     → r ≡ without q chain → (SameAt q r ys → ws ≡ vs) → (SameAt q r ys → zs ≡ ys) → e ≡ counted NoBufs d
-    → IsAppended (seen p (record { pcbs = t; queues = bs }) us xs c) chain fd sender
-    (seen r (record { pcbs = t; queues = bs }) ws zs e)
+    → IsAppended (net_view p (record { pcbs = t; queues = bs }) us xs c) chain fd sender
+    (net_view r (record { pcbs = t; queues = bs }) ws zs e)
 lacking_end {p} {q} {r} {t} {bs} {us} {vs} {ws} {xs} {ys} {zs} {c} {d} {e} {chain} {fd} sender i named room is_r same_ws
     same_zs is_e =
     let s : SocksView = record { pcbs = t; queues = bs } in
@@ -322,8 +322,8 @@ pub fitting_end : {p q r : PoolView} {t : Table} {bs cs : List SockBufView} {us 
     → fits (queues_of p bs fd) (length (string (chain_of p chain))) ≡ true
     → StepsAt q (chain ∷ []) bs fd r [] cs → queues_of r cs fd ≡ queues_of q bs fd ++ datagram_from sender q chain ∷ []
     → (SameAt q r ys → ws ≡ vs) → (SameAt q r ys → zs ≡ ys)
-    → IsAppended (seen p (record { pcbs = t; queues = bs }) us xs c) chain fd sender
-    (seen r (record { pcbs = t; queues = cs }) ws zs d)
+    → IsAppended (net_view p (record { pcbs = t; queues = bs }) us xs c) chain fd sender
+    (net_view r (record { pcbs = t; queues = cs }) ws zs d)
 fitting_end {p} {q} {r} {t} {bs} {cs} {us} {vs} {ws} {xs} {ys} {zs} {c} {d} {chain} {fd} sender i named opened room st
     here same_ws same_zs =
     let s : SocksView = record { pcbs = t; queues = bs } in

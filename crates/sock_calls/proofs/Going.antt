@@ -42,7 +42,7 @@ use Rattle.sockbuf.specs.SockBuf.{SockBufView}
 use Rattle.sock_calls.specs.declared.net.Net.{Net}
 use Rattle.sock_calls.specs.Sockets.{SocksView, queues_of, queued_chains}
 use Rattle.sock_calls.specs.Sends.{SendsBy, SendsOnce}
-use Rattle.sock_calls.specs.Outgoing.{SendView, sending, state_in, with_output, weight_of_all, CanSend, IsSent}
+use Rattle.sock_calls.specs.Outgoing.{SendView, sending, send_state, with_output, weight_of_all, CanSend, IsSent}
 use Rattle.sock_calls.specs.Inside.Putting.{send_config, sent_as, counts_sent, IsPut}
 use Rattle.sock_calls.specs.Inside.Destination.{ChecksSend}
 use Rattle.sock_calls.proofs.Frames.{Kept, kept}
@@ -73,15 +73,17 @@ on_block fd to bytes t f rest b reply looped new at by =
 
 -- ---- sends that change nothing
 pub unchanged : {fd : ℕ} {to : Option Addr} {bytes : List ℕ} {errno : Errno} (v : SendView) → CanSend v
-    → ((rest : State) → rest.config.mtu ≡ v.net.mtu → IsAccounted v.pool (state_in v rest) nothing
-    → SendsOnce exact_ledger fd to bytes (state_in v rest) (Refused errno) [] (state_in v rest))
+    → ((rest : State) → rest.config.mtu ≡ v.net.mtu → IsAccounted v.pool (send_state v rest) nothing
+    → SendsOnce exact_ledger fd to bytes (send_state v rest) (Refused errno) [] (send_state v rest))
     → IsSent fd to bytes v (Err errno) v
 unchanged {fd} {to} {bytes} {errno} v can step =
     let none : train_packets v.pool v.net.looped ≡ [] = none_wait v.pool v.net.looped can.none in
     record {
-      step = λ rest e a. subst (λ (l : List Item). SendsOnce exact_ledger fd to bytes (state_in v rest) (Refused errno)
-          l (state_in v rest)) (sym none) (step rest e a);
-      accounts = λ rest a. subst (λ (l : List Item). IsAccounted v.pool (state_in v rest) (weight_of_all l)) (sym none)
+      step = λ rest e a. subst (λ (l : List Item). SendsOnce exact_ledger fd to bytes (send_state v rest)
+          (Refused errno)
+          l (send_state v rest)) (sym none) (step rest e a);
+      accounts = λ rest a. subst (λ (l : List Item). IsAccounted v.pool (send_state v rest) (weight_of_all l))
+          (sym none)
           a;
       refused = inr refl;
       socks = can.socks;

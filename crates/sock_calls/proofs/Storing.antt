@@ -35,7 +35,7 @@ use Rattle.sockbuf.specs.SockBuf.{SockBufView}
 use Rattle.udp.specs.Checked.{IsChecked, unmatched}
 use Rattle.udp.specs.Datagrams.{AreMatching}
 use Rattle.sock_calls.specs.Sockets.{SocksView, IsSocks, queues_of, queued_chains, with_net}
-use Rattle.sock_calls.specs.Delivery.{IsDelivered, seen, sockets_named}
+use Rattle.sock_calls.specs.Delivery.{IsDelivered, net_view, sockets_named}
 use Rattle.ip_out.specs.Headed.{carried_of}
 use Rattle.sock_calls.specs.Whole.{ArrivesWhole, DeliversWhole}
 use Rattle.sock_calls.specs.Inside.Storing.{IsDataStored, data_of}
@@ -145,10 +145,10 @@ pub delivers_whole : {p q r : PoolView} {t u : Table} {bs cs : List SockBufView}
     → IsSocks p (record { pcbs = t; queues = bs }) → IsOwned p (xs ++ queued_chains p bs)
     → IsChecked packet end from to → AreMatching t to.ip (packet_key to.ip to.port from) fds → 0 < length fds
     → IsDataStored p packet end q d → vs ≡ us → ys ≡ xs
-    → IsDelivered (seen q (record { pcbs = t; queues = bs }) vs ys c) d fds from
-    (seen r (record { pcbs = u; queues = cs }) ws zs e)
-    → DeliversWhole (seen p (record { pcbs = t; queues = bs }) us xs c) packet
-    (seen r (record { pcbs = u; queues = cs }) ws zs e)
+    → IsDelivered (net_view q (record { pcbs = t; queues = bs }) vs ys c) d fds from
+    (net_view r (record { pcbs = u; queues = cs }) ws zs e)
+    → DeliversWhole (net_view p (record { pcbs = t; queues = bs }) us xs c) packet
+    (net_view r (record { pcbs = u; queues = cs }) ws zs e)
 delivers_whole {p} {q} {r} {t} {u} {bs} {cs} {us} {vs} {ws} {xs} {ys} {zs} {c} {e} {d} {end} {fds} {packet} {from} {to}
     socks owned checked matching some stored same_vs same_ys done =
     let s : SocksView = record { pcbs = t; queues = bs } in
@@ -207,16 +207,17 @@ pub delivers_to : {p q r : PoolView} {t t' u : Table} {bs cs : List SockBufView}
     → IsSocks p (record { pcbs = t; queues = bs }) → IsOwned p (xs ++ queued_chains p bs)
     → IsChecked packet end from to → AreMatching t to.ip (packet_key to.ip to.port from) fds → 0 < length fds
     → IsDataStored p packet end q d → vs ≡ us → ys ≡ xs → t' ≡ t → to_all ≡ fds
-    → IsDelivered (seen q (record { pcbs = t'; queues = bs }) vs ys c) d to_all from
-    (seen r (record { pcbs = u; queues = cs }) ws zs e)
-    → DeliversWhole (seen p (record { pcbs = t; queues = bs }) us xs c) packet
-    (seen r (record { pcbs = u; queues = cs }) ws zs e)
+    → IsDelivered (net_view q (record { pcbs = t'; queues = bs }) vs ys c) d to_all from
+    (net_view r (record { pcbs = u; queues = cs }) ws zs e)
+    → DeliversWhole (net_view p (record { pcbs = t; queues = bs }) us xs c) packet
+    (net_view r (record { pcbs = u; queues = cs }) ws zs e)
 delivers_to {p} {q} {r} {t} {t'} {u} {bs} {cs} {us} {vs} {ws} {xs} {ys} {zs} {c} {e} {d} {end} {fds} {to_all} {packet}
     {from} {to} socks owned checked matching some stored same_vs same_ys same_t same_to done =
-    let then = seen r (record { pcbs = u; queues = cs }) ws zs e in
+    let then = net_view r (record { pcbs = u; queues = cs }) ws zs e in
     delivers_whole socks owned checked matching some stored same_vs same_ys
-    (subst (λ (l : List ℕ). IsDelivered (seen q (record { pcbs = t; queues = bs }) vs ys c) d l from then) same_to
-    (subst (λ (x : Table). IsDelivered (seen q (record { pcbs = x; queues = bs }) vs ys c) d to_all from then) same_t
+    (subst (λ (l : List ℕ). IsDelivered (net_view q (record { pcbs = t; queues = bs }) vs ys c) d l from then) same_to
+    (subst (λ (x : Table). IsDelivered (net_view q
+    (record { pcbs = x; queues = bs }) vs ys c) d to_all from then) same_t
     done))
 
 -- ---- no socket matches
@@ -233,8 +234,8 @@ ends_whole : {p : PoolView} {t : Table} {bs : List SockBufView} {us : List Unfin
     → ((rest : State) (w : Weight) → (let old : State = with_net p (record { pcbs = t; queues = bs }) us c rest in
     GoesTo exact_ledger nothing from (record { bytes = drop 28 (take end packet); weight = w }) to.ip
     (matching_sockets old to.ip (packet_key to.ip to.port from)) old (ends why old)))
-    → DeliversWhole (seen p (record { pcbs = t; queues = bs }) us xs c) packet
-    (seen p (record { pcbs = t; queues = bs }) us xs e)
+    → DeliversWhole (net_view p (record { pcbs = t; queues = bs }) us xs c) packet
+    (net_view p (record { pcbs = t; queues = bs }) us xs e)
 ends_whole {p} {t} {bs} {us} {xs} {c} {e} {end} {packet} {from} {to} why socks checked has is_e goes =
     let s : SocksView = record { pcbs = t; queues = bs } in
     let now : (rest : State) → with_net p s us e rest ≡ ends why (with_net p s us c rest) =
@@ -263,8 +264,8 @@ pub unmatched_ends : {p : PoolView} {t : Table} {bs : List SockBufView} {us : Li
     → IsSocks p (record { pcbs = t; queues = bs }) → IsChecked packet end from to
     → AreMatching t to.ip (packet_key to.ip to.port from) fds → length fds ≡ 0 → Has p (wire (length packet))
     → why ≡ unmatched t to.ip → e ≡ counted why c
-    → DeliversWhole (seen p (record { pcbs = t; queues = bs }) us xs c) packet
-    (seen p (record { pcbs = t; queues = bs }) us xs e)
+    → DeliversWhole (net_view p (record { pcbs = t; queues = bs }) us xs c) packet
+    (net_view p (record { pcbs = t; queues = bs }) us xs e)
 unmatched_ends {p} {t} {bs} {us} {xs} {fds} {c} {e} {end} {packet} {from} {to} why socks checked matching none has is
     is_e =
     ends_whole why socks checked has is_e (λ rest w.
@@ -303,8 +304,8 @@ pub full_ends : {p : PoolView} {t : Table} {bs : List SockBufView} {us : List Un
     → IsChecked packet end from to → AreMatching t to.ip (packet_key to.ip to.port from) fds → fds ≡ fd ∷ []
     → Has p (wire (length packet)) → fits (queues_of p bs fd) (length (drop 28 (take end packet))) ≡ false
     → e ≡ counted UdpFullSocket c
-    → DeliversWhole (seen p (record { pcbs = t; queues = bs }) us xs c) packet
-    (seen p (record { pcbs = t; queues = bs }) us xs e)
+    → DeliversWhole (net_view p (record { pcbs = t; queues = bs }) us xs c) packet
+    (net_view p (record { pcbs = t; queues = bs }) us xs e)
 full_ends {p} {t} {bs} {us} {xs} {fds} {c} {e} {end} {fd} {packet} {from} {to} socks checked matching one has over
     is_e =
     ends_whole UdpFullSocket socks checked has is_e (λ rest w.

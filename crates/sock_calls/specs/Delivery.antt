@@ -23,12 +23,12 @@ pub record NetView : Type 0 where
   pub waiting : List ℕ
   pub counters : Counters
 
-abbrev pub seen : PoolView → SocksView → List Unfinished → List ℕ → Counters → NetView
-seen p s us xs c = record { pool = p; socks = s; unfinished = us; waiting = xs; counters = c }
+abbrev pub net_view : PoolView → SocksView → List Unfinished → List ℕ → Counters → NetView
+net_view p s us xs c = record { pool = p; socks = s; unfinished = us; waiting = xs; counters = c }
 
 -- the machine with these parts, and otherwise `rest`
-abbrev pub state_at : NetView → State → State
-state_at v rest = with_net v.pool v.socks v.unfinished v.counters rest
+abbrev pub net_state : NetView → State → State
+net_state v rest = with_net v.pool v.socks v.unfinished v.counters rest
 
 -- the numbers of all its chains
 abbrev pub chains_at : NetView → List ℕ
@@ -39,7 +39,7 @@ queues_at v = queues_of v.pool v.socks.queues
 
 -- the pool accounts for the machine and for the weight held in addition
 abbrev pub IsAccountedAt : NetView → State → Weight → Type 0
-IsAccountedAt v rest held = IsAccounted v.pool (state_at v rest) held
+IsAccountedAt v rest held = IsAccounted v.pool (net_state v rest) held
 
 -- the held weight with these chains added
 abbrev pub held_with : PoolView → Weight → List ℕ → Weight
@@ -61,8 +61,8 @@ pub record KeepsParts (v : NetView) (hand : List ℕ) (u : NetView) (left : List
 pub record IsAppended (v : NetView) (c : ℕ) (fd : ℕ) (sender : Addr) (u : NetView) : Type 0 where
   pub step : (rest : State) (held : Weight) (b : Block) → block_at fd v.socks.pcbs ≡ Some b
       → IsAccountedAt v rest (held ⊕ weight_at v.pool c)
-      → Appends exact_ledger held sender (item_at v.pool c) (socket_with (queues_at v) b) (state_at v rest)
-      (state_at u rest)
+      → Appends exact_ledger held sender (item_at v.pool c) (socket_with (queues_at v) b) (net_state v rest)
+      (net_state u rest)
   pub others : (k : ℕ) → (k ≡ fd → ⊥) → queues_at u k ≡ queues_at v k
   pub parts : KeepsParts v (c ∷ []) u []
 
@@ -78,7 +78,7 @@ Offers held sender item to old after =
 pub record IsOffered (v : NetView) (c : ℕ) (fd : ℕ) (sender : Addr) (u : NetView) : Type 0 where
   pub step : (rest : State) (held : Weight) (b : Block) → block_at fd v.socks.pcbs ≡ Some b
       → IsAccountedAt v rest (held ⊕ weight_at v.pool c)
-      → Offers held sender (item_at v.pool c) (socket_with (queues_at v) b) (state_at v rest) (state_at u rest)
+      → Offers held sender (item_at v.pool c) (socket_with (queues_at v) b) (net_state v rest) (net_state u rest)
   pub others : (k : ℕ) → (k ≡ fd → ⊥) → queues_at u k ≡ queues_at v k
   pub chain : chain_of u.pool c ≡ chain_of v.pool c
   pub parts : KeepsParts v (c ∷ []) u (c ∷ [])
@@ -100,7 +100,7 @@ sockets_named f t fds = map (socket_named f t) fds
 pub record IsDelivered (v : NetView) (c : ℕ) (fds : List ℕ) (sender : Addr) (u : NetView) : Type 0 where
   pub step : (rest : State) (held : Weight) → IsAccountedAt v rest (held ⊕ weight_at v.pool c)
       → Delivers exact_ledger held sender (item_at v.pool c) (sockets_named (queues_at v) v.socks.pcbs fds)
-      (state_at v rest) (state_at u rest)
+      (net_state v rest) (net_state u rest)
   pub parts : KeepsParts v (c ∷ []) u []
 
 -- ---- a whole datagram
@@ -108,6 +108,6 @@ pub record IsDelivered (v : NetView) (c : ℕ) (fds : List ℕ) (sender : Addr) 
 -- Chain c, a whole datagram without its IP header, arrived from `source` for `destination`, of this protocol.
 pub record IsInput (v : NetView) (c : ℕ) (source destination protocol : ℕ) (u : NetView) : Type 0 where
   pub step : (rest : State) (held : Weight) → IsAccountedAt v rest (held ⊕ weight_at v.pool c)
-      → WholeArrives exact_ledger held source destination protocol (item_at v.pool c) (state_at v rest)
-      (state_at u rest)
+      → WholeArrives exact_ledger held source destination protocol (item_at v.pool c) (net_state v rest)
+      (net_state u rest)
   pub parts : KeepsParts v (c ∷ []) u []

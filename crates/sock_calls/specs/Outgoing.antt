@@ -34,8 +34,8 @@ abbrev pub with_output : PoolView → Net → State → State
 with_output p n rest = record rest { output = train_packets p n.out; next_id = n.next_id; counters = n.counters }
 
 -- the machine with these parts, and otherwise `rest`
-abbrev pub state_in : SendView → State → State
-state_in v rest = with_sockets v.pool v.socks (with_output v.pool v.net rest)
+abbrev pub send_state : SendView → State → State
+send_state v rest = with_sockets v.pool v.socks (with_output v.pool v.net rest)
 
 -- the sum of the packets' weights
 abbrev pub weight_of_all : List Item → Weight
@@ -57,11 +57,11 @@ pub record CanSend (v : SendView) : Type 0 where
 -- holds in addition to the state. A refusal changes nothing, except that by the output queue.
 pub record IsSent (fd : ℕ) (to : Option Addr) (bytes : List ℕ) (v : SendView) (result : Result ℕ Errno) (u : SendView)
     : Type 0 where
-  pub step : (rest : State) → rest.config.mtu ≡ v.net.mtu → IsAccounted v.pool (state_in v rest) nothing
-      → SendsOnce exact_ledger fd to bytes (state_in v rest) (sent_reply result) (train_packets u.pool u.net.looped)
-      (state_in u rest)
-  pub accounts : (rest : State) → IsAccounted v.pool (state_in v rest) nothing
-      → IsAccounted u.pool (state_in u rest) (weight_of_all (train_packets u.pool u.net.looped))
+  pub step : (rest : State) → rest.config.mtu ≡ v.net.mtu → IsAccounted v.pool (send_state v rest) nothing
+      → SendsOnce exact_ledger fd to bytes (send_state v rest) (sent_reply result) (train_packets u.pool u.net.looped)
+      (send_state u rest)
+  pub accounts : (rest : State) → IsAccounted v.pool (send_state v rest) nothing
+      → IsAccounted u.pool (send_state u rest) (weight_of_all (train_packets u.pool u.net.looped))
   pub refused : IfErr result (λ errno. (errno ≡ NoBufs Queue) ⊎ (u ≡ v))
   pub socks : IsSocks u.pool u.socks
   pub out : IsOutputQueue u.pool u.net.out

@@ -18,7 +18,7 @@ use Rattle.ip_out.specs.Headed.{carried_of}
 use Rattle.chain_ops.specs.declared.store.Space.{Space}
 use Rattle.chain_ops.specs.declared.store.Space.TheVariants.{InMbuf, InCluster, InMore}
 use Rattle.sock_calls.specs.Sockets.{SocksView, IsSocks, queued_chains, with_sockets}
-use Rattle.sock_calls.specs.Delivery.{IsAccountedAt, KeepsParts, NetView, state_at}
+use Rattle.sock_calls.specs.Delivery.{IsAccountedAt, KeepsParts, NetView, net_state}
 
 -- ---- the buffers of a packet
 
@@ -80,8 +80,8 @@ EndsWhole p s packet why =
 pub record DeliversWhole (v : NetView) (packet : List ℕ) (u : NetView) : Type 0 where
   pub step : (rest : State) → IsAccountedAt v rest nothing
       → (clusters : List ℕ)
-      × AreTaken exact_ledger (state_at v rest) (need_of (wire (length packet))).clusters clusters
-      × ArrivesWhole packet (carried_item clusters packet) (state_at v rest) (state_at u rest)
+      × AreTaken exact_ledger (net_state v rest) (need_of (wire (length packet))).clusters clusters
+      × ArrivesWhole packet (carried_item clusters packet) (net_state v rest) (net_state u rest)
   pub parts : KeepsParts v [] u []
 
 -- the result of `take`: the packet was stored, or it's dropped for a cause, and nothing has changed

@@ -9,7 +9,7 @@ ghost use Rattle.pcb_table.specs.Table.{IsDescriptor, IsOpen};
 ghost use Rattle.ledger.specs.Accounts.{item_at};
 ghost use Rattle.sockbuf.specs.SockBuf.{IsSockBuf, datagram_from};
 ghost use Rattle.sock_calls.specs.Sockets.{IsSocks, StepsAt, from_three, queue_at, queues_of, queued_chains};
-ghost use Rattle.sock_calls.specs.Delivery.{seen, IsAppended, IsOffered, IsDelivered};
+ghost use Rattle.sock_calls.specs.Delivery.{net_view, IsAppended, IsOffered, IsDelivered};
 ghost use Rattle.sock_calls.specs.Inside.Parts.{socks_of};
 
 use crate::parts::Parts;
@@ -88,10 +88,10 @@ impl Parts {
         requires owned { IsOwned pool.old (datagram.chain
             ∷ (R.owned pool.old waiting.old ++ queued_chains pool.old (from_three self.old.queues))) }
         ensures appended { IsAppended
-            (seen pool.old (socks_of self.old) (R.unfinished pool.old waiting.old)
+            (net_view pool.old (socks_of self.old) (R.unfinished pool.old waiting.old)
             (R.owned pool.old waiting.old) counters.old)
             datagram.chain fd datagram.sender
-            (seen pool.new (socks_of self.new) (R.unfinished pool.new waiting.new)
+            (net_view pool.new (socks_of self.new) (R.unfinished pool.new waiting.new)
             (R.owned pool.new waiting.new) counters.new) }
         ensures waits { R.is_ready pool.new waiting.new }
     {
@@ -128,10 +128,10 @@ impl Parts {
         requires owned { IsOwned pool.old (datagram.now.chain
             ∷ (R.owned pool.old waiting.old ++ queued_chains pool.old (from_three self.old.queues))) }
         ensures offered { IsOffered
-            (seen pool.old (socks_of self.old) (R.unfinished pool.old waiting.old)
+            (net_view pool.old (socks_of self.old) (R.unfinished pool.old waiting.old)
             (R.owned pool.old waiting.old) counters.old)
             datagram.now.chain fd datagram.now.sender
-            (seen pool.new (socks_of self.new) (R.unfinished pool.new waiting.new)
+            (net_view pool.new (socks_of self.new) (R.unfinished pool.new waiting.new)
             (R.owned pool.new waiting.new) counters.new) }
         ensures waits { R.is_ready pool.new waiting.new }
     {
@@ -168,10 +168,10 @@ impl Parts {
         requires owned { IsOwned pool.old (datagram.chain
             ∷ (R.owned pool.old waiting.old ++ queued_chains pool.old (from_three self.old.queues))) }
         ensures delivered { IsDelivered
-            (seen pool.old (socks_of self.old) (R.unfinished pool.old waiting.old)
+            (net_view pool.old (socks_of self.old) (R.unfinished pool.old waiting.old)
             (R.owned pool.old waiting.old) counters.old)
             datagram.chain fds.now datagram.sender
-            (seen pool.new (socks_of self.new) (R.unfinished pool.new waiting.new)
+            (net_view pool.new (socks_of self.new) (R.unfinished pool.new waiting.new)
             (R.owned pool.new waiting.new) counters.new) }
         ensures waits { R.is_ready pool.new waiting.new }
     {

@@ -8,7 +8,7 @@ ghost use Rattle.pcb_table.specs.Table.{IsDescriptor};
 ghost use Rattle.sockbuf.specs.SockBuf.{IsSockBuf};
 ghost use Rattle.udp.specs.Checked.{is_to_all};
 ghost use Rattle.sock_calls.specs.Sockets.{IsSocks, queue_at, queued_chains, from_three};
-ghost use Rattle.sock_calls.specs.Delivery.{seen, IsInput};
+ghost use Rattle.sock_calls.specs.Delivery.{net_view, IsInput};
 ghost use Rattle.sock_calls.specs.Inside.Storing.{IsDataStored, StoresAtEnd};
 ghost use Rattle.sock_calls.specs.Inside.Parts.{socks_of};
 ghost use Rattle.sock_calls.specs.Whole.{DeliversWhole, HasOne, TakesWhole};
@@ -97,10 +97,10 @@ impl Parts {
         requires most { length packet.now.packet.now ≤ IP_MAX_PACKET }
         requires free { Has pool.old (wire (length packet.now.packet.now)) }
         ensures delivered { DeliversWhole
-            (seen pool.old (socks_of self.old) (R.unfinished pool.old waiting.old)
+            (net_view pool.old (socks_of self.old) (R.unfinished pool.old waiting.old)
             (R.owned pool.old waiting.old) counters.old)
             packet.now.packet.now
-            (seen pool.new (socks_of self.new) (R.unfinished pool.new waiting.new)
+            (net_view pool.new (socks_of self.new) (R.unfinished pool.new waiting.new)
             (R.owned pool.new waiting.new) counters.new) }
         ensures waits { R.is_ready pool.new waiting.new }
     {
@@ -181,9 +181,10 @@ impl Socks {
         requires most { length packet.now.packet.now ≤ IP_MAX_PACKET }
         requires free { Has pool.old (wire (length packet.now.packet.now)) }
         ensures delivered { DeliversWhole
-            (seen pool.old self.old (R.unfinished pool.old waiting.old) (R.owned pool.old waiting.old) counters.old)
+            (net_view pool.old self.old (R.unfinished pool.old waiting.old) (R.owned pool.old waiting.old) counters.old)
             packet.now.packet.now
-            (seen pool.new self.new (R.unfinished pool.new waiting.new) (R.owned pool.new waiting.new) counters.new) }
+            (net_view pool.new self.new (R.unfinished pool.new waiting.new)
+            (R.owned pool.new waiting.new) counters.new) }
         ensures waits { R.is_ready pool.new waiting.new }
     {
         self.parts
@@ -208,9 +209,10 @@ impl Socks {
             (chain ∷ (R.owned pool.old waiting.old ++ queued_chains pool.old self.old.queues)) }
         requires most { length (string (chain_of pool.old chain)) ≤ IP_MAX_PACKET }
         ensures input { IsInput
-            (seen pool.old self.old (R.unfinished pool.old waiting.old) (R.owned pool.old waiting.old) counters.old)
+            (net_view pool.old self.old (R.unfinished pool.old waiting.old) (R.owned pool.old waiting.old) counters.old)
             chain head.src head.dst head.proto
-            (seen pool.new self.new (R.unfinished pool.new waiting.new) (R.owned pool.new waiting.new) counters.new) }
+            (net_view pool.new self.new (R.unfinished pool.new waiting.new)
+            (R.owned pool.new waiting.new) counters.new) }
         ensures waits { R.is_ready pool.new waiting.new }
     {
         match udp::input(pool, chain, head, &mut self.parts.pcbs, &mut self.matching) {

@@ -9,7 +9,7 @@ use Rattle.mbuf_chain.specs.Chain.{PoolView, Adds}
 use Rattle.mbuf_chain.specs.Owners.{Moves}
 use Rattle.mbuf_chain.specs.Steps.{one_mbuf, empty_entry}
 use Rattle.ledger.specs.Accounts.{IsAccounted}
-use Rattle.ip_reass.specs.Arrivals.{machine_with}
+use Rattle.ip_reass.specs.Arrivals.{with_waiting}
 use Rattle.ip_reass.specs.Layouts.{WaitOrNone, queues}
 use Rattle.ip_reass.specs.Table.{TableView, IsReady, has_key, held_all, new_datagram}
 use Rattle.ip_reass.specs.declared.datagram.Datagram.{Datagram}
@@ -17,9 +17,9 @@ use Rattle.ip_reass.specs.declared.datagram.Datagram.{Datagram}
 -- an mbuf was requested, from p, r and counters c to q, s and d: if none was free, no datagram waits any more
 pub record RequestsMbuf (p : PoolView) (r : TableView) (c : Counters) (answer : Bool) (q : PoolView) (s : TableView)
     (d : Counters) : Type 0 where
-  pub has_buffers : (rest : State) (held : Weight) → IsAccounted p (machine_with p r.datagrams c rest) held
-      → HasBuffers exact_ledger (machine_with p r.datagrams c rest) held (need_mbufs 1) answer
-      (machine_with q s.datagrams d rest)
+  pub has_buffers : (rest : State) (held : Weight) → IsAccounted p (with_waiting p r.datagrams c rest) held
+      → HasBuffers exact_ledger (with_waiting p r.datagrams c rest) held (need_mbufs 1) answer
+      (with_waiting q s.datagrams d rest)
   pub waits : WaitOrNone (queues p r.datagrams) (queues q s.datagrams)
   pub none : answer ≡ false → queues q s.datagrams ≡ []
   pub ready : IsReady q s

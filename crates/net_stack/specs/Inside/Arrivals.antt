@@ -25,7 +25,7 @@ use Rattle.ip_out.specs.declared.head.IpHead.{IpHead}
 use Rattle.ip_reass.specs.Arrivals.{CameBy, carried_at, flat_head}
 use Rattle.ip_reass.specs.Table.{TableView, held_all, unfinished}
 use Rattle.sock_calls.specs.Sockets.{SocksView, with_net}
-use Rattle.sock_calls.specs.Delivery.{NetView, IsAccountedAt, KeepsParts, state_at}
+use Rattle.sock_calls.specs.Delivery.{NetView, IsAccountedAt, KeepsParts, net_state}
 
 -- an address for which a machine with these two addresses accepts packets
 abbrev pub is_ours_or_all : ℕ → ℕ → ℕ → Bool
@@ -47,28 +47,28 @@ EndsInChain p s c why = (us : List Unfinished) (a : Counters) (rest : State) (he
 pub record IsFragmentTaken (v : NetView) (c : ℕ) (head : IpHead) (u : NetView) : Type 0 where
   pub step : (rest : State) (held : Weight) (origin : Origin) → CameBy origin (chain_of v.pool c)
       → IsAccountedAt v rest (held ⊕ weight_at v.pool c)
-      → FragmentArrives exact_ledger origin held (flat_head head) (carried_at v.pool c) (state_at v rest)
-      (state_at u rest)
+      → FragmentArrives exact_ledger origin held (flat_head head) (carried_at v.pool c) (net_state v rest)
+      (net_state u rest)
   pub parts : KeepsParts v (c ∷ []) u []
 
 -- chain c, a packet, arrived
 pub record IsArrived (v : NetView) (c : ℕ) (u : NetView) : Type 0 where
   pub step : (rest : State) (held : Weight) (origin : Origin) → CameBy origin (chain_of v.pool c)
       → IsAccountedAt v rest (held ⊕ weight_at v.pool c)
-      → Arrives exact_ledger origin held (item_at v.pool c) (state_at v rest) (state_at u rest)
+      → Arrives exact_ledger origin held (item_at v.pool c) (net_state v rest) (net_state u rest)
   pub parts : KeepsParts v (c ∷ []) u []
 
 -- The packets of a train arrived, one after another.
 pub record HaveArrived (v : NetView) (t : TrainView) (u : NetView) : Type 0 where
   pub step : (rest : State) → IsAccountedAt v rest (weight_owned v.pool (numbers v.pool t))
-      → AllArrive exact_ledger (train_packets v.pool t) (state_at v rest) (state_at u rest)
+      → AllArrive exact_ledger (train_packets v.pool t) (net_state v rest) (net_state u rest)
   pub parts : KeepsParts v (numbers v.pool t) u []
 
 -- The front of a train arrived: any arrival of the remaining packets completes an arrival of all.
 pub record AreArriving (v : NetView) (t : TrainView) (u : NetView) (left : TrainView) : Type 0 where
   pub goes : (rest new : State) → IsAccountedAt v rest (weight_owned v.pool (numbers v.pool t))
-      → AllArrive exact_ledger (train_packets u.pool left) (state_at u rest) new
-      → AllArrive exact_ledger (train_packets v.pool t) (state_at v rest) new
+      → AllArrive exact_ledger (train_packets u.pool left) (net_state u rest) new
+      → AllArrive exact_ledger (train_packets v.pool t) (net_state v rest) new
   pub parts : KeepsParts v (numbers v.pool t) u (numbers u.pool left)
 
 -- ---- from the wire
@@ -86,7 +86,7 @@ pub record IsPacketStored (p : PoolView) (bytes : List ℕ) (q : PoolView) (c : 
 -- these bytes came from the wire, into new buffers, or into none if the pool had too few
 pub record HasCome (v : NetView) (packet : List ℕ) (u : NetView) : Type 0 where
   pub step : (rest : State) → IsAccountedAt v rest nothing
-      → ComesIn exact_ledger packet (state_at v rest) (state_at u rest)
+      → ComesIn exact_ledger packet (net_state v rest) (net_state u rest)
   pub parts : KeepsParts v [] u []
 
 -- the pool was tested for a packet's buffers, and if they weren't free, the unfinished datagrams were freed
@@ -101,7 +101,7 @@ pub record IsAsked (p : PoolView) (r : TableView) (a : Counters) (need : Need) (
 abbrev pub EndsFor : NetView → List ℕ → Why → Type 0
 EndsFor v packet why =
     (rest : State) (w : Weight) → Arrives exact_ledger (By_wire (length packet)) nothing
-    (record { bytes = packet; weight = w }) (state_at v rest) (ends why (counts_packet (state_at v rest)))
+    (record { bytes = packet; weight = w }) (net_state v rest) (ends why (counts_packet (net_state v rest)))
 
 -- a packet for the machine with these control blocks that isn't a fragment
 pub record IsWholeForUs (t : Table) (packet : List ℕ) : Type 0 where

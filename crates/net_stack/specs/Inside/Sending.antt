@@ -2,7 +2,7 @@
 -- and 8; the form with a pool's view is this project's own).
 use Rattle.std.specs.Prelude.{◌≡◌, ℕ, Bool, true, false, List, ◌++◌, Option, None, Result, Ok, Err}
 use Rattle.flat_model.specs.Amounts.Weight.{nothing}
-use Rattle.flat_model.specs.Machine.State.{State, Unfinished}
+use Rattle.flat_model.specs.Machine.State.{State}
 use Rattle.flat_model.specs.Machine.Ledger.{exact_ledger}
 use Rattle.flat_model.specs.Machine.Event.{Send}
 use Rattle.flat_model.specs.Machine.Replies.{sent_reply}
@@ -20,7 +20,7 @@ use Rattle.ip_out.specs.Packets.{train_packets, BeginPlain}
 use Rattle.ip_out.specs.Queues.{IsOutputQueue}
 use Rattle.ip_reass.specs.Table.{TableView, IsReady, held_all, unfinished}
 use Rattle.sock_calls.specs.Sockets.{IsSocks, queued_chains}
-use Rattle.sock_calls.specs.Outgoing.{SendView, state_in}
+use Rattle.sock_calls.specs.Outgoing.{SendView, send_state}
 
 -- the pool has too few buffers
 abbrev pub is_pool : Lack → Bool
@@ -39,13 +39,9 @@ lacks_pool (Err errno) = is_pool_lack errno
 abbrev pub no_train : TrainView
 no_train = record { first = None; last = None; len = 0 }
 
--- the machine with the parts of a send and these unfinished datagrams, and otherwise `rest`
-abbrev pub whole_in : SendView → List Unfinished → State → State
-whole_in v us rest = state_in v (record rest { unfinished = us })
-
--- the machine that has the unfinished datagrams of a table too
-abbrev pub all_in : SendView → TableView → State → State
-all_in v r rest = whole_in v (unfinished v.pool r.datagrams) rest
+-- the machine with the parts of a send and the unfinished datagrams of a table, and otherwise `rest`
+abbrev pub host_state : SendView → TableView → State → State
+host_state v r rest = send_state v (record rest { unfinished = unfinished v.pool r.datagrams })
 
 -- the chains of the output queue and of the sockets
 abbrev pub out_chains : SendView → List ℕ
@@ -66,18 +62,18 @@ pub record AreParts (v : SendView) (r : TableView) (u : SendView) (t : TableView
 -- the packets that come back, it's one step of the machine.
 pub record IsTried (fd : ℕ) (to : Option Addr) (bytes : List ℕ) (v : SendView) (r : TableView) (result : Result ℕ Errno)
     (u : SendView) (t : TableView) : Type 0 where
-  pub goes : (rest new : State) → rest.config.mtu ≡ v.net.mtu → IsAccounted v.pool (all_in v r rest) nothing
-      → AllArrive exact_ledger (train_packets u.pool u.net.looped) (all_in u t rest) new
-      → Step (all_in v r rest) (Send fd to bytes) (sent_reply result) new
-  pub accounts : (rest : State) → IsAccounted v.pool (all_in v r rest) nothing
-      → IsAccounted u.pool (all_in u t rest) (weight_owned u.pool (numbers u.pool u.net.looped))
+  pub goes : (rest new : State) → rest.config.mtu ≡ v.net.mtu → IsAccounted v.pool (host_state v r rest) nothing
+      → AllArrive exact_ledger (train_packets u.pool u.net.looped) (host_state u t rest) new
+      → Step (host_state v r rest) (Send fd to bytes) (sent_reply result) new
+  pub accounts : (rest : State) → IsAccounted v.pool (host_state v r rest) nothing
+      → IsAccounted u.pool (host_state u t rest) (weight_owned u.pool (numbers u.pool u.net.looped))
   pub parts : AreParts v r u t
 
 -- A send was made, and the packets that came back have arrived.
 pub record HasSent (fd : ℕ) (to : Option Addr) (bytes : List ℕ) (v : SendView) (r : TableView) (result : Result ℕ Errno)
     (u : SendView) (t : TableView) : Type 0 where
-  pub step : (rest : State) → rest.config.mtu ≡ v.net.mtu → IsAccounted v.pool (all_in v r rest) nothing
-      → Step (all_in v r rest) (Send fd to bytes) (sent_reply result) (all_in u t rest)
+  pub step : (rest : State) → rest.config.mtu ≡ v.net.mtu → IsAccounted v.pool (host_state v r rest) nothing
+      → Step (host_state v r rest) (Send fd to bytes) (sent_reply result) (host_state u t rest)
   pub socks : IsSocks u.pool u.socks
   pub out : IsOutputQueue u.pool u.net.out
   pub none : u.net.looped ≡ no_train

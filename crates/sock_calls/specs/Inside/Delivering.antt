@@ -8,16 +8,16 @@ use Rattle.flat_model.specs.declared.address.Addr.{Addr}
 use Rattle.mbuf_chain.specs.Chain.{chain_of}
 use Rattle.mbuf_chain.specs.Owners.{times_among}
 use Rattle.ledger.specs.Accounts.{item_at, weight_at}
-use Rattle.sock_calls.specs.Delivery.{NetView, IsAccountedAt, KeepsParts, state_at, queues_at, sockets_named}
+use Rattle.sock_calls.specs.Delivery.{NetView, IsAccountedAt, KeepsParts, net_state, queues_at, sockets_named}
 
 -- From v on, chain c was offered to the first i of the receivers: any delivery to the others completes a delivery to
 -- all.
 pub record IsUnderWay (v : NetView) (c : ℕ) (fds : List ℕ) (sender : Addr) (i : ℕ) (u : NetView) : Type 0 where
   pub goes : (rest : State) (held : Weight) (new : State) → IsAccountedAt v rest (held ⊕ weight_at v.pool c)
       → Delivers exact_ledger held sender (item_at v.pool c) (sockets_named (queues_at v) v.socks.pcbs (drop i fds))
-      (state_at u rest) new
+      (net_state u rest) new
       → Delivers exact_ledger held sender (item_at v.pool c) (sockets_named (queues_at v) v.socks.pcbs fds)
-      (state_at v rest) new
+      (net_state v rest) new
   pub untouched : (k : ℕ) → 0 < times_among k (drop i fds) → queues_at u k ≡ queues_at v k
   pub chain : chain_of u.pool c ≡ chain_of v.pool c
   pub parts : KeepsParts v (c ∷ []) u (c ∷ [])

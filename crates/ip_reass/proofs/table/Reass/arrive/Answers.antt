@@ -9,7 +9,7 @@ use Rattle.mbuf_chain.specs.Owners.{Moves}
 use Rattle.mbuf_chain.proofs.Laws.Owners.{moves_none, moves_trans, owned_after}
 use Rattle.chain_ops.specs.Trims.{without_first}
 use Rattle.ledger.specs.Accounts.{weight_at, weight_owned}
-use Rattle.ip_reass.specs.Arrivals.{carried_entries, flat_head, in_hand, key_in, machine_with, IsPulled}
+use Rattle.ip_reass.specs.Arrivals.{carried_entries, flat_head, in_hand, key_in, with_waiting, IsPulled}
 use Rattle.ip_reass.specs.Table.{TableView, held_all}
 use Rattle.ip_reass.specs.Same.{distinct_same}
 use Rattle.ip_reass.specs.Layouts.{fragment_carried, queues, under}
@@ -30,7 +30,7 @@ bad c =
 pub returns-then-is_bad-clause-step : goal.returns-then-is_bad-clause-step
 returns-then-is_bad-clause-step c = λ rest held new acc is.
     let fr = bad (goal.at.returns-then-is_bad-clause-step c).After-free_chain in
-    arrives_bad held (machine_with c.args.pool.now c.args.self.now.datagrams c.args.counters.now rest) new c.args.head
+    arrives_bad held (with_waiting c.args.pool.now c.args.self.now.datagrams c.args.counters.now rest) new c.args.head
     (chain_of c.args.pool.now c.args.chain)
     (ap (λ (n : ℕ). is_bad_fragment (flat_head c.args.head) (n - 20)) (sym c.requires.total ∙ sym c.len-len.ensures)
     ∙ (sym c.is_bad.ensures ∙ c.if-is_bad.true)) (is
@@ -212,8 +212,10 @@ returns-clause-accounts c = λ rest held acc.
     let m = pulled at.In-Some in
     let t = trimmed at.After-trim_front m in
     accounts c.args.pool.now c.insert_or_begin.new.pool (c.args.chain ∷ []) (in_hand c.insert_or_begin.result) rest held
-    (weight_at c.args.pool.now c.args.chain) (weight_owned c.insert_or_begin.new.pool (in_hand c.insert_or_begin.result))
-    c.args.self.now.datagrams c.insert_or_begin.new.self.datagrams c.args.counters.now c.insert_or_begin.new.counters acc
+    (weight_at c.args.pool.now c.args.chain) (weight_owned c.insert_or_begin.new.pool
+    (in_hand c.insert_or_begin.result))
+    c.args.self.now.datagrams c.insert_or_begin.new.self.datagrams c.args.counters.now c.insert_or_begin.new.counters
+    acc
     (moves_trans m (moves_trans t.moves c.insert_or_begin.ensures.moves)) c.requires.owned c.requires.ready.table
     c.insert_or_begin.ensures.ready.table (one_weighs c.args.pool.now c.args.chain) (same_weight _)
 

@@ -2,7 +2,7 @@ use Rattle.std.proofs.Common.{◌+◌, ◌<◌, ◌≤◌, ◌++◌, ◌∷◌, 
 use Rattle.mbuf_chain.specs.Chain.{ChainView, string}
 use Rattle.mbuf_chain.specs.Owners.{Moves}
 use Rattle.mbuf_chain.proofs.Laws.Owners.{moves_trans}
-use Rattle.ip_reass.specs.Arrivals.{GoesOn, in_hand, key_in, machine_with}
+use Rattle.ip_reass.specs.Arrivals.{GoesOn, in_hand, key_in, with_waiting}
 use Rattle.ip_reass.specs.Layouts.{HasLayout, LeavesAt, queues}
 use Rattle.ip_reass.specs.declared.arrival.Arrival.{Arrival}
 use Rattle.ip_reass.specs.declared.arrival.Arrival.TheVariants.{Kept}
@@ -111,7 +111,7 @@ returns-in-Kept-clause-step c = λ rest held new acc goes.
     (before c).step rest held new c.args.head.offset c.args.head.more acc
     (λ here most. c.insert_and_count-arrival.ensures.step rest held new here most
     (subst (λ (r : Arrival). GoesOn held c.insert_and_count-arrival.new.pool r
-    (machine_with c.insert_and_count-arrival.new.pool c.insert_and_count-arrival.new.table.items
+    (with_waiting c.insert_and_count-arrival.new.pool c.insert_and_count-arrival.new.table.items
     c.insert_and_count-arrival.new.counters rest) new) (sym c.in-Kept.is) goes))
 
 pub returns-in-Kept-clause-ready : goal.returns-in-Kept-clause-ready

@@ -2,7 +2,7 @@ use Rattle.std.proofs.Common.{◌∙◌, refl, ap, arith}
 use Rattle.mbuf_chain.specs.Chain.{PoolView}
 use Rattle.flat_model.specs.Amounts.Weight.{◌⊕◌}
 use Rattle.ledger.specs.Accounts.{weight_at}
-use Rattle.ip_reass.specs.Arrivals.{machine_with}
+use Rattle.ip_reass.specs.Arrivals.{with_waiting}
 use Rattle.ip_reass.specs.Same.{distinct_same}
 use Rattle.ip_reass.proofs.Queues.{wait_then, wait_reserved, none_reserved}
 use Rattle.ip_reass.proofs.Reserve.{stays, freed}
@@ -12,7 +12,7 @@ use Rattle.ip_reass.proofs.table.Reass.pull_up.Goals as goal
 pub returns-then-not-reserve-clause-tested : goal.returns-then-not-reserve-clause-tested
 returns-then-not-reserve-clause-tested c = λ cluster rest held acc.
     let r =
-    c.reserve.ensures.reserves (machine_with c.args.pool.now c.args.self.now.datagrams c.args.counters.now rest)
+    c.reserve.ensures.reserves (with_waiting c.args.pool.now c.args.self.now.datagrams c.args.counters.now rest)
     (held ⊕ weight_at c.args.pool.now c.args.chain) refl refl acc in
     let fr =
     freed c.args.pool.now c.reserve.new.pool c.free_chain.new.self c.args.self.now.datagrams
@@ -53,7 +53,7 @@ returns-then-not-reserve-clause-moves c =
 pub returns-clause-tested : goal.returns-clause-tested
 returns-clause-tested c = λ cluster rest held acc.
     let r =
-    c.reserve.ensures.reserves (machine_with c.args.pool.now c.args.self.now.datagrams c.args.counters.now rest)
+    c.reserve.ensures.reserves (with_waiting c.args.pool.now c.args.self.now.datagrams c.args.counters.now rest)
     (held ⊕ weight_at c.args.pool.now c.args.chain) refl refl acc in
     let u =
     pulled c.args.pool.now c.reserve.new.pool c.m_pullup.new.pool c.args.self.now.datagrams

@@ -4,7 +4,7 @@ use Rattle.chain_ops.specs.Stored.{Has}
 use Rattle.sock_calls.specs.Delivery.{NetView}
 use Rattle.sock_calls.specs.Whole.{DeliversWhole}
 use Rattle.sock_calls.proofs.Laws.{refused}
-use Rattle.net_stack.proofs.Aside.{net_seen}
+use Rattle.net_stack.proofs.Aside.{host_view}
 use Rattle.net_stack.proofs.InPlace.{came_delivered, ended, whole_ends}
 use Rattle.net_stack.proofs.host.Host.deliver.Goals as goal
 
@@ -21,11 +21,11 @@ pub returns-in-Ok : goal.returns-in-Ok
 returns-in-Ok c =
     let u = c.args.self.now in
     let d = c.deliver.new in
-    let now : NetView = net_seen d.pool d.self d.waiting d.counters in
+    let now : NetView = host_view d.pool d.self d.waiting d.counters in
     record {
       does = came_delivered u.pool u.socks u.reass u.net.counters c.count.ensures c.requires.can.free
           c.args.headed.is_headed.faultless (λ rest. c.requires.whole.ours) c.requires.whole.whole
-          (subst (λ (xs : List ℕ). DeliversWhole (net_seen u.pool u.socks u.reass c.count.new.self) xs now)
+          (subst (λ (xs : List ℕ). DeliversWhole (host_view u.pool u.socks u.reass c.count.new.self) xs now)
           c.in-Ok.ensures.packet c.deliver.ensures.delivered);
       reass = c.deliver.ensures.waits;
       output = refl;

@@ -4,7 +4,7 @@ use Rattle.ip_out.specs.declared.head.IpHead.{IpHead}
 use Rattle.ip_reass.specs.Arrivals.{flat_head}
 use Rattle.flat_model.specs.Amounts.Weight.{nothing}
 use Rattle.flat_model.specs.Machine.Arrival.{By_wire, is_fragment}
-use Rattle.sock_calls.specs.Delivery.{state_at}
+use Rattle.sock_calls.specs.Delivery.{net_state}
 use Rattle.net_stack.specs.Inside.Arrivals.{is_ours_or_all}
 use Rattle.net_stack.specs.Inside.Hosts.{arrival_view}
 use Rattle.net_stack.proofs.ArriveLemmas.{refused}
@@ -37,6 +37,6 @@ returns-in_err-headed c =
     let packet = c.args.packet.now in
     rw (p.1, p.2) (
       refl,
-      λ rest w. refused packet (By_wire (length packet)) nothing w (state_at (arrival_view c.args.self.now) rest)
+      λ rest w. refused packet (By_wire (length packet)) nothing w (net_state (arrival_view c.args.self.now) rest)
           c.in_err-headed.field-0.0 c.in_err-headed.ensures.err,
     )

@@ -9,7 +9,7 @@ use Rattle.sock_calls.specs.Sockets.{SocksView, IsSocks, queued_chains}
 use Rattle.net_stack.specs.Inside.Arrivals.{HasCome}
 use Rattle.net_stack.specs.declared.host.Host.{Host}
 use Rattle.net_stack.specs.Inside.Hosts.{PacketArrives, PartsFit, arrival_view}
-use Rattle.net_stack.proofs.Aside.{net_seen}
+use Rattle.net_stack.proofs.Aside.{host_view}
 use Rattle.net_stack.proofs.ReceiveLemmas.{asked_socks, lost}
 use Rattle.net_stack.proofs.InPlace.{again, ended}
 use Rattle.net_stack.proofs.host.Host.receive.Goals as goal
@@ -20,7 +20,7 @@ returns-in_default c =
     let u = c.make_space.new.self in
     record {
       does = subst (λ (s : SocksView). HasCome (arrival_view c.args.self.now) c.args.packet.now
-          (net_seen u.pool s u.reass c.count_ended.new.self)) (sym c.in_default.ensures.asked.socks)
+          (host_view u.pool s u.reass c.count_ended.new.self)) (sym c.in_default.ensures.asked.socks)
           (lost c.args.packet.now c.requires.fit.socks c.requires.fit.owned c.in_default.ensures.asked.asked refl refl
           c.count_ended.ensures);
       reass = c.in_default.ensures.asked.ready;
@@ -47,7 +47,7 @@ comes c k came =
     let u = c.make_space.new.self in
     record {
       does = again c.requires.fit.socks c.requires.fit.owned c.in-Some.ensures.asked.asked c.in-Some.ensures.free
-          (subst (λ (s : SocksView). HasCome (net_seen u.pool s u.reass u.net.counters) c.args.packet.now
+          (subst (λ (s : SocksView). HasCome (host_view u.pool s u.reass u.net.counters) c.args.packet.now
           (arrival_view k)) c.in-Some.ensures.asked.socks came.does);
       reass = came.reass;
       output = came.output ∙ ap (λ (n : Net). record n { counters = k.net.counters }) c.in-Some.ensures.asked.output;

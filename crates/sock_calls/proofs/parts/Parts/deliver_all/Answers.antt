@@ -3,7 +3,7 @@ use Rattle.std.specs.Option.{IsSome}
 use Rattle.std.proofs.lemmas.List.Elements.{All-get_or}
 use Rattle.mbuf_chain.proofs.Laws.Owners.{owned_after}
 use Rattle.pcb_table.specs.Table.{Table, IsOpen, block_at}
-use Rattle.sock_calls.specs.Delivery.{seen}
+use Rattle.sock_calls.specs.Delivery.{net_view}
 use Rattle.sock_calls.specs.Inside.Delivering.{IsUnderWay}
 use Rattle.sock_calls.specs.Inside.Parts.{socks_of}
 use Rattle.sock_calls.proofs.Copies.{starts, offered_one, delivered_all}
@@ -39,13 +39,13 @@ deliver-requires-clause-owned g c = owned_after c.receivers.invariant.way.parts.
 pub receivers-preserved : goal.receivers-preserved
 receivers-preserved g c =
     let p = c.args.pool.now in
-    let at = seen p (socks_of c.args.self.now) (g.R.Waiting.unfinished p c.args.waiting.now)
+    let at = net_view p (socks_of c.args.self.now) (g.R.Waiting.unfinished p c.args.waiting.now)
     (g.R.Reclaim.owned p c.args.waiting.now) c.args.counters.now in
     let q = c.receivers.pool in
-    let now = seen q (socks_of c.receivers.self) (g.R.Waiting.unfinished q c.receivers.waiting)
+    let now = net_view q (socks_of c.receivers.self) (g.R.Waiting.unfinished q c.receivers.waiting)
     (g.R.Reclaim.owned q c.receivers.waiting) c.receivers.counters in
     let r = c.deliver_copy.new.pool in
-    let then = seen r (socks_of c.deliver_copy.new.self) (g.R.Waiting.unfinished r c.deliver_copy.new.waiting)
+    let then = net_view r (socks_of c.deliver_copy.new.self) (g.R.Waiting.unfinished r c.deliver_copy.new.waiting)
     (g.R.Reclaim.owned r c.deliver_copy.new.waiting) c.deliver_copy.new.counters in
     let fd = slice_index_or c.args.fds.now c.receivers.i 0 in
     let is_open : IsSome (block_at fd c.receivers.self.pcbs) =
@@ -65,13 +65,13 @@ receivers-preserved g c =
 pub returns-clause-delivered : goal.returns-clause-delivered
 returns-clause-delivered g c =
     let p = c.args.pool.now in
-    let at = seen p (socks_of c.args.self.now) (g.R.Waiting.unfinished p c.args.waiting.now)
+    let at = net_view p (socks_of c.args.self.now) (g.R.Waiting.unfinished p c.args.waiting.now)
     (g.R.Reclaim.owned p c.args.waiting.now) c.args.counters.now in
     let q = c.receivers.pool in
-    let now = seen q (socks_of c.receivers.self) (g.R.Waiting.unfinished q c.receivers.waiting)
+    let now = net_view q (socks_of c.receivers.self) (g.R.Waiting.unfinished q c.receivers.waiting)
     (g.R.Reclaim.owned q c.receivers.waiting) c.receivers.counters in
     let r = c.deliver.new.pool in
-    let then = seen r (socks_of c.deliver.new.self) (g.R.Waiting.unfinished r c.deliver.new.waiting)
+    let then = net_view r (socks_of c.deliver.new.self) (g.R.Waiting.unfinished r c.deliver.new.waiting)
     (g.R.Reclaim.owned r c.deliver.new.waiting) c.deliver.new.counters in
     let last = length c.args.fds.now - 1 in
     let fd = slice_index_or c.args.fds.now last 0 in

@@ -1,5 +1,5 @@
 use Rattle.std.proofs.Common.{◌≤◌, ◌-◌}
-use Rattle.sock_calls.specs.Delivery.{seen}
+use Rattle.sock_calls.specs.Delivery.{net_view}
 use Rattle.sock_calls.specs.Inside.Delivering.{IsUnderWay}
 use Rattle.sock_calls.specs.Inside.Parts.{socks_of}
 use Rattle.sock_calls.proofs.parts.Parts.deliver_all.Given as goal
@@ -7,10 +7,10 @@ use Rattle.sock_calls.proofs.parts.Parts.deliver_all.Given as goal
 abbrev pub invariant-receivers : goal.invariant-receivers
 invariant-receivers g l = record {
   way : IsUnderWay
-      (seen l.fn.pool (socks_of l.fn.self) (g.R.Waiting.unfinished l.fn.pool l.fn.waiting)
+      (net_view l.fn.pool (socks_of l.fn.self) (g.R.Waiting.unfinished l.fn.pool l.fn.waiting)
       (g.R.Reclaim.owned l.fn.pool l.fn.waiting) l.fn.counters)
       l.datagram.chain l.fds l.datagram.sender l.i
-      (seen l.pool (socks_of l.self) (g.R.Waiting.unfinished l.pool l.waiting)
+      (net_view l.pool (socks_of l.self) (g.R.Waiting.unfinished l.pool l.waiting)
       (g.R.Reclaim.owned l.pool l.waiting) l.counters);
   within : l.i ≤ l.last;
   waits : g.R.Reclaim.is_ready l.pool l.waiting;

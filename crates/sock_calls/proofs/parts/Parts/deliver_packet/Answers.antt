@@ -6,7 +6,7 @@ use Rattle.mbuf_chain.specs.Owners.{IsOwned}
 use Rattle.pcb_table.specs.Table.{Table, IsOpen}
 use Rattle.udp.specs.Checked.{unmatched}
 use Rattle.sock_calls.specs.Sockets.{IsSocks, from_three, queued_chains, queues_of}
-use Rattle.sock_calls.specs.Delivery.{seen}
+use Rattle.sock_calls.specs.Delivery.{net_view}
 use Rattle.sock_calls.specs.Inside.Parts.{socks_of}
 use Rattle.sock_calls.specs.Whole.{DeliversWhole}
 use Rattle.sock_calls.proofs.Arriving.{all_open}
@@ -17,7 +17,8 @@ pub deliver_all-requires-clause-socks : goal.deliver_all-requires-clause-socks
 deliver_all-requires-clause-socks g c =
     let p = c.args.pool.now in
     let q = c.store_data-chain.new.pool in
-    let x = beside_data p q c.store_data-chain.result (g.R.Reclaim.owned p c.args.waiting.now) (socks_of c.args.self.now)
+    let x = beside_data p q c.store_data-chain.result (g.R.Reclaim.owned p c.args.waiting.now)
+    (socks_of c.args.self.now)
     c.requires.owned c.requires.socks c.store_data-chain.ensures.moves in
     subst (λ (t : Table). IsSocks q (record { pcbs = t; queues = from_three c.args.self.now.queues }))
     (sym c.matching_sockets.ensures.blocks) x.socks.ready
@@ -31,7 +32,8 @@ deliver_all-requires-clause-opened g c =
 
 pub deliver_all-requires-clause-distinct : goal.deliver_all-requires-clause-distinct
 deliver_all-requires-clause-distinct g c =
-    λ fd. subst (λ (l : List ℕ). times fd l ≤ 1) (sym c.as_slice-fds.ensures.value) (c.matching_sockets.ensures.found.once fd)
+    λ fd. subst (λ (l : List ℕ). times fd l ≤ 1) (sym c.as_slice-fds.ensures.value)
+    (c.matching_sockets.ensures.found.once fd)
 
 pub deliver_all-requires-clause-waits : goal.deliver_all-requires-clause-waits
 deliver_all-requires-clause-waits g c =
@@ -60,8 +62,8 @@ returns-then-is_empty-clause-delivered g c =
     let us = g.R.Waiting.unfinished p w in
     let xs = g.R.Reclaim.owned p w in
     let bs = from_three c.args.self.now.queues in
-    subst (λ (t : Table). DeliversWhole (seen p (socks_of c.args.self.now) us xs c.args.counters.now)
-    c.args.packet.now.packet.now (seen p (record { pcbs = t; queues = bs }) us xs c.count_ended.new.self))
+    subst (λ (t : Table). DeliversWhole (net_view p (socks_of c.args.self.now) us xs c.args.counters.now)
+    c.args.packet.now.packet.now (net_view p (record { pcbs = t; queues = bs }) us xs c.count_ended.new.self))
     (sym c.matching_sockets.ensures.blocks)
     (unmatched_ends c.no_port-why.result c.requires.socks c.args.packet.now.is_checked c.matching_sockets.ensures.found
     (first_of (search rules, grind (arith, common_steps))) c.requires.free
@@ -81,8 +83,8 @@ returns-then-not-fits_at-clause-delivered g c =
     let xs = g.R.Reclaim.owned p w in
     let bs = from_three c.args.self.now.queues in
     let fd = slice_index_or c.as_slice.result.now 0 0 in
-    subst (λ (t : Table). DeliversWhole (seen p (socks_of c.args.self.now) us xs c.args.counters.now)
-    c.args.packet.now.packet.now (seen p (record { pcbs = t; queues = bs }) us xs
+    subst (λ (t : Table). DeliversWhole (net_view p (socks_of c.args.self.now) us xs c.args.counters.now)
+    c.args.packet.now.packet.now (net_view p (record { pcbs = t; queues = bs }) us xs
     c.count_ended-then-not-fits_at.new.self))
     (sym c.matching_sockets.ensures.blocks)
     (full_ends c.requires.socks c.args.packet.now.is_checked c.matching_sockets.ensures.found

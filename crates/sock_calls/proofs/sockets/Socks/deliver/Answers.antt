@@ -1,7 +1,7 @@
 use Rattle.std.proofs.Common.{◌++◌, sym, subst}
 use Rattle.mbuf_chain.specs.Owners.{IsOwned}
 use Rattle.sock_calls.specs.Sockets.{SocksView, IsSocks, queued_chains}
-use Rattle.sock_calls.specs.Delivery.{seen}
+use Rattle.sock_calls.specs.Delivery.{net_view}
 use Rattle.sock_calls.specs.Inside.Parts.{socks_of}
 use Rattle.sock_calls.specs.Whole.{DeliversWhole}
 use Rattle.sock_calls.proofs.sockets.Socks.deliver.Goals as goal
@@ -21,8 +21,8 @@ returns-clause-delivered g c =
     let w = c.args.waiting.now in
     let r = c.deliver_packet.new.pool in
     subst (λ (v : SocksView). DeliversWhole
-    (seen p v (g.R.Waiting.unfinished p w) (g.R.Reclaim.owned p w) c.args.counters.now)
+    (net_view p v (g.R.Waiting.unfinished p w) (g.R.Reclaim.owned p w) c.args.counters.now)
     c.args.packet.now.packet.now
-    (seen r (socks_of c.deliver_packet.new.self) (g.R.Waiting.unfinished r c.deliver_packet.new.waiting)
+    (net_view r (socks_of c.deliver_packet.new.self) (g.R.Waiting.unfinished r c.deliver_packet.new.waiting)
     (g.R.Reclaim.owned r c.deliver_packet.new.waiting) c.deliver_packet.new.counters))
     c.self.view_is c.deliver_packet.ensures.delivered

@@ -3,7 +3,7 @@ use Rattle.flat_model.specs.Amounts.Weight.{times}
 use Rattle.mbuf_chain.specs.Owners.{IsOwned}
 use Rattle.pcb_table.specs.Table.{Table, IsOpen}
 use Rattle.sock_calls.specs.Sockets.{SocksView, IsSocks, from_three, queued_chains}
-use Rattle.sock_calls.specs.Delivery.{seen, IsInput}
+use Rattle.sock_calls.specs.Delivery.{net_view, IsInput}
 use Rattle.sock_calls.specs.Inside.Parts.{socks_of}
 use Rattle.sock_calls.proofs.Delivered.{freed}
 use Rattle.sock_calls.proofs.Arriving.{Reached, all_open, reached_in, delivered_to, dropped_to}
@@ -69,9 +69,9 @@ returns-in-Deliver-clause-input g c =
     let x = there g (goal.at.returns-in-Deliver-clause-input g c).In-Deliver in
     let r = c.deliver_all.new.pool in
     subst (λ (v : SocksView). IsInput
-    (seen p v (g.R.Waiting.unfinished p w) xs c.args.counters.now) c.args.chain c.args.head.src c.args.head.dst
+    (net_view p v (g.R.Waiting.unfinished p w) xs c.args.counters.now) c.args.chain c.args.head.src c.args.head.dst
     c.args.head.proto
-    (seen r (socks_of c.deliver_all.new.self) (g.R.Waiting.unfinished r c.deliver_all.new.waiting)
+    (net_view r (socks_of c.deliver_all.new.self) (g.R.Waiting.unfinished r c.deliver_all.new.waiting)
     (g.R.Reclaim.owned r c.deliver_all.new.waiting) c.deliver_all.new.counters))
     c.self.view_is
     (delivered_to {h = c.args.head} socks owned c.in-Deliver.ensures.answer c.in-Deliver.ensures.moves
@@ -90,9 +90,9 @@ returns-in-Drop-clause-input g c =
     subst (λ (v : SocksView). IsOwned p (c.args.chain ∷ (xs ++ queued_chains p v.queues))) (sym c.self.view_is)
     c.requires.owned in
     subst (λ (v : SocksView). IsInput
-    (seen p v (g.R.Waiting.unfinished p w) xs c.args.counters.now) c.args.chain c.args.head.src c.args.head.dst
+    (net_view p v (g.R.Waiting.unfinished p w) xs c.args.counters.now) c.args.chain c.args.head.src c.args.head.dst
     c.args.head.proto
-    (seen q (record { pcbs = c.input.new.pcbs; queues = from_three c.self.inside.parts.queues })
+    (net_view q (record { pcbs = c.input.new.pcbs; queues = from_three c.self.inside.parts.queues })
     (g.R.Waiting.unfinished q w) (g.R.Reclaim.owned q w) c.count_ended.new.self))
     c.self.view_is
     (dropped_to {h = c.args.head} c.in-Drop.why socks owned c.in-Drop.ensures.answer.1
