@@ -4,9 +4,9 @@ bench="$(cd "$(dirname "${BASH_SOURCE[0]}")" && pwd)"
 crates="$bench/../crates"
 kit="$(dirname "$("${RT:-rt}" doc)")" # its C archive has the functions that call malloc and free
 
-# The crate whose static library has a subject: the subject's own crate if there is one.
+# The crate whose static library has a subject: bench_packets if the subject has none of its own.
 crate_of() { # SUBJECT
-    if [ -d "$crates/bench_$1" ]; then echo "bench_$1"; else echo bench_c; fi
+    if [ -d "$crates/bench_$1" ]; then echo "bench_$1"; else echo bench_packets; fi
 }
 
 # Proves and builds a static library.
@@ -52,11 +52,10 @@ check_limits() { # SUBJECT
     done < <(grep -v '^#' "$bench/limits")
 }
 
-# The instructions of each turn, from the difference of 101 turns and one, or `-` if the row doesn't have the column.
+# The instructions of each turn, from the difference of 101 turns and one.
 print_instructions() { # WORK
-    local each column columns row rows once more status
+    local column columns row rows once more
     counts=()
-    each="$("$1/bench" each)"
     mapfile -t columns < <("$1/bench" columns)
     printf '%-40s' 'instructions'
     printf ' %12s' "${columns[@]}"
@@ -65,16 +64,10 @@ print_instructions() { # WORK
     for row in "${rows[@]}"; do
         printf '%-40s' "$row"
         for column in "${columns[@]}"; do
-            status=0
-            "$1/bench" turns "$row" "$column" 1 || status=$?
-            if [ "$status" = 3 ]; then
-                printf ' %12s' -
-                continue
-            fi
-            [ "$status" = 0 ] || { echo "$row: status $status" >&2; return 1; }
+            "$1/bench" turns "$row" "$column" 1 || { echo "$row: it went wrong" >&2; return 1; }
             once="$(counted "$1/bench" turns "$row" "$column" 1)"
             more="$(counted "$1/bench" turns "$row" "$column" 101)"
-            counts[$row|$column]=$(((more - once) / (100 * each)))
+            counts[$row|$column]=$(((more - once) / 100))
             printf ' %12d' "${counts[$row|$column]}"
         done
         echo

@@ -4,7 +4,6 @@
  *   bench                     checks the results, and prints nanoseconds. ROUNDS sets another number of rounds than 100
  *   bench rows                prints the rows' names, one on each line
  *   bench columns             prints the columns' names, one on each line
- *   bench each                prints how often a turn does the counted work
  *   bench turns ROW COLUMN N  works N turns of a row and column, for a counter of instructions
  */
 #ifndef BSDUDP_TIMER_H
@@ -26,13 +25,10 @@ typedef struct {
     const char *name;
     /* Works this many turns in this column. Returns false if something went wrong. Each call repeats one-time work. */
     bool (*run)(int column, uint64_t turns);
-    /* The first column that the row has. */
-    int from;
 } Row;
 
 typedef struct {
-    const char *what;           /* is done, and timed */
-    uint64_t each;              /* how often a turn does it */
+    const char *what;           /* a turn does, and is timed */
     const char *const *columns; /* their names */
     int column_count;
     const Row *rows;
@@ -96,9 +92,7 @@ static inline void print_rows(const Table *table, double taken[][TIMER_MOST_COLU
     for (int r = 0; r < table->row_count; r++) {
         printf("%-40s", table->rows[r].name);
         for (int c = 0; c < table->column_count; c++)
-            if (c < table->rows[r].from)
-                printf(" %12s", "-");
-            else if (ratios)
+            if (ratios)
                 printf(" %12.2f", taken[r][c] / taken[0][c]);
             else
                 printf(" %9.1f ns", taken[r][c]);
@@ -119,8 +113,6 @@ static inline void print_times(const Table *table)
         for (int c = 0; c < table->column_count; c++)
             for (int r = 0; r < table->row_count; r++) {
                 const Row *row = &table->rows[r];
-                if (c < row->from)
-                    continue;
                 if (round == 0) {
                     turns[r][c] = turns_of(row, c);
                     few[r][c] = many[r][c] = 1e18;
@@ -129,8 +121,8 @@ static inline void print_times(const Table *table)
                 many[r][c] = lesser(many[r][c], time_taken(row, c, 3 * turns[r][c]));
             }
     for (int r = 0; r < table->row_count; r++)
-        for (int c = table->rows[r].from; c < table->column_count; c++)
-            many[r][c] = (many[r][c] - few[r][c]) / (2.0 * (double)turns[r][c] * (double)table->each);
+        for (int c = 0; c < table->column_count; c++)
+            many[r][c] = (many[r][c] - few[r][c]) / (2.0 * (double)turns[r][c]);
     print_rows(table, many, false);
     if (table->row_count > 1)
         print_rows(table, many, true);
@@ -140,15 +132,12 @@ static inline int work_turns(const Table *table, const char *row, const char *co
 {
     for (int r = 0; r < table->row_count; r++)
         for (int c = 0; c < table->column_count; c++)
-            if (!strcmp(row, table->rows[r].name) && !strcmp(column, table->columns[c])) {
-                if (c < table->rows[r].from)
-                    return 3;
+            if (!strcmp(row, table->rows[r].name) && !strcmp(column, table->columns[c]))
                 return table->rows[r].run(c, turns) ? 0 : 1;
-            }
     return 2;
 }
 
-/* The program, after its checks. Status 3: the row doesn't have the column. */
+/* The program, after its checks. */
 static inline int bench_main(int argc, char **argv, const Table *table)
 {
     if (argc == 1)
@@ -159,8 +148,6 @@ static inline int bench_main(int argc, char **argv, const Table *table)
     else if (argc == 2 && !strcmp(argv[1], "columns"))
         for (int c = 0; c < table->column_count; c++)
             puts(table->columns[c]);
-    else if (argc == 2 && !strcmp(argv[1], "each"))
-        printf("%llu\n", (unsigned long long)table->each);
     else if (argc == 5 && !strcmp(argv[1], "turns"))
         return work_turns(table, argv[2], argv[3], strtoull(argv[4], NULL, 10));
     else

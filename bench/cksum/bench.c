@@ -10,7 +10,7 @@ enum { MOST = 65535 };
 static const size_t LENGTHS[] = {20, 1500, 9216, MOST};
 static const char *const COLUMNS[] = {"20", "1500", "9216", "65535"};
 
-/* crates/bench_c/src/cksum.rt */
+/* crates/bench_packets/src/cksum.rt */
 uint16_t bsdudp_sum_slice(const uint8_t *bytes, size_t len);
 uint16_t bsdudp_checksum(const uint8_t *bytes, size_t len);
 uint16_t bsdudp_checksum_of_two(const uint8_t *front, size_t front_len, const uint8_t *back,
@@ -163,9 +163,9 @@ RUN(c_avx2)
 
 /* The last only if the processor has AVX2. */
 static const Row ROWS[] = {
-    {"sum_slice", run_by_sum_slice, 0}, {"Sum", run_by_sum, 0},     {"Sum-in-two", run_by_sum_in_two, 0},
-    {"memcpy", run_by_memcpy, 0},       {"c-plain", run_c_plain, 0}, {"c-lanes", run_c_lanes, 0},
-    {"c-sse2", run_c_sse2, 0},          {"c-avx2", run_c_avx2, 0},
+    {"sum_slice", run_by_sum_slice}, {"Sum", run_by_sum},      {"Sum-in-two", run_by_sum_in_two},
+    {"memcpy", run_by_memcpy},       {"c-plain", run_c_plain}, {"c-lanes", run_c_lanes},
+    {"c-sse2", run_c_sse2},          {"c-avx2", run_c_avx2},
 };
 
 static Body *const BODIES[] = {by_sum_slice, by_sum, by_sum_in_two, c_plain, c_lanes, c_sse2, c_avx2};
@@ -187,7 +187,7 @@ static bool agree(size_t len)
 
 int main(int argc, char **argv)
 {
-    Table table = {"a sum of bytes", 1, COLUMNS, COUNT_OF(COLUMNS), ROWS, COUNT_OF(ROWS)};
+    Table table = {"a sum of bytes", COLUMNS, COUNT_OF(COLUMNS), ROWS, COUNT_OF(ROWS)};
     if (!has_avx2())
         table.row_count--;
     fill_bytes(bytes, MOST);

@@ -12,7 +12,7 @@
 
 enum { MBUFS = 512, ALL_MBUFS = 65535, MOST_FRAGMENTS = 8000, PIECE = 8, PROTOCOL = 17, MOST = 1472 };
 
-/* crates/bench_stack, crates/bench_c */
+/* crates/bench_stack, crates/bench_packets */
 uint32_t bsdudp_send_and_receive(const uint8_t *bytes, size_t len, uint32_t mbufs, uint8_t sockets, uint8_t at,
                                  uint32_t times);
 uint32_t bsdudp_reassemble(const uint8_t *packets, size_t len, uint32_t mbufs, uint32_t times);

@@ -82,7 +82,7 @@ measure_growth() { # WORK
         echo "skipped: it counts instructions by valgrind"
         return
     fi
-    build_bench "$1" growth "bench_stack bench_c"
+    build_bench "$1" growth "bench_stack bench_packets"
     while IFS=$'\t' read -r grows what turns sizes; do
         [ "$grows" = "$last" ] || print_head "$grows" "$sizes"
         last="$grows" costs=()

@@ -7,7 +7,7 @@
 
 enum { MOST = 9000, MTU = 1500, LARGE_MTU = 4352, PORT = 7, OTHER_PORT = 99, FILLS = 600 };
 
-/* crates/bench_c/src/packets.rt */
+/* crates/bench_packets/src/packets.rt */
 uint32_t bsdudp_exchange(const uint8_t *bytes, size_t len, uint16_t mtu, bool is_connected, uint32_t times);
 uint32_t bsdudp_loop_back(const uint8_t *bytes, size_t len, uint32_t times);
 uint32_t bsdudp_send_refused(const uint8_t *bytes, size_t len, bool is_connected, uint32_t times);
@@ -144,30 +144,30 @@ static bool lwip_wrong_checksum(int column, uint64_t turns)
 #endif
 
 static const Row ROWS[] = {
-    {"sendto, tx, rx, recvfrom", exchanged, 0},
-    {"the same on a link of 4,352 bytes", exchanged_on_a_larger_link, 0},
-    {"the same by a connected socket", exchanged_by_a_connected_socket, 0},
-    {"sendto by loopback, recvfrom", looped, 0},
-    {"rx, recvfrom", received, 0},
-    {"rx: no such port", no_port, 0},
-    {"rx: full receive queue", full_queue, 0},
-    {"rx: wrong UDP checksum", wrong_checksum, 0},
-    {"rx: wrong header checksum", wrong_header_checksum, 0},
-    {"rx: another destination", for_another_host, 0},
-    {"rx: broadcast, no socket", broadcast_to_none, 0},
-    {"rx: broadcast, recvfrom of one", broadcast_to_one, 0},
-    {"rx: broadcast, recvfrom of three", broadcast_to_three, 0},
-    {"sendto, output queue full", refused, 0},
-    {"sendto, connected, output queue full", refused_to_a_connected_socket, 0},
+    {"sendto, tx, rx, recvfrom", exchanged},
+    {"the same on a link of 4,352 bytes", exchanged_on_a_larger_link},
+    {"the same by a connected socket", exchanged_by_a_connected_socket},
+    {"sendto by loopback, recvfrom", looped},
+    {"rx, recvfrom", received},
+    {"rx: no such port", no_port},
+    {"rx: full receive queue", full_queue},
+    {"rx: wrong UDP checksum", wrong_checksum},
+    {"rx: wrong header checksum", wrong_header_checksum},
+    {"rx: another destination", for_another_host},
+    {"rx: broadcast, no socket", broadcast_to_none},
+    {"rx: broadcast, recvfrom of one", broadcast_to_one},
+    {"rx: broadcast, recvfrom of three", broadcast_to_three},
+    {"sendto, output queue full", refused},
+    {"sendto, connected, output queue full", refused_to_a_connected_socket},
 #ifdef PACKETS_LWIP
-    {"lwIP: input, receive", lwip_received, 0},
-    {"lwIP: no such port", lwip_no_port, 0},
-    {"lwIP: full receive queue", lwip_full_queue, 0},
-    {"lwIP: wrong UDP checksum", lwip_wrong_checksum, 0},
+    {"lwIP: input, receive", lwip_received},
+    {"lwIP: no such port", lwip_no_port},
+    {"lwIP: full receive queue", lwip_full_queue},
+    {"lwIP: wrong UDP checksum", lwip_wrong_checksum},
 #endif
 };
 
-static const Table TABLE = {"a packet or a send", 1, COLUMNS, COUNT_OF(COLUMNS), ROWS, COUNT_OF(ROWS)};
+static const Table TABLE = {"a packet or a send", COLUMNS, COUNT_OF(COLUMNS), ROWS, COUNT_OF(ROWS)};
 
 int main(int argc, char **argv)
 {

@@ -10,7 +10,7 @@ measure_packets() { # WORK
     else
         echo "lwIP's sources aren't available by apt-get: lwIP is skipped"
     fi
-    build_bench "$1" packets bench_c "${more[@]}"
+    build_bench "$1" packets bench_packets "${more[@]}"
     print_tables "$1" packets
     check_drops
 }

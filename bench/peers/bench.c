@@ -13,7 +13,7 @@
 
 enum { MOST = 9000, PROTOCOL = 99, LEN = 9216 + 8, EACH = 1480, PACKETS = 7, MBUFS = 512 };
 
-/* crates/bench_stack, crates/bench_c */
+/* crates/bench_stack, crates/bench_packets */
 uint32_t bsdudp_send_and_receive(const uint8_t *bytes, size_t len, uint32_t mbufs, uint8_t sockets, uint8_t at,
                                  uint32_t times);
 uint32_t bsdudp_reassemble(const uint8_t *packets, size_t len, uint32_t mbufs, uint32_t times);
@@ -49,15 +49,15 @@ LWIP(lwip_O3_pools)
 
 /* measure.sh has the flags of each. */
 static const Row ROWS[] = {
-    {"ours", ours, 0},
-    {"lwIP -O2", lwip_O2, 0},
-    {"the same, its third sum", lwip_O2_sum3, 0},
-    {"lwIP -O3 -flto, no asserts", lwip_O3, 0},
-    {"the same, a sum by SSE2", lwip_O3_sse2, 0},
-    {"the same, pools for its heap", lwip_O3_pools, 0},
+    {"ours", ours},
+    {"lwIP -O2", lwip_O2},
+    {"the same, its third sum", lwip_O2_sum3},
+    {"lwIP -O3 -flto, no asserts", lwip_O3},
+    {"the same, a sum by SSE2", lwip_O3_sse2},
+    {"the same, pools for its heap", lwip_O3_pools},
 };
 
-static const Table TABLE = {"a datagram", 1, COLUMNS, COUNT_OF(COLUMNS), ROWS, COUNT_OF(ROWS)};
+static const Table TABLE = {"a datagram", COLUMNS, COUNT_OF(COLUMNS), ROWS, COUNT_OF(ROWS)};
 
 /* The port's sum for lwIP (sum.c), which lwIP doesn't check. */
 unsigned short peers_sum(const void *bytes, int len);

@@ -32,6 +32,6 @@ measure_peers() { # WORK
     build_lwip "$1" lwip_O3 "${lwip_fast[@]}"
     build_lwip "$1" lwip_O3_sse2 "${lwip_fast[@]}" -DPEERS_SUM
     build_lwip "$1" lwip_O3_pools "${lwip_best[@]}"
-    build_bench "$1" peers "bench_stack bench_c" "$bench/peers/sum.c" "$1"/liblwip_*.so
+    build_bench "$1" peers "bench_stack bench_packets" "$bench/peers/sum.c" "$1"/liblwip_*.so
     print_tables "$1" peers
 }

@@ -1,19 +1,15 @@
 /*
  * Fragments that arrive as packets: each is stored, its header is read and tested, and it joins the others of its
- * datagram.
- *
- *   seven fragments    those of a datagram with 9,216 bytes after the UDP header, at MTU 1500, in three orders; the
- *                      datagram is freed when it's whole
- *   stored alone       the same packets are only stored, their headers read, and freed
+ * datagram. They are those of a datagram with 9,216 bytes after the UDP header, at MTU 1500, in three orders; the
+ * datagram is freed when it's whole.
  */
 #include "packets.h"
 #include "timer.h"
 
 enum { LEN = 9216 + 8, EACH = 1480, PACKETS = 7, UDP = 17, MBUFS = 64 };
 
-/* crates/bench_c */
+/* crates/bench_packets */
 uint32_t bsdudp_reassemble(const uint8_t *packets, size_t len, uint32_t mbufs, uint32_t times);
-uint32_t bsdudp_store_packets(const uint8_t *packets, size_t len, uint32_t times);
 
 /* The packets of the datagram, 1,500 bytes apart, in each of the orders. */
 static const int order[][PACKETS] = {{0, 1, 2, 3, 4, 5, 6}, {6, 5, 4, 3, 2, 1, 0}, {3, 0, 6, 2, 5, 1, 4}};
@@ -31,19 +27,13 @@ static bool made_whole(int column, uint64_t turns)
     return bsdudp_reassemble(packets[column], sizeof packets[column], MBUFS, (uint32_t)turns) == turns;
 }
 
-static bool stored_alone(int column, uint64_t turns)
-{
-    return bsdudp_store_packets(packets[column], sizeof packets[column], (uint32_t)turns) == PACKETS * turns;
-}
-
 static const char *const columns[] = {"in order", "reversed", "shuffled"};
 
 static const Row rows[] = {
-    {"seven fragments, made whole", made_whole, 0},
-    {"stored alone", stored_alone, 0},
+    {"seven fragments, made whole", made_whole},
 };
 
-static const Table table = {"the fragments of a datagram", 1, columns, COUNT_OF(columns), rows, COUNT_OF(rows)};
+static const Table table = {"the fragments of a datagram", columns, COUNT_OF(columns), rows, COUNT_OF(rows)};
 
 int main(int argc, char **argv)
 {

@@ -27,11 +27,11 @@ static bool to_itself(int column, uint64_t turns)
 }
 
 static const Row ROWS[] = {
-    {"sendto, tx, rx, recvfrom", to_another, 0},
-    {"sendto by loopback, recvfrom", to_itself, 0},
+    {"sendto, tx, rx, recvfrom", to_another},
+    {"sendto by loopback, recvfrom", to_itself},
 };
 
-static const Table TABLE = {"a datagram", 1, COLUMNS, COUNT_OF(COLUMNS), ROWS, COUNT_OF(ROWS)};
+static const Table TABLE = {"a datagram", COLUMNS, COUNT_OF(COLUMNS), ROWS, COUNT_OF(ROWS)};
 
 int main(int argc, char **argv)
 {

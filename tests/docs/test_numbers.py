@@ -185,18 +185,6 @@ def second_pieces() -> list[float]:
     return [two - one for one, two in zip(checksums()["Sum"][:4], checksums()["Sum-in-two"][:4])]
 
 
-def further_mbuf() -> float:
-    """Returns what a cluster more in a chain adds to its sum: 65,507 bytes are in 32 clusters, and 9,216 in five."""
-    rows = costs("Packets of a datagram", "Body", "4,608 bytes", "9,216", "65,507")
-    more = [chain - piece for chain, piece in zip(rows["`cksum_chain`"], rows["`sum_slice`"])]
-    return (more[2] - more[1]) / (32 - 5)
-
-
-def copied_cluster() -> float:
-    rows = costs("Operations on chains", "Operation", "instructions")
-    return rows["`m_copym` of 9,216 bytes, and the copy freed"][0] / 5
-
-
 LWIP, COPIES, SOCKETS = (f"lwIP 2.1.3, `-Os`{it}" for it in ("", ", with two more copies", ", by its sockets"))
 BEST = "the same, pools for its heap"
 X86, M3 = ("x86-64, `-O3`",), ("Cortex-M3, `-Os`", "echo: text", "call stack")
@@ -245,12 +233,6 @@ ROUNDED = [
         lambda: [checksum("c-sse2"), checksum("c-avx2")],
     ),
     (PERFORMANCE, "odd border costs N to N instructions more", lambda: [min(second_pieces()), max(second_pieces())]),
-    (
-        PERFORMANCE,
-        "cost depends on the mbufs (N instructions each)",
-        lambda: [copied_cluster()],
-    ),
-    (PERFORMANCE, "each further mbuf costs about N instructions", lambda: [further_mbuf()]),
     (
         PERFORMANCE,
         "lwIP takes N to N for the same",

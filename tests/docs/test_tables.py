@@ -1,5 +1,5 @@
-"""bench/tables: it knows each table of instructions in docs/performance.md, each of its rows, and the sentences that
-repeat a run's numbers; and each row that it takes is one of a benchmark."""
+"""bench/tables: it knows each table of instructions in docs/performance.md and each of its rows, and each row that it
+takes is one of a benchmark."""
 import importlib.machinery
 import importlib.util
 import re
@@ -19,7 +19,6 @@ OTHERS = {
     "ns-3's applications": ["| | bsdudp | ns-3's own | ratio |", "| | 100 nodes | 1,000 nodes |"],
     "Scripts": ["| Lines |"],
     "The checksum": ["| Body | What it is |"],
-    "Times on one host": ["| Look-up, pcb_table to c-list |", "| Other work |"],
     "": ["| Question |"],
 }
 PARTS = re.compile(r"`portable/core |frames: |, with two more copies|, by its sockets|`")
@@ -68,19 +67,16 @@ def test_each_table_of_instructions_is_written():
     none_of(faults)
 
 
-def test_each_row_and_sentence_is_written():
-    """With a made-up run, each row of each table gets its numbers, and each sentence does."""
+def test_each_row_is_written():
+    """With a made-up run, each row of each table gets its numbers."""
     module, page = tables(), read(PAGE)
     faults = []
     for it in module.TABLES:
-        text = [line for start, end in module.tables_of(page, it) for line in page[start:end].split("\n")[3:]]
-        for line in text:
+        start, end = module.place_of(page, it)
+        for line in page[start:end].split("\n")[3:]:
             if module.new_line(line, it, Asked(*["54,321"] * 12)) == line:
                 faults.append(Fault(PAGE, f"no number of a run is written into the row {line}"))
     none_of(faults)
-    run = {it.subject: Asked(*["54,321"] * 12) for it in module.SENTENCES}
-    new = module.with_sentences(page, run)
-    assert new.count("54,321") >= 3 * len(module.SENTENCES) - 2, "a sentence didn't get its numbers"
 
 
 def test_times_are_not_written():
@@ -99,9 +95,9 @@ def test_times_are_not_written():
 def test_each_row_is_of_a_benchmark():
     """Each row that bench/tables takes from a run is named in its subject's sources."""
     module, faults = tables(), []
-    for it in [*module.TABLES, *module.SENTENCES]:
+    for it in module.TABLES:
         rows = Asked(*["54,321"] * 12)
-        for cells in it.rows.values() if isinstance(it, module.Table) else [it.cells]:
+        for cells in it.rows.values():
             cells(rows)
         folder = TOP / "bench" / it.subject
         text = "".join(path.read_text("utf-8") for path in sorted(folder.iterdir()) if path.is_file())
@@ -116,12 +112,12 @@ def test_each_row_is_of_a_benchmark():
 def test_a_run_is_read():
     """The three forms in which bench/run.sh prints tables."""
     run = "\n".join([
-        "== pool",
-        f"{'instructions':40} {'each':>12}",
-        f"{'get, put':40} {1038:>12}",
-        f"{'get, put in C':40} {'-':>12}",
-        f"{'a pair of calls':40} {'each':>12}",
-        f"{'get, put':40} {7.5:>9.1f} ns",
+        "== packets",
+        f"{'instructions':40} {'2 bytes':>12}",
+        f"{'rx, recvfrom':40} {1038:>12}",
+        f"{'rx: no such port':40} {226:>12}",
+        f"{'a packet':40} {'2 bytes':>12}",
+        f"{'rx, recvfrom':40} {7.5:>9.1f} ns",
         "== growth",
         f"{'open sockets':32} {1:>9} {64:>9}",
         f"  {'a datagram to the oldest':30} {915:>9} {1981:>9}   +16.9 for each more",
@@ -137,7 +133,7 @@ def test_a_run_is_read():
         "",
     ])  # fmt: skip
     found = tables().counted(run)
-    assert found["pool"] == {"get, put": ["1,038"], "get, put in C": ["-"]}
+    assert found["packets"] == {"rx, recvfrom": ["1,038"], "rx: no such port": ["226"]}
     assert found["growth"] == {
         "a datagram to the oldest": ["915", "1,981", "16.9 for each more"],
         "a datagram to the newest": ["915", "981", "flat"],

@@ -1,3 +1,0 @@
-mod Datagrams
-mod PacketLemmas
-mod Reassembly

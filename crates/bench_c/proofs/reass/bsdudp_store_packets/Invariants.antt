@@ -1,5 +1,0 @@
-use Rattle.ip_reass.specs.Table.{IsReady}
-use Rattle.bench_c.proofs.reass.bsdudp_store_packets.Given as goal
-
-abbrev pub invariant-turns : goal.invariant-turns
-invariant-turns l = IsReady l.pool l.table
