@@ -119,7 +119,12 @@ TOOLS = {
     "mypy": Tool(command("mypy"), "mypy"),
     "groff": Tool(command("groff"), "groff-base"),
     "node": Tool(command("node"), "nodejs"),
-    "chromium": Tool(command("chromium", "chromium-browser", "google-chrome"), "chromium"),
+    "chromium": Tool(
+        lambda: command("chromium", "chromium-browser", "google-chrome")()
+        and command("chromedriver")()
+        and module("selenium")(),
+        "chromium chromium-driver python3-selenium",
+    ),
     "wasm-opt": Tool(command("wasm-opt"), "binaryen"),
     "wasm2c": Tool(command("wasm2c"), "wabt"),
     "qemu-arm": Tool(command("qemu-system-arm"), "qemu-system-arm"),

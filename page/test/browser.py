@@ -6,11 +6,8 @@ a contrast of at least 4.5, in light and in dark. All elements that take input h
 Screenshots are kept in the folder SHOTS. If all tests pass, it prints nothing."""
 import base64
 import json
-import os
 import pathlib
 import shutil
-import signal
-import subprocess
 import sys
 import tempfile
 
@@ -31,66 +28,31 @@ DOUBLE = 640
 # The screenshots that are kept.
 SHOT = [("light", 1600), ("dark", 1600), ("light", 360)]
 NAMES = ["chromium", "chromium-browser", "google-chrome"]
-# The time limits in seconds for the start of Chromium, and for its replies.
-START, END = 120, 1200
-
-
-def give_up(_number, _frame):
-    raise RuntimeError("Chromium doesn't reply")
+# The time limit in seconds for a reply of Chromium.
+END = 1200
 
 
 class Browser:
-    """Chromium, controlled through two pipes. A message is JSON and ends with a zero byte."""
+    """Chromium, controlled by chromedriver."""
 
     def __init__(self, home):
-        program = next(filter(None, map(shutil.which, NAMES)))
-        read, self.asks = os.pipe()
-        self.answers, write = os.pipe()
-        how = ["--headless=new", "--no-sandbox", "--disable-gpu", "--no-first-run", "--remote-debugging-pipe"]
-        words = [program, *how, f"--user-data-dir={home}", "about:blank"]
+        # here, since tests that lack it import this module, too
+        from selenium import webdriver
 
-        def in_place():
-            os.dup2(read, 3)
-            os.dup2(write, 4)
-
-        # Chromium reserves the descriptors 3 and 4
-        high = [os.dup(it) for it in (read, write)] if min(read, write) < 5 else [read, write]
-        read, write = high
-        quiet = {"stdout": subprocess.DEVNULL, "stderr": subprocess.DEVNULL}
-        self.child = subprocess.Popen(words, preexec_fn=in_place, close_fds=False, **quiet)
-        self.number, self.rest, self.session, self.events = 0, b"", None, []
-        page = next(it for it in self.ask("Target.getTargets")["targetInfos"] if it["type"] == "page")
-        self.session = self.ask("Target.attachToTarget", targetId=page["targetId"], flatten=True)["sessionId"]
-        for part in ("Page", "Runtime", "Log", "Network", "Accessibility"):
-            self.ask(f"{part}.enable")
+        program, driver = (next(filter(None, map(shutil.which, it)), None) for it in (NAMES, ["chromedriver"]))
+        if not program or not driver:
+            raise OSError("there is no Chromium, or no chromedriver")
+        options = webdriver.ChromeOptions()
+        options.binary_location = program
+        for it in ("--headless=new", "--no-sandbox", "--disable-gpu", "--no-first-run", f"--user-data-dir={home}"):
+            options.add_argument(it)
+        options.set_capability("goog:loggingPrefs", {"browser": "ALL", "performance": "ALL"})
+        self.driver = webdriver.Chrome(service=webdriver.chrome.service.Service(driver), options=options)
+        self.driver.command_executor.set_timeout(END)
+        self.ask("Accessibility.enable")
 
     def ask(self, method, **params):
-        self.number += 1
-        message = {"id": self.number, "method": method, "params": params}
-        if self.session:
-            message["sessionId"] = self.session
-        self.write(message)
-        while True:
-            answer = self.read()
-            if answer.get("id") == self.number:
-                if "error" in answer:
-                    raise RuntimeError(f"{method}: {answer['error']['message']}")
-                return answer["result"]
-            self.events.append(answer)
-
-    def write(self, message):
-        left = json.dumps(message).encode() + b"\0"
-        while left:
-            left = left[os.write(self.asks, left) :]
-
-    def read(self):
-        while b"\0" not in self.rest:
-            more = os.read(self.answers, 1 << 16)
-            if not more:
-                raise RuntimeError("Chromium ended")
-            self.rest += more
-        message, _, self.rest = self.rest.partition(b"\0")
-        return json.loads(message)
+        return self.driver.execute_cdp_cmd(method, params)
 
     def run(self, code):
         """Returns the result of a piece of JavaScript in the page."""
@@ -110,20 +72,15 @@ class Browser:
 
     def complaints(self):
         """Returns the console's messages, the exceptions, and the network requests."""
-        for event in self.events:
-            what, about = event.get("method"), event.get("params", {})
-            if what == "Runtime.exceptionThrown":
-                yield about["exceptionDetails"].get("exception", {}).get("description", "an exception")
-            elif what == "Runtime.consoleAPICalled" or what == "Log.entryAdded":
-                yield f"the console: {json.dumps(about)[:200]}"
-            elif what == "Network.requestWillBeSent":
-                url = about["request"]["url"]
-                if not url.startswith(("file:", "data:", "blob:")):
+        yield from (f"the console: {it['message'][:200]}" for it in self.driver.get_log("browser"))
+        for event in (json.loads(it["message"])["message"] for it in self.driver.get_log("performance")):
+            if event["method"] == "Network.requestWillBeSent":
+                url = event["params"]["request"]["url"]
+                if not url.startswith(("file:", "data:", "blob:", "chrome:")):
                     yield f"it asked the network for {url}"
 
     def end(self):
-        self.child.terminate()
-        self.child.wait(20)
+        self.driver.quit()
 
 
 # Scripts that name a file, and those that have wrong lines.
@@ -307,15 +264,12 @@ def main():
     said = parser.parse_args()
     page, examples, lessons, shots = said.page, said.examples, said.lessons, said.shots
     shots.mkdir(parents=True, exist_ok=True)
-    signal.signal(signal.SIGALRM, give_up)
     with tempfile.TemporaryDirectory(ignore_cleanup_errors=True) as home:
-        signal.alarm(START)
         try:
             browser = Browser(home)
-        except (RuntimeError, OSError) as fault:
+        except (ImportError, OSError) as fault:
             print(f"the page: {fault}, so it isn't tried in a browser", file=sys.stderr)
             return 0
-        signal.alarm(END)
         try:
             browser.resize(1600)
             browser.ask("Page.navigate", url=page.resolve().as_uri())
@@ -324,7 +278,6 @@ def main():
             faults = [*play_all(browser, examples, lessons), *look_all(browser, shots), *try_keys(browser)]
             faults += browser.complaints()
         finally:
-            signal.alarm(0)
             browser.end()
     for fault in faults:
         print(f"page: {fault}", file=sys.stderr)

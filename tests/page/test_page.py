@@ -1,6 +1,7 @@
 """The page plays each example and each lesson: its module in node, which also plays random scripts and compares them
 with the programs, and the whole page in headless Chromium, with tests of its layout, colours and keys."""
 import subprocess
+import sys
 
 import pytest
 
@@ -25,4 +26,4 @@ def test_module_in_node(page, bsdudp, bsdplay):
 @pytest.mark.long
 @pytest.mark.needs("chromium")
 def test_page_in_chromium(page):
-    silent("page/test/browser.py", page, *SCRIPTS, page.with_name("shots"))
+    silent(sys.executable, "page/test/browser.py", page, *SCRIPTS, page.with_name("shots"))
