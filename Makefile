@@ -68,8 +68,7 @@ install:
 
 packages:
 	@$(python)
-	@$(call need,dpkg-deb,it is part of Debian)
-	@$(call need,dpkg-shlibdeps,apt-get install dpkg-dev)
+	@$(call need,dh,apt-get install debhelper dh-python)
 	@dist/deb "$(FOLDER)"
 
 page:

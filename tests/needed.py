@@ -104,6 +104,7 @@ TOOLS = {
     "cmake": Tool(lambda: command("cmake")() and command("make")(), "cmake make"),
     "ns-3 3.37": Tool(runs("pkg-config", "--exists", *NS3), "libns3-dev libgsl-dev libsqlite3-dev"),
     "dpkg-dev": Tool(command("dpkg-shlibdeps"), "dpkg-dev"),
+    "debhelper": Tool(lambda: command("dh")() and command("dh_python3")(), "debhelper dh-python"),
     "lintian": Tool(command("lintian"), "lintian"),
     "libpcap": Tool(includes("pcap/pcap.h"), "libpcap-dev"),
     "tshark": Tool(command("tshark"), "tshark"),

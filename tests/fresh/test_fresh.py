@@ -109,7 +109,7 @@ MISSING = {
         "make test": "apt-get install -y python3-pytest",
         "make lib": "apt-get install gcc",
         "make install PREFIX=/tmp/it": "apt-get install gcc",
-        "make packages": "apt-get install dpkg-dev",
+        "make packages": "apt-get install debhelper dh-python",
         "make page": "apt-get install binaryen",
         "capi/build /tmp/it": "apt-get install gcc",
         "page/build": "apt-get install binaryen",

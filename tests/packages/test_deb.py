@@ -16,7 +16,7 @@ from tests.packages.conftest import left_out
 pytestmark = [
     pytest.mark.slow,
     pytest.mark.packages,
-    pytest.mark.needs("dpkg-dev"),
+    pytest.mark.needs("debhelper"),
     pytest.mark.xdist_group("packages"),
 ]
 ON_A_MACHINE = pytest.mark.needs("root", "overlay", "debootstrap", "rt", "git")

@@ -11,7 +11,7 @@ from tests.cases import TOP
 pytestmark = [
     pytest.mark.slow,
     pytest.mark.packages,
-    pytest.mark.needs("root", "overlay", "debootstrap", "rt", "dpkg-dev"),
+    pytest.mark.needs("root", "overlay", "debootstrap", "rt", "debhelper"),
     pytest.mark.xdist_group("packages"),
 ]
 BESIDE = "python3,python3-scapy,gcc,libc6-dev"
