@@ -1,13 +1,9 @@
 -- The link's state that the fields mean (this project's own).
-use Rattle.std.specs.Prelude.{ℕ, ◌+◌, List, ◌++◌, length, map, take, drop}
+use Rattle.std.specs.Prelude.{map}
 use Rattle.flat_ether.specs.Links.{LinkState}
 use Rattle.ether_host.specs.Buffers.{held_in}
 use Rattle.ether_host.specs.Replies.{packets_left}
 use Rattle.ether_host.specs.declared.layer.LinkLayer.{LinkLayer}
-
--- bytes written over others, from a place on
-abbrev pub written : List ℕ → ℕ → List ℕ → List ℕ
-written bytes at new = take at bytes ++ (new ++ drop (at + length new) bytes)
 
 -- the state that a link shows
 abbrev pub link_seen : LinkLayer → LinkState

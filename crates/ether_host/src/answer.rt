@@ -8,13 +8,14 @@ ghost use Rattle.ether_host.specs.Answers.{CanAnswer};
 ghost use Rattle.ether_host.specs.Replies.{packets_left};
 
 use crate::buffer::ROOM;
-use crate::bytes::{put_bytes, u16_at, u32_at};
+use crate::bytes::put_bytes;
 use crate::reply::Reply;
 use flat_ether::{
     Answer, ECHO_REPLY, ECHO_REQUEST, ICMP_HEADER, PROTOCOL_ICMP, UNREACHABLE, UNREACHABLE_PORT,
 };
 use flat_model::Config;
 use in_cksum::{Sum, sum_slice};
+use ip_out::{u16_at, u32_at};
 use params::{FIRST_MULTICAST, IP_HEADER, IP_UDP_HEADERS, LOOPBACK};
 
 /// Bytes of an IP header.

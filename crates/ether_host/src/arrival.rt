@@ -7,13 +7,13 @@ ghost use Rattle.ether_host.specs.Answers.{CanAnswer};
 ghost use Rattle.flat_ether.specs.Links.{answers_by, answers_now, answers_with, asks, counts_conflict, counts_icmp_dropped, receives_arp, ignores, is_busy, is_conflict, learns, makes_way, puts_echo, puts_unreachable, queues_reply, is_sound_arp, refuses, reports_unreachable};
 
 use crate::answer::{echo_reply, port_unreachable};
-use crate::bytes::u32_at;
 use crate::frames::read_arp;
 use crate::layer::LinkLayer;
 use crate::table::{mac_of, place_of, put};
 use flat_ether::{
     ARP_KEEP_TICKS, ARP_REQUEST, Answer, Arp, Neighbour, PENDING_REPLIES, PendingReply, Route,
 };
+use ip_out::u32_at;
 
 impl LinkLayer {
     ghost use Rattle.ether_host.specs.Inside.{link_seen};

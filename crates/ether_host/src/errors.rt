@@ -5,7 +5,6 @@ ghost use Rattle.flat_ether.specs.Errors.{error_at, error_in, error_of, error_fa
 ghost use Rattle.flat_ether.specs.Links.{adds_error_if, takes_error};
 
 use crate::answer::{HEADER, carried};
-use crate::bytes::{u16_at, u32_at};
 use crate::layer::LinkLayer;
 use arrayvec::ArrayVec;
 use flat_ether::{
@@ -14,6 +13,7 @@ use flat_ether::{
 };
 use flat_model::{Addr, Config};
 use in_cksum::sum_slice;
+use ip_out::{u16_at, u32_at};
 use params::PROTOCOL_UDP;
 
 /// Whether a packet is a whole ICMP packet to this host.

@@ -3,12 +3,13 @@ ghost use Rattle.std.specs.Prelude.{◌≡◌, ◌≤◌, ◌+◌, drop, length,
 ghost use Rattle.flat_ether.specs.declared.sizes.TheConstants.{ETHER_HEADER};
 ghost use Rattle.flat_ether.specs.Frames.{arp_bytes, arp_of, body_of, frame, header, is_arp, is_bad_source, is_martian, kind_of, packet_kind};
 
-use crate::bytes::{mac_at, put_bytes, put_u16, put_u32, u16_at, u32_at};
+use crate::bytes::{mac_at, put_bytes};
 use flat_ether::{
     ARP_BYTES, ARP_REPLY, ARP_REQUEST, Arp, ETHER_BROADCAST, ETHER_HEADER, ETHER_TYPE_ARP,
     ETHER_TYPE_IP, FrameKind, Mac,
 };
 use flat_model::Config;
+use ip_out::{put_u16, put_u32, u16_at, u32_at};
 use params::{FIRST_MULTICAST, IP_HEADER, LOOPBACK};
 
 /// The offset of the body of a frame.

@@ -5,7 +5,7 @@ ghost use Rattle.flat_ether.specs.declared.sizes.TheConstants.{ETHER_HEADER, ETH
 ghost use Rattle.flat_ether.specs.Claims.{claim_sent};
 ghost use Rattle.flat_ether.specs.Frames.{ether_broadcast};
 ghost use Rattle.flat_ether.specs.Links.{first_ready, gives_answer, gives_claim, gives_held, gives_own, gives_reply, gives_request, request};
-ghost use Rattle.ether_host.specs.Fronts.{buffer_front};
+ghost use Rattle.ether_host.specs.Fronts.{IsFrameGiven};
 ghost use Rattle.ether_host.specs.Buffers.{held_in};
 
 use crate::buffer::{PacketBuffer, drop_at};
@@ -70,9 +70,7 @@ impl LinkLayer {
     /// A probe or an announcement of the host's address, if one is due.
     pub(crate) fn give_claim(&mut self, buffer: &mut [u8]) -> Option<usize>
         requires { ETHER_HEADER + ETHER_MTU ≤ length buffer.old }
-        ensures frame { buffer_front result buffer.new ≡ (gives_claim (link_seen self.old)).0 }
-        ensures link { link_seen self.new ≡ (gives_claim (link_seen self.old)).1 }
-        ensures fits { IfSome result (λ n. n ≤ length buffer.new) }
+        ensures { IsFrameGiven (gives_claim (link_seen self.old)) result buffer.new (link_seen self.new) }
     {
         match self.claim.due() {
             ClaimFrame::Probe => Some(self.ask_for_own(buffer, 0)),
@@ -84,9 +82,7 @@ impl LinkLayer {
     /// The ARP reply that has been due longest.
     fn give_reply(&mut self, buffer: &mut [u8]) -> Option<usize>
         requires { ETHER_HEADER + ETHER_MTU ≤ length buffer.old }
-        ensures frame { buffer_front result buffer.new ≡ (gives_reply (link_seen self.old)).0 }
-        ensures link { link_seen self.new ≡ (gives_reply (link_seen self.old)).1 }
-        ensures fits { IfSome result (λ n. n ≤ length buffer.new) }
+        ensures { IsFrameGiven (gives_reply (link_seen self.old)) result buffer.new (link_seen self.new) }
     {
         if self.replies.is_empty() {
             return None;
@@ -106,9 +102,7 @@ impl LinkLayer {
     /// A request for the first neighbour for which one is due.
     fn give_request(&mut self, buffer: &mut [u8]) -> Option<usize>
         requires { ETHER_HEADER + ETHER_MTU ≤ length buffer.old }
-        ensures frame { buffer_front result buffer.new ≡ (gives_request (link_seen self.old)).0 }
-        ensures link { link_seen self.new ≡ (gives_request (link_seen self.old)).1 }
-        ensures fits { IfSome result (λ n. n ≤ length buffer.new) }
+        ensures { IsFrameGiven (gives_request (link_seen self.old)) result buffer.new (link_seen self.new) }
     {
         let at = due(self.neighbours.as_slice())?;
         let neighbour = self.neighbours[at];
@@ -120,9 +114,7 @@ impl LinkLayer {
     /// The first packet that waited and whose next hop is known now.
     fn give_held(&mut self, buffer: &mut [u8]) -> Option<usize>
         requires { ETHER_HEADER + ETHER_MTU ≤ length buffer.old }
-        ensures frame { buffer_front result buffer.new ≡ (gives_held (link_seen self.old)).0 }
-        ensures link { link_seen self.new ≡ (gives_held (link_seen self.old)).1 }
-        ensures fits { IfSome result (λ n. n ≤ length buffer.new) }
+        ensures { IsFrameGiven (gives_held (link_seen self.old)) result buffer.new (link_seen self.new) }
     {
         let (at, mac) = first_ready(self.neighbours.as_slice(), self.held.as_slice())?;
         let waiting = &self.held[at];
@@ -136,9 +128,7 @@ impl LinkLayer {
     /// The next packet of the reply that waits, if the hardware address of its next hop is known.
     fn give_answer(&mut self, buffer: &mut [u8]) -> Option<usize>
         requires { ETHER_HEADER + ETHER_MTU ≤ length buffer.old }
-        ensures frame { buffer_front result buffer.new ≡ (gives_answer (link_seen self.old)).0 }
-        ensures link { link_seen self.new ≡ (gives_answer (link_seen self.old)).1 }
-        ensures fits { IfSome result (λ n. n ≤ length buffer.new) }
+        ensures { IsFrameGiven (gives_answer (link_seen self.old)) result buffer.new (link_seen self.new) }
     {
         let mac = mac_of(self.neighbours.as_slice(), self.answer_hop)?;
         let len = self.answer.next(buffer)?;
@@ -148,9 +138,7 @@ impl LinkLayer {
     /// The next of these frames.
     pub(crate) fn give_own(&mut self, buffer: &mut [u8]) -> Option<usize>
         requires { ETHER_HEADER + ETHER_MTU ≤ length buffer.old }
-        ensures frame { buffer_front result buffer.new ≡ (gives_own (link_seen self.old)).0 }
-        ensures link { link_seen self.new ≡ (gives_own (link_seen self.old)).1 }
-        ensures fits { IfSome result (λ n. n ≤ length buffer.new) }
+        ensures { IsFrameGiven (gives_own (link_seen self.old)) result buffer.new (link_seen self.new) }
     {
         if let Some(len) = self.give_claim(buffer) {
             return Some(len);

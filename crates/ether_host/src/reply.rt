@@ -9,12 +9,12 @@ ghost use Rattle.ip_out.specs.Headings.{head_bytes};
 
 use crate::answer::HEADER;
 use crate::buffer::PacketBuffer;
-use crate::bytes::{put_bytes, u32_at};
+use crate::bytes::put_bytes;
 use crate::frames::BODY;
 use crate::share::{Share, share_at};
 use flat_ether::PROTOCOL_ICMP;
 use flat_model::Config;
-use ip_out::{IpHead, write_head};
+use ip_out::{IpHead, u32_at, write_head};
 use params::{FRAGMENT_UNIT, IP_DEFAULT_TTL, MIN_MTU};
 
 /// An ICMP message back to the sender of a packet, fragmented for the link, and how many of its packets were sent.

@@ -8,11 +8,11 @@ ghost use Rattle.ether_host.specs.Buffers.{held_in};
 ghost use Rattle.ether_host.specs.Fronts.{buffer_front};
 
 use crate::buffer::{PacketBuffer, ROOM, drop_at};
-use crate::bytes::u32_at;
 use crate::frames::{BODY, put_frame};
 use crate::layer::LinkLayer;
 use crate::table::{mac_of, place_of, put};
 use flat_ether::{ETHER_BROADCAST, ETHER_TYPE_IP, HELD_PACKETS, Mac, Neighbour, Route};
+use ip_out::u32_at;
 use params::IP_HEADER;
 
 /// Adds a packet, with its next hop, after those that wait already. It's written in its place, so that no copy of a
