@@ -1,11 +1,10 @@
 //! The checksums that would be right.
 ghost use Rattle.std.specs.Prelude.{◌≡◌, ◌≤◌, length, take, drop};
 ghost use Rattle.params.specs.declared.TheConstants.{IP_HEADER, UDP_HEADER};
-ghost use Rattle.flat_model.specs.Packets.Header as header;
 ghost use Rattle.play_why.specs.Values as texts;
 
 use flat_model::fold;
-use flat_plain::{checksum, pseudo_header, u16_at, u32_at};
+use flat_plain::{checksum, not_zero, pseudo_header, u16_at, u32_at};
 use script_loop::Buffer;
 
 /// The most bytes that a checksum covers.
@@ -32,13 +31,6 @@ fn pseudo_of(packet: &[u8], datagram: &[u8]) -> [u8; 12]
     ensures { result ≡ texts.pseudo_of packet.now datagram.now }
 {
     pseudo_header(u32_at(packet, 12), u32_at(packet, 16), u16_at(datagram, 4))
-}
-
-/// Returns how a computed checksum is sent: 0 becomes 65,535.
-fn not_zero(sum: u16) -> u16
-    ensures { result ≡ header.not_zero sum }
-{
-    if sum == 0 { 65_535 } else { sum }
 }
 
 /// Returns the data of a datagram, by the UDP length and the datagram's own length.
