@@ -154,7 +154,9 @@ impl Host {
         let headed = read_packet(packet)?;
         let head = headed.head();
         if !is_for_us(&self.socks, head.dst) {
-            return Err(Why::CantForward);
+            // Counted here, because its cause is known.
+            count_dropped(&mut self.net.counters, Why::CantForward);
+            return Ok(());
         }
         if !is_fragment(&head) {
             return self.receive_datagram(space, headed);
