@@ -241,6 +241,7 @@ size_t dhcp_transmit(struct dhcp *it, uint8_t *frame)
 {
     const int is_new = it->state == DHCP_REQUESTING, is_decline = it->message == DHCP_DECLINE;
     const struct bsdudp_addr server = {it->lease.server, DHCP_SERVER_PORT};
+    const uint32_t seconds = (it->now - it->begun) / 2;
     struct dhcp_words words = {it->link.mac, it->xid, 0, 0, 0, it->secs, it->message};
     int len = 0;
     if (it->message != 0) {
@@ -248,7 +249,7 @@ size_t dhcp_transmit(struct dhcp *it, uint8_t *frame)
         words.wanted = is_decline ? it->config.addr : it->state < DHCP_BOUND ? it->lease.addr : 0;
         words.server = is_new || is_decline ? it->lease.server : 0;
         if (!is_new && !is_decline) /* a request has the time of its DISCOVER (4.4.1) */
-            it->secs = words.secs = (uint16_t)((it->now - it->begun) / 2);
+            it->secs = words.secs = (uint16_t)(seconds < 0xffff ? seconds : 0xffff);
         it->message = 0;
         dhcp_write(frame + DHCP_HEAD, &words);
         if (it->state != DHCP_RENEWING)

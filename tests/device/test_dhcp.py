@@ -1,6 +1,6 @@
 """The device's address: DHCP (RFC 2131) with Debian's dnsmasq and ISC's server as peers, link-local addresses (RFC
 3927), and a server of the tests' own that makes mistakes. Ticks of the Linux program take 20 ms, so a lease of two
-minutes lasts 4.8 s."""
+minutes lasts 4.8 s, and it's renewed after 0.8 s, because dnsmasq says so."""
 from __future__ import annotations
 
 import contextlib
@@ -30,6 +30,7 @@ CLIENTS = pytest.mark.needs("coap-client", "curl")
 pytestmark = [pytest.mark.slow]
 
 MAC, TICK, NEVER = "02:00:00:00:00:01", 0.02, "0.0.0.0"
+T1 = 20  # seconds of the device, two ticks each
 DISCOVER, OFFER, REQUEST, DECLINE, ACK, NAK = range(1, 7)
 MALFORMED, LINUX_MAC = 2000, bytes.fromhex("020000000002")
 # Frames of the device that tshark can't read to their end, or with a wrong checksum.
@@ -101,12 +102,13 @@ def ends(it: Client) -> None:
 
 
 @contextlib.contextmanager
-def dnsmasq(folder: pathlib.Path, first: str, last: str, *words: str) -> Iterator[None]:
-    """Serves this range. What it logs is in the file "dnsmasq"."""
+def dnsmasq(folder: pathlib.Path, first: str, last: str, t1: int = T1) -> Iterator[None]:
+    """Serves this range, for two minutes, the least that it grants. What it logs is in the file "dnsmasq"."""
     how = ["dnsmasq", "--no-daemon", "--conf-file=/dev/null", "--port=0", "--interface=lin0", "--bind-interfaces"]
     how += [f"--dhcp-range={first},{last},255.255.255.0,2m", f"--dhcp-leasefile={folder}/leases", "--log-dhcp"]
+    how += [f"--dhcp-option=option:T1,{t1}"]
     with open(folder / "dnsmasq", "a", encoding="utf-8") as log:
-        words = [*how, "--no-ping", "--dhcp-authoritative", "--user=root", *words]
+        words = [*how, "--no-ping", "--dhcp-authoritative", "--user=root"]
         with subprocess.Popen(words, stdout=log, stderr=log) as child:
             try:
                 yield
@@ -115,11 +117,11 @@ def dnsmasq(folder: pathlib.Path, first: str, last: str, *words: str) -> Iterato
 
 
 @contextlib.contextmanager
-def isc(folder: pathlib.Path, first: str, last: str, seconds: int = 120) -> Iterator[None]:
-    """The same by ISC's server, with the log in the file "isc"."""
+def isc(folder: pathlib.Path, first: str, last: str) -> Iterator[None]:
+    """The same by ISC's server, with the log in the file "isc". Its leases are as short as is renewed at T1."""
     (folder / "isc.leases").touch()
     (folder / "isc.conf").write_text(
-        f"authoritative; ping-check false; default-lease-time {seconds}; max-lease-time {seconds};\n"
+        f"authoritative; ping-check false; default-lease-time {2 * T1}; max-lease-time {2 * T1};\n"
         f"subnet 10.0.0.0 netmask 255.255.255.0 {{ range {first} {last}; option routers 10.0.0.2; }}\n",
         encoding="utf-8",
     )
@@ -216,12 +218,13 @@ def test_an_address_that_it_remembers(start, is_known):
 
 @ON_LINUX
 @DNSMASQ
+@ISC
 @CLIENTS
 def test_server_that_goes_away(start):
     """The device asks all servers from T2 on, and is silent when the lease ends. Then it takes a link-local address,
     until a server is there again. Its sockets outlast all of it."""
     it = start()
-    with dnsmasq(it.folder, "10.0.0.50", "10.0.0.50"):
+    with isc(it.folder, "10.0.0.50", "10.0.0.50"):
         it.gets(r"10\.0\.0\.50")
     it.gets(re.escape(NEVER))
     to_all = [frame for frame in it.messages(REQUEST) if frame[scapy.IP].dst != LINUX and frame.ciaddr != NEVER]
@@ -288,11 +291,11 @@ def test_an_address_that_another_host_has(start):
 @DNSMASQ
 @CLIENTS
 def test_over_a_wire_that_loses(start):
-    """5 % of the frames in each direction, for two leases."""
+    """5 % of the frames in each direction, for the time of a lease, which is renewed up to six times."""
     it = start()
     with it.lossy(100), dnsmasq(it.folder, "10.0.0.50", "10.0.0.50"):
         it.gets(r"10\.0\.0\.50")
-        time.sleep(2 * 240 * TICK)
+        time.sleep(240 * TICK)
         it.gets(r"10\.0\.0\.50")
         assert run("coap-client-notls", "-m", "get", "coap://10.0.0.50/led") == "0\n"
 
@@ -306,7 +309,7 @@ def test_on_the_board(on_board, tmp_path, flash):
     (tmp_path / "flash").write_bytes(flash[:20000])
     it = Client(tmp_path, [*MACHINE, "-kernel", on_board(tmp_path / "flash")], 0.5)
     with it.namespace.inside():
-        with dnsmasq(tmp_path, "10.0.0.50", "10.0.0.50", "--dhcp-option=option:T1,3"):
+        with dnsmasq(tmp_path, "10.0.0.50", "10.0.0.50", 3):
             it.serves(it.gets(r"10\.0\.0\.50", 60))
         (tmp_path / "leases").unlink()
         with dnsmasq(tmp_path, "10.0.0.77", "10.0.0.77"):
@@ -364,8 +367,7 @@ def frame_of(message: bytes) -> bytes:
 @ON_LINUX
 @DNSMASQ
 def test_malformed(start):
-    """In the states SELECTING, REQUESTING and RENEWING. It goes on, and gets the
-    address of a right server."""
+    """In the states SELECTING, REQUESTING and RENEWING. It goes on, and gets the address of a right server."""
     scapy.random.seed(100)
     rng, it = random.Random(100), start()
     known = list(messages(rng, 100))
@@ -384,7 +386,49 @@ def test_malformed(start):
         it.gets(r"10\.0\.0\.50")
         sends(MALFORMED // 2)
         it.gets(r"10\.0\.0\.50")
+    assert {frame.ciaddr for frame in it.messages(REQUEST)} > {NEVER}, "it renewed nothing"
     assert it.process.poll() is None
+
+
+# A device without a server for 20 hours: it prints the seconds in its last DISCOVER, and how many it sent.
+LONELY = """
+#include "dhcp.h"
+#include <stdio.h>
+static unsigned char memory[BSDUDP_ETHER_MEMORY(16, 4)] __attribute__((aligned(BSDUDP_ALIGNMENT)));
+static uint8_t frame[BSDUDP_ETHER_ROOM];
+int main(void)
+{
+    static struct bsdudp host;
+    static struct dhcp it = {.host = &host, .config = {0, 0, 16, 4, 1500, 1}, .link = {.mac = {2, 0, 0, 0, 0, 1}},
+                             .memory = memory, .memory_len = sizeof memory};
+    unsigned tick, sent = 0, seconds = 0;
+    if (dhcp_start(&it) != 0)
+        return 1;
+    for (tick = 0; tick < 2 * 20 * 3600; tick++) {
+        dhcp_tick(&it);
+        while (dhcp_transmit(&it, frame) > 0)
+            if (frame[23] == 17 && frame[37] == 67) {
+                seconds = (unsigned)frame[50] << 8 | frame[51];
+                sent++;
+            }
+    }
+    printf("%u %u\\n", seconds, sent);
+    return bsdudp_end(&host);
+}
+"""
+
+
+@pytest.mark.needs("cc", "asan")
+def test_seconds_of_a_long_wait(library, tmp_path):
+    """The field `secs` has 16 bits (RFC 2131, 2): after 18 hours it stays at its largest value. DISCOVER is repeated
+    each 64 seconds, with one more or less (4.1)."""
+    (tmp_path / "lonely.c").write_text(LONELY, encoding="utf-8")
+    sources = [TOP / f"capi/examples/{it}.c" for it in ("dhcp", "dhcp_message")]
+    words = ["-std=gnu99", "-fsanitize=address,undefined", "-fno-sanitize-recover=all", f"-I{TOP}/capi/examples"]
+    made("cc", *words, f"-I{TOP}/capi/include", tmp_path / "lonely.c", *sources, library.archive, "-o",
+         tmp_path / "lonely")  # fmt: skip
+    seconds, sent = map(int, run(tmp_path / "lonely").split())
+    assert seconds == 0xFFFF and abs(sent - 20 * 3600 // 64) < 20
 
 
 READER = """
