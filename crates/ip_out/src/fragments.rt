@@ -1,8 +1,7 @@
 //! The packets of a datagram: the chain itself, trimmed, and copies that share its clusters.
 ghost use Rattle.std.specs.Prelude.{◌≡◌, ℕ, ◌+◌, ◌-◌, ◌*◌, ◌/◌, ◌%◌, ◌<◌, ◌≤◌, [], ◌∷◌, ◌++◌, true, false, length, sum_by, IfOk, OnOk, OnErr};
 ghost use Rattle.flat_model.specs.Fragments.Cuts.{part};
-ghost use Rattle.mbuf_chain.specs.Chain.{IsLive, chain_of, string, alone, held_mbufs, Adds};
-ghost use Rattle.mbuf_chain.specs.Steps.{one_mbuf};
+ghost use Rattle.mbuf_chain.specs.Chain.{IsLive, chain_of, string, alone, held_mbufs};
 ghost use Rattle.mbuf_chain.specs.Owners.{Moves, times_among};
 ghost use Rattle.mbuf_chain.specs.Train.{IsHeld, numbers};
 ghost use Rattle.chain_ops.specs.Makes.{Makes, HasMbufs, LacksMbufs};
@@ -62,20 +61,6 @@ fn head_of(head: IpHead, n: u32, chunk: u32, i: u32) -> IpHead
     }
 }
 
-/// Makes a new mbuf with packet header, with the IP header at its front.
-#[inline(always)]
-fn header_mbuf(pool: &mut Pool, head: IpHead) -> Result<Chain, NoBufs>
-    requires offset { head.offset ≤ MAX_OFFSET }
-    requires unit { head.offset % FRAGMENT_UNIT ≡ 0 }
-    ensures ok { IfOk result (λ d. Adds pool.old pool.new d (one_mbuf true (head_entry head) d)) }
-    ensures err { OnErr result (held_mbufs pool.old ≡ pool.old.mbufs) }
-    ensures same { OnErr result (pool.new ≡ pool.old) }
-{
-    let mut bytes = [0; IP_HEADER as usize];
-    write_head(&mut bytes, head);
-    pool.new_plain_with(true, PACKET_START, &bytes)
-}
-
 /// Makes a fragment: an mbuf with a header, and after it a copy of `size` bytes of a chain from a cursor on.
 #[inline(always)]
 fn fragment(
@@ -100,15 +85,16 @@ fn fragment(
         (1 + length (copied false (chain_of pool.old chain.now).entries from.off size))) }
     ensures same { OnErr result (pool.new ≡ pool.old) }
 {
-    let front = header_mbuf(pool, head)?;
+    let mut bytes = [0; IP_HEADER as usize];
+    write_head(&mut bytes, head);
     let Ok(back) = copy_at(pool, chain, from, size) else {
-        pool.free_chain(front);
         return Err(NoBufs);
     };
-    let at = pool.first(&front);
-    pool.link_counted(&front, at, back, size);
-    pool.laws();
-    Ok(front)
+    if pool.free_mbufs() == 0 {
+        pool.free_chain(back);
+        return Err(NoBufs);
+    }
+    Ok(pool.new_plain_before(PACKET_START, &bytes, back, size))
 }
 
 /// Makes the packets of the parts after the first of `n` bytes. The chain is walked once.

@@ -353,11 +353,11 @@ pub record Joined (s t : StoreView) (a b added : ℕ) : Type 0 where
       (joined (chain_of (pool_of s) a) (chain_of (pool_of s) b))
 
 -- if the first mbuf of a chain has no packet header and no next packet, no mbuf of it has
-all_follow : (s : StoreView) (l : List ℕ) → IsChain s l → IsFollower (mbuf_head s (first_of l)) → AllFollow s l
+pub all_follow : (s : StoreView) (l : List ℕ) → IsChain s l → IsFollower (mbuf_head s (first_of l)) → AllFollow s l
 all_follow s [] h first = tt
 all_follow s (y ∷ ys) h first = (first, h.1)
 
-bare_first : (h : Head) → front_of h ≡ alone false → IsFollower h
+pub bare_first : (h : Head) → front_of h ≡ alone false → IsFollower h
 bare_first h e = record { packet = go h.packet refl; after = ap (λ (f : Front). f.after) e }
   where
     go : (p : Option PacketHeader) → h.packet ≡ p → h.packet ≡ None

@@ -25,3 +25,4 @@ mod Reported
 mod Filled
 mod FilledCluster
 mod Linked
+mod Before

@@ -1,5 +1,5 @@
 //! The pool.
-ghost use Rattle.std.specs.Prelude.{◌≡◌, ◌≢◌, ℕ, ◌+◌, ◌-◌, ◌<◌, ◌≤◌, ◌⊎◌, true, None, Some, length, sum, fold, max, IfOk, OnOk, OnErr, IsSome, IfSome, MatchOption, if◌then◌else◌, take, drop};
+ghost use Rattle.std.specs.Prelude.{◌≡◌, ◌≢◌, ℕ, ◌+◌, ◌-◌, ◌^◌, ◌<◌, ◌≤◌, ◌⊎◌, true, None, Some, length, sum, fold, max, IfOk, OnOk, OnErr, IsSome, IfSome, MatchOption, if◌then◌else◌, take, drop};
 ghost use Rattle.std.specs.FinMap as finmap;
 ghost use Rattle.params.specs.declared.TheConstants.{MBUF_HEADER, MCLBYTES, MSIZE};
 ghost use Rattle.mbuf_pool.specs.Store.{mbufs_out, cluster_count};
@@ -8,7 +8,7 @@ ghost use Rattle.mbuf_chain.specs.Heads.{heads};
 ghost use Rattle.mbuf_chain.specs.Pieces.{chain_pieces};
 ghost use Rattle.mbuf_chain.specs.Steps.{one_mbuf, empty_entry, narrowed, with_front, with_back, overwritten, joined, placed, first_part, second_part, with_entry_in};
 ghost use Rattle.mbuf_chain.specs.Frames.{IsBounded};
-ghost use Rattle.mbuf_chain.specs.Inside.Cells.{only_head};
+ghost use Rattle.mbuf_chain.specs.Inside.Cells.{head_before, only_head};
 
 use crate::chain::Chain;
 use crate::pieces::{Entries, MbufHeads, Pieces};
@@ -167,6 +167,37 @@ impl Pool {
             }
             Err(refusal) => Err(refusal),
         }
+    }
+
+    /// Makes an mbuf with a packet header and the given bytes, like `new_plain_with`, and links a chain of `len` bytes
+    /// after it, like `link_counted`. An mbuf must be free. The result is that of these two calls, but the head is
+    /// written only once.
+    #[inline(always)]
+    pub fn new_plain_before(&mut self, start: u32, bytes: &[u8], back: Chain, len: u32) -> Chain
+        requires low { PACKET_START ≤ start }
+        requires high { start + length bytes.now ≤ MSIZE }
+        requires free { held_mbufs self.old < self.old.mbufs }
+        requires back { IsLive self.old back }
+        requires len { len ≡ length (string (chain_of self.old back)) }
+        ensures { Adds (without self.old back) self.new result (joined
+            (one_mbuf true (record { bytes = bytes.now; start = start; cluster = None }) result)
+            (chain_of self.old back)) }
+    {
+        let back = back.into_number();
+        self.store.change_head(back, Change::NoPacket);
+        self.store.change_head(back, Change::NextPacket(None));
+        let Ok(first) = self
+            .store
+            .get_with(head_before(start, bytes.len() as u32, back, len))
+        else {
+            unreachable!()
+        };
+        let front = Place {
+            index: 0,
+            cell: first,
+        };
+        data::write_in(&mut self.store, first, front, None, start, bytes);
+        Chain { first }
     }
 
     /// Frees a chain's mbufs and their cluster references. A cluster is free after its last reference is removed.
@@ -629,5 +660,25 @@ fn head_for(header: bool, start: u32, len: u32, cluster: Option<u32>) -> Head
         kind: KIND,
         packet,
         cluster,
+    }
+}
+
+/// Builds the head of an mbuf of `own` bytes, before a chain of `len` bytes.
+#[inline(always)]
+fn head_before(start: u32, own: u32, next: u32, len: u32) -> Head
+    requires { own + len < 2 ^ 32 }
+    ensures { result ≡ head_before start own next len }
+{
+    Head {
+        next: Some(next),
+        next_packet: None,
+        len: own,
+        start,
+        kind: KIND,
+        packet: Some(PacketHeader {
+            len: own + len,
+            arrival: 0,
+        }),
+        cluster: None,
     }
 }

@@ -204,6 +204,18 @@ only_head header start len cluster = record {
   cluster = cluster;
 }
 
+-- the head of the first mbuf of a chain, before mbuf `next`: it has `own` bytes, and those after it have `len`
+abbrev pub head_before : ℕ → ℕ → ℕ → ℕ → Head
+head_before start own next len = record {
+  next = Some next;
+  next_packet = None;
+  len = own;
+  start = start;
+  kind = 1;
+  packet = Some (record { len = own + len; arrival = 0 });
+  cluster = None;
+}
+
 -- the offset of its data area, if it has no cluster
 abbrev pub start_of : Bool → ℕ
 start_of header = if header then PACKET_START else MBUF_HEADER

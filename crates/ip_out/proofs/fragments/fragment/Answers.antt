@@ -1,95 +1,58 @@
-use Rattle.std.proofs.Common.{List, length, arith, ap, sym, ◌∙◌, subst}
-use Rattle.mbuf_chain.specs.Chain.{Entry, ChainView, PoolView, IsLive, string, without}
-use Rattle.mbuf_chain.proofs.Laws.Owners.{live_adds}
-use Rattle.mbuf_chain.proofs.Laws.Steps.{live_beside}
-use Rattle.chain_ops.specs.Cursors.{IsCursor}
-use Rattle.chain_ops.proofs.Laws.Makes.{makes_new, makes_undone, makes_held, makes_mbufs, makes_kept}
-use Rattle.ip_out.proofs.Later.{copies_same, ready, linked}
+use Rattle.std.proofs.Common.{Bool, List, ℕ, false, length, arith, ap, ◌∙◌}
+use Rattle.mbuf_chain.specs.Chain.{alone, chain_of}
+use Rattle.chain_ops.specs.Copies.{copied}
+use Rattle.chain_ops.specs.Makes.{Makes}
+use Rattle.chain_ops.proofs.Laws.Makes.{live_made, makes_undone, makes_held, makes_mbufs}
+use Rattle.ip_out.proofs.Later.{copy_is, copy_long, length_head, linked, no_header}
 use Rattle.ip_out.proofs.fragments.fragment.Goals as goal
+use Rattle.ip_out.proofs.fragments.fragment.Goals.{In-Ok}
 
-pub copy_at-requires-clause-live : goal.copy_at-requires-clause-live
-copy_at-requires-clause-live c = live_beside _ _ _ _ c.in_ok-front.ensures.ok _ c.requires.live
-
-pub copy_at-requires-clause-cursor : goal.copy_at-requires-clause-cursor
-copy_at-requires-clause-cursor c =
-    subst (λ (v : ChainView). IsCursor v c.args.from)
-    (sym (makes_kept c.args.chain.now (makes_new c.in_ok-front.ensures.ok) c.requires.live)) c.requires.cursor
-
-pub copy_at-requires-clause-within : goal.copy_at-requires-clause-within
-copy_at-requires-clause-within c =
-    omega (
-      arith,
-      c.requires.within,
-      ap (λ (v : ChainView). length (string v))
-          (makes_kept c.args.chain.now (makes_new c.in_ok-front.ensures.ok) c.requires.live),
-    )
-
-pub free_chain-requires : goal.free_chain-requires
-free_chain-requires c =
-    subst (λ (s : PoolView). IsLive s c.in_ok-front.front) (sym c.in_default.ensures.same)
-    (live_adds c.in_ok-front.ensures.ok)
+copy : (c : In-Ok) → Makes c.args.pool.now c.copy_at.new.pool c.in-Ok.back (alone false)
+    (copied false (chain_of c.args.pool.now c.args.chain.now).entries c.args.from.off c.args.size)
+copy c =
+    copy_is c.args.pool.now c.copy_at.new.pool c.args.chain.now c.in-Ok.back c.args.from.off c.args.size
+    c.requires.after c.in-Ok.ensures.ok
 
 pub returns-in_default-clause-err : goal.returns-in_default-clause-err
 returns-in_default-clause-err c =
-    let a = c.in_ok-front.ensures.ok in
-    let m = makes_new a in
     omega (
       arith,
       c.in_default.ensures.err,
-      makes_held m,
-      makes_mbufs m,
-      ap (λ (es : List Entry). length es)
-          (copies_same c.args.pool.now _ c.args.chain.now _ c.args.from.off c.args.size _ a c.requires.live
-          c.requires.after),
+      ap (λ (t : Bool). length (copied t (chain_of c.args.pool.now c.args.chain.now).entries c.args.from.off c.args.size))
+          (no_header (chain_of c.args.pool.now c.args.chain.now).front.header c.args.from.off c.requires.after),
     )
 
-pub returns-in_default-clause-same : goal.returns-in_default-clause-same
-returns-in_default-clause-same c =
-    makes_undone _ (makes_new c.in_ok-front.ensures.ok)
-    (c.free_chain.ensures ∙ ap (λ (s : PoolView). without s c.in_ok-front.front) c.in_default.ensures.same)
+pub free_chain-requires : goal.free_chain-requires
+free_chain-requires c = live_made (copy (goal.at.free_chain-requires c).In-Ok)
 
-pub first-at-requires : goal.first-at-requires
-first-at-requires c =
-    (ready c.args.chain.now c.args.from.off c.args.size _ c.in_ok-front.ensures.ok c.requires.live c.requires.after
-    c.requires.within c.in-Ok.ensures.ok).front
+pub returns-then-free_mbufs-eq0-clause-err : goal.returns-then-free_mbufs-eq0-clause-err
+returns-then-free_mbufs-eq0-clause-err c =
+    let m = copy (goal.at.returns-then-free_mbufs-eq0-clause-err c).In-Ok in
+    omega (arith, makes_held m, makes_mbufs m, c.free_mbufs.ensures.free, c.if-free_mbufs-eq0.true)
 
-pub link_counted-requires-clause-back : goal.link_counted-requires-clause-back
-link_counted-requires-clause-back c =
-    (ready c.args.chain.now c.args.from.off c.args.size _ c.in_ok-front.ensures.ok c.requires.live c.requires.after
-    c.requires.within c.in-Ok.ensures.ok).back
+pub returns-then-free_mbufs-eq0-clause-same : goal.returns-then-free_mbufs-eq0-clause-same
+returns-then-free_mbufs-eq0-clause-same c =
+    makes_undone _ (copy (goal.at.returns-then-free_mbufs-eq0-clause-same c).In-Ok) c.free_chain.ensures
 
-pub link_counted-requires-clause-apart : goal.link_counted-requires-clause-apart
-link_counted-requires-clause-apart c =
-    (ready c.args.chain.now c.args.from.off c.args.size _ c.in_ok-front.ensures.ok c.requires.live c.requires.after
-    c.requires.within c.in-Ok.ensures.ok).apart
+pub new_plain_before-requires-clause-high : goal.new_plain_before-requires-clause-high
+new_plain_before-requires-clause-high c =
+    omega (arith, ap (λ (xs : List ℕ). length xs) c.write_head.ensures ∙ length_head c.args.head)
 
-pub link_counted-requires-clause-last : goal.link_counted-requires-clause-last
-link_counted-requires-clause-last c =
-    let y =
-    ready c.args.chain.now c.args.from.off c.args.size _ c.in_ok-front.ensures.ok c.requires.live c.requires.after
-    c.requires.within c.in-Ok.ensures.ok in
-    omega (arith, c.first-at.ensures.index, ap (λ (v : ChainView). length v.entries) y.shown)
+pub new_plain_before-requires-clause-back : goal.new_plain_before-requires-clause-back
+new_plain_before-requires-clause-back c = live_made (copy (goal.at.new_plain_before-requires-clause-back c).In-Ok)
 
-pub link_counted-requires-clause-len : goal.link_counted-requires-clause-len
-link_counted-requires-clause-len c =
-    (ready c.args.chain.now c.args.from.off c.args.size _ c.in_ok-front.ensures.ok c.requires.live c.requires.after
-    c.requires.within c.in-Ok.ensures.ok).len
+pub new_plain_before-requires-clause-len : goal.new_plain_before-requires-clause-len
+new_plain_before-requires-clause-len c =
+    copy_long c.args.pool.now c.copy_at.new.pool c.args.chain.now c.in-Ok.back c.args.from.off c.args.size
+    c.requires.within (copy (goal.at.new_plain_before-requires-clause-len c).In-Ok)
 
 pub returns-clause-ok : goal.returns-clause-ok
 returns-clause-ok c =
-    let a = c.in_ok-front.ensures.ok in
-    let y =
-    ready c.args.chain.now c.args.from.off c.args.size _ a c.requires.live c.requires.after c.requires.within
-    c.in-Ok.ensures.ok in
-    linked c.args.pool.now _ _ _ c.args.chain.now _ _ c.args.from.off c.args.size _ a y c.link_counted.ensures.change
+    linked c.args.pool.now c.copy_at.new.pool c.new_plain_before.new.self c.args.chain.now c.new_plain_before.result
+    c.in-Ok.back c.args.from.off c.args.size c.args.head c.write_head.new.bytes c.write_head.ensures
+    (copy (goal.at.returns-clause-ok c).In-Ok) c.new_plain_before.ensures
 
 pub returns-clause-enough : goal.returns-clause-enough
 returns-clause-enough c =
-    let a = c.in_ok-front.ensures.ok in
-    let y =
-    ready c.args.chain.now c.args.from.off c.args.size _ a c.requires.live c.requires.after c.requires.within
-    c.in-Ok.ensures.ok in
-    let whole =
-    linked c.args.pool.now _ _ _ c.args.chain.now _ _ c.args.from.off c.args.size _ a y c.link_counted.ensures.change
-    in
-    omega (arith, makes_held whole, makes_mbufs whole, c.laws.ensures.few)
+    let m = copy (goal.at.returns-clause-enough c).In-Ok in
+    omega (arith, makes_held m, makes_mbufs m, c.free_mbufs.ensures.free, c.free_mbufs.ensures.bounds.few)
