@@ -15,12 +15,12 @@ use Rattle.flat_model.specs.declared.counter.Counter.TheVariants.{IpFragments}
 use Rattle.flat_model.specs.declared.counters.Why.{Why}
 use Rattle.flat_model.specs.declared.counters.Why.TheVariants.{BadFragment}
 use Rattle.flat_model.proofs.Laws.{both-nothing}
-use Rattle.mbuf_chain.specs.Chain.{Entry, ChainView, PoolView, Adds, alone, chain_of, flat_bytes, free_clusters, held_mbufs, with_chain, without}
+use Rattle.mbuf_chain.specs.Chain.{Entry, ChainView, PoolView, Adds, alone, chain_of, flat_bytes, free_clusters, held_mbufs, without}
 use Rattle.mbuf_chain.specs.Owners.{IsOwned, Moves, times_among}
 use Rattle.mbuf_chain.specs.Frames.{SameAt}
 use Rattle.mbuf_chain.specs.Steps.{joined, narrowed, one_mbuf, empty_entry}
-use Rattle.mbuf_chain.proofs.Laws.Owners.{live_adds, moves_adds, moves_beside, moves_trans, owned_after, same_adds, shown_adds}
-use Rattle.mbuf_chain.proofs.Laws.Steps.{adds_undone, linked_front}
+use Rattle.mbuf_chain.proofs.Laws.Owners.{moves_adds, moves_beside, moves_trans, owned_after, same_adds, shown_adds}
+use Rattle.mbuf_chain.proofs.Laws.Steps.{adds_undone}
 use Rattle.chain_ops.specs.Makes.{Makes}
 use Rattle.chain_ops.specs.Pulls.{moved, pulled_len}
 use Rattle.chain_ops.specs.Trims.{without_first}
@@ -148,17 +148,14 @@ inserted_len packet k many made =
     ∙ ap (λ (xs : List ℕ). length (drop 20 xs)) (stored_bytes packet k)
     ∙ omega (arith, length-drop 20 packet)
 
--- a chain of one mbuf, linked before a new chain of one mbuf
-pub put_before : (p q r s : PoolView) (c d : ℕ) (e f : Entry) → Adds p q d (one_mbuf false f d)
-    → Adds q r c (one_mbuf true e c) → s ≡ with_chain (without r d) c (joined (chain_of r c) (chain_of r d))
-    → Makes p s c (alone true) (e ∷ f ∷ [])
-put_before p q r s c d e f first second is =
-    let a : Adds (without q d) s c (joined (one_mbuf true e c) (chain_of q d)) =
-    linked_front q r s d c (one_mbuf true e c) (live_adds first) second is in
-    let b : Adds p s c (joined (one_mbuf true e c) (chain_of q d)) =
-    subst (λ (o : PoolView). Adds o s c (joined (one_mbuf true e c) (chain_of q d)))
-    (adds_undone (without q d) first refl) a in
-    makes_as p (alone true) (e ∷ f ∷ []) (makes_new b) refl refl
+-- an mbuf before a new chain of one mbuf
+pub put_before : (p q r : PoolView) (c d : ℕ) (e f : Entry) → Adds p q d (one_mbuf false f d)
+    → Adds (without q d) r c (joined (one_mbuf true e c) (chain_of q d)) → Makes p r c (alone true) (e ∷ f ∷ [])
+put_before p q r c d e f first second =
+    let a : Adds p r c (joined (one_mbuf true e c) (chain_of q d)) =
+    subst (λ (o : PoolView). Adds o r c (joined (one_mbuf true e c) (chain_of q d)))
+    (adds_undone (without q d) first refl) second in
+    makes_as p (alone true) (e ∷ f ∷ []) (makes_new a) refl refl
     (ap (λ (v : ChainView). e ∷ v.entries) (shown_adds first))
 
 -- ---- what is unchanged while the chain is made

@@ -64,12 +64,7 @@ fn store_cluster(pool: &mut Pool, packet: &[u8]) -> Chain
         unreachable!()
     };
     let front = &packet[IP_HEADER as usize..MAX_PROTOCOL_HEADER as usize];
-    let Ok(chain) = pool.new_plain_with(true, PACKET_START + IP_HEADER, front) else {
-        unreachable!()
-    };
-    let last = pool.first(&chain);
-    pool.link_counted(&chain, last, back, rest.len() as u32);
-    chain
+    pool.new_plain_before(PACKET_START + IP_HEADER, front, back, rest.len() as u32)
 }
 
 /// Stores what a packet carries after its IP header, as if the packet had been stored in two mbufs and its header cut
@@ -87,12 +82,7 @@ fn store_mbufs(pool: &mut Pool, packet: &[u8]) -> Chain
         unreachable!()
     };
     let begin = &packet[IP_HEADER as usize..MHLEN as usize];
-    let Ok(chain) = pool.new_plain_with(true, PACKET_START + IP_HEADER, begin) else {
-        unreachable!()
-    };
-    let last = pool.first(&chain);
-    pool.link_counted(&chain, last, back, rest.len() as u32);
-    chain
+    pool.new_plain_before(PACKET_START + IP_HEADER, begin, back, rest.len() as u32)
 }
 
 /// Stores what a packet carries after its IP header, as if the packet had been stored, its header pulled up if it's in

@@ -11,11 +11,11 @@ use Rattle.flat_model.specs.Machine.Sending as sending
 use Rattle.flat_model.specs.Machine.Sending.{is_looped, mtu_to}
 use Rattle.flat_model.specs.declared.config.Config.{Config}
 use Rattle.flat_model.proofs.Laws.{count_cons, cuts_short}
-use Rattle.mbuf_chain.specs.Chain.{Adds, ChainView, Entry, PoolView, alone, chain_of, free_clusters, held_mbufs, references, string, with_chain, without}
+use Rattle.mbuf_chain.specs.Chain.{Adds, ChainView, Entry, PoolView, alone, chain_of, free_clusters, held_mbufs, references, string, without}
 use Rattle.mbuf_chain.specs.Steps.{joined, one_mbuf}
 use Rattle.mbuf_chain.proofs.Laws.Accounts.{held-adds}
-use Rattle.mbuf_chain.proofs.Laws.Owners.{live_adds, shown_adds}
-use Rattle.mbuf_chain.proofs.Laws.Steps.{adds_undone, linked_front}
+use Rattle.mbuf_chain.proofs.Laws.Owners.{shown_adds}
+use Rattle.mbuf_chain.proofs.Laws.Steps.{adds_undone}
 use Rattle.chain_ops.specs.Prepends.{prepended}
 use Rattle.chain_ops.specs.Rooms.{at_end}
 use Rattle.chain_ops.specs.Stored.{AreFree, Has, stored_first}
@@ -211,15 +211,14 @@ pub cluster_string : {p q : PoolView} {c k : ℕ} (hs xs : List ℕ) (start : �
     }) → string (chain_of q c) ≡ hs ++ xs
 cluster_string hs xs start cells adds = ap string (shown_adds adds) ∙ ap (λ (ys : List ℕ). hs ++ ys) (append-nil xs)
 
--- a new chain of one mbuf, linked after another
-pub linked : {p q r s : PoolView} {b c : ℕ} (e f : Entry) → Adds p q b (one_mbuf false f b)
-    → Adds q r c (one_mbuf true e c) → s ≡ with_chain (without r b) c (joined (chain_of r c) (chain_of r b))
-    → Adds p s c (record { front = alone true; entries = e ∷ f ∷ []; cells = c ∷ b ∷ [] })
-linked {p} {q} {r} {s} {b} {c} e f back front is =
+-- a new chain of one mbuf, after another mbuf
+pub linked : {p q r : PoolView} {b c : ℕ} (e f : Entry) → Adds p q b (one_mbuf false f b)
+    → Adds (without q b) r c (joined (one_mbuf true e c) (chain_of q b))
+    → Adds p r c (record { front = alone true; entries = e ∷ f ∷ []; cells = c ∷ b ∷ [] })
+linked {p} {q} {r} {b} {c} e f back front =
     let v : ChainView = one_mbuf true e c in
-    subst (λ (w : ChainView). Adds p s c (joined v w)) (shown_adds back)
-    (subst (λ (t : PoolView). Adds t s c (joined v (chain_of q b))) (adds_undone (without q b) back refl)
-    (linked_front q r s b c v (live_adds back) front is))
+    subst (λ (w : ChainView). Adds p r c (joined v w)) (shown_adds back)
+    (subst (λ (t : PoolView). Adds t r c (joined v (chain_of q b))) (adds_undone (without q b) back refl) front)
 
 -- a send to the link uses the link's MTU
 pub mtu_link : (c : Config) (ip : ℕ) → Way.Link ≡ way_of c ip → mtu_to c ip ≡ c.mtu

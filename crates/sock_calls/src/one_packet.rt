@@ -73,12 +73,7 @@ fn in_cluster(pool: &mut Pool, headers: &[u8; IP_UDP_HEADERS as usize], bytes: &
     let Ok(data) = pool.new_cluster_with(false, CLUSTER_LEADING_SPACE, bytes) else {
         unreachable!()
     };
-    let Ok(chain) = pool.new_plain_with(true, MSIZE - IP_UDP_HEADERS, headers) else {
-        unreachable!()
-    };
-    let at = pool.first(&chain);
-    pool.link_counted(&chain, at, data, bytes.len() as u32);
-    chain
+    pool.new_plain_before(MSIZE - IP_UDP_HEADERS, headers, data, bytes.len() as u32)
 }
 
 /// `datagram` of bytes that fit into one mbuf or cluster, by `need_of_one`. Its buffers must be free.
