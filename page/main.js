@@ -526,21 +526,24 @@ function listen() {
   addEventListener("keydown", stepByKey);
 }
 
-// Arrow keys step, except in fields, in elements that they scroll, and in dialogs. Digits choose an answer.
+// Arrow keys step, except in fields, in elements that they scroll, and in dialogs. Digits choose an answer. In the list of
+// scripts, which has the focus after a choice, up and down choose another script, and left and right step through it.
 function stepByKey(event) {
   if (event.altKey || event.ctrlKey || event.metaKey) return;
   if (/^[1-9]$/.test(event.key)) return chooseOption(event);
-  if (event.target.closest("textarea, input, select, .scroller, dialog")) return;
+  const isList = event.target.id === "choice";
+  if (!isList && event.target.closest("textarea, input, select, .scroller, dialog")) return;
   const by = { ArrowDown: 1, ArrowRight: 1, ArrowUp: -1, ArrowLeft: -1 }[event.key];
-  if (!by) return;
+  if (!by || (isList && /Up|Down/.test(event.key))) return;
   event.preventDefault();
   if (by > 0 ? goOn() : stepTo(page.at - 1)) return;
   if (event.target.closest("#rows")) byId("rows").children[page.at].firstChild.focus();
 }
 
-function chooseOption({ key, target }) {
-  const option = byId("look").querySelectorAll(".predict input[type=radio]")[key - 1];
-  if (!option || target.closest("textarea, select, dialog, input:not([type=radio])")) return;
+function chooseOption(event) {
+  const option = byId("look").querySelectorAll(".predict input[type=radio]")[event.key - 1];
+  if (!option || event.target.closest("textarea, dialog, input:not([type=radio])")) return;
+  event.preventDefault();
   option.checked = true;
   option.focus();
 }

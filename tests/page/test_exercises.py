@@ -116,6 +116,23 @@ def test_digits_choose_an_answer_and_enter_checks_it(at_width):
     assert browser.run("document.querySelector('#look .verdict.yes b').textContent") == "Right: "
 
 
+def test_keys_after_a_choice_from_the_list_are_for_the_script(at_width):
+    """Up and down stay the list's."""
+    browser = at_width(1280)
+    browser.run("open('run', { name: '01_a_datagram' }); byId('choice').focus()")
+    for name, code in (("ArrowRight", 39), ("ArrowRight", 39), ("ArrowLeft", 37)):
+        browser.ask("Input.dispatchKeyEvent", type="keyDown", key=name, code=name, windowsVirtualKeyCode=code)
+    assert browser.run("[byId('choice').value, page.at]") == ["run/01_a_datagram", 1]
+    browser.run("select(page.firstQuestion); byId('choice').focus()")
+    key(browser, "2")
+    assert browser.run("[byId('choice').value, document.querySelector('.predict :checked').value]") == [
+        "run/01_a_datagram", "1"
+    ]  # fmt: skip
+    browser.run("byId('choice').focus()")
+    browser.ask("Input.dispatchKeyEvent", type="keyDown", key="ArrowDown", code="ArrowDown", windowsVirtualKeyCode=40)
+    assert browser.run("byId('choice').value") == "chain/02_an_mbuf_and_a_cluster"
+
+
 def test_a_digit_in_a_field_is_text(at_width):
     browser = at_width(1280)
     browser.run("open('run', { name: 'exercise_01_which_socket' })")
