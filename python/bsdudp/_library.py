@@ -224,8 +224,9 @@ def _open() -> ctypes.CDLL:
         return ctypes.CDLL(found)
     except OSError as fault:
         raise ImportError(
-            f"{found} can't be loaded ({fault}). Install the library by `capi/install PREFIX`, and name it by"
-            f" {ENVIRONMENT}=PREFIX/lib/{NAME}, or install the wheel, which has it"
+            f"{found} can't be loaded ({fault}). In a checkout, `make python TRIAL=1` makes this package with its"
+            " library in a minute, without a proof. Or install the wheel, which has it; or install the library by"
+            f" `capi/install PREFIX`, and name it by {ENVIRONMENT}=PREFIX/lib/{NAME}"
         ) from None
 
 

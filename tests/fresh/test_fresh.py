@@ -98,6 +98,10 @@ def test_readme_as_root():
 # ---- missing tools -------------------------------------------------------------------------------------------------
 
 WITHOUT_PYTEST = packages().replace(",python3-pytest", "")
+IMPORTS = """import sys
+sys.path.insert(0, "python")
+try: import bsdudp
+except ImportError as it: sys.exit(it)"""
 # For each set of packages, commands and the text that their error line must contain.
 MISSING = {
     WITHOUT_PYTEST.replace("python3,", ""): {
@@ -113,6 +117,9 @@ MISSING = {
         "make page": "apt-get install binaryen",
         "capi/build /tmp/it": "apt-get install gcc",
         "page/build": "apt-get install binaryen",
+        "portable/core cortex-m3 /tmp/it": "apt-get install gcc",
+        "portable/board/build /tmp/it /tmp/board": "apt-get install gcc-arm-none-eabi libnewlib-arm-none-eabi",
+        f"python3 -c '{IMPORTS}'": "make python TRIAL=1",
     },
 }
 ROWS = [(installed, command, lacks) for installed, rows in MISSING.items() for command, lacks in rows.items()]
