@@ -31,13 +31,16 @@ def tool(monkeypatch, tmp_path):
     return run
 
 
-def test_a_new_output_is_written(tool):
+def test_a_new_output_is_written(tool, capsys):
     assert tool(0) == (0, b"new\n", ["shown.stdout"])
+    assert capsys.readouterr().out.endswith("1 of 1 golden files differ, 1 written\n")
 
 
 def test_an_unmet_expectation_is_refused(tool, capsys):
     assert tool(1) == (1, b"old\n", ["shown.stdout"])
-    assert "shown.txt: status 1, wanted 0: an expected reply didn't come" in capsys.readouterr().out
+    said = capsys.readouterr().out
+    assert "shown.txt: status 1, wanted 0: an expected reply didn't come" in said
+    assert "1 of 1 golden files differ, 0 written\n" in said
 
 
 def test_check_writes_nothing(tool):
