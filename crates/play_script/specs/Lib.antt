@@ -9,3 +9,4 @@ pub mod Reports
 pub mod Runs
 pub mod Views
 pub mod Inside
+pub mod Players

@@ -1,9 +1,7 @@
 //! The player of a script, line by line.
 ghost use Rattle.std.specs.Prelude.{◌≡◌, ◌-◌, ◌≤◌, ◌++◌, List, length, vec_len, ℕ};
 ghost use Rattle.flat_model.specs.Scripts.Grammar.{words};
-ghost use Rattle.net_stack.specs.Stack.{state_of};
 ghost use Rattle.params.specs.declared.TheConstants.{IP_MAX_PACKET};
-ghost use Rattle.play_script.specs.Inside.{play_of};
 ghost use Rattle.play_script.specs.Lines.{reading_part};
 ghost use Rattle.play_script.specs.Reports.{IsWaited, Play, Reports, ReportsAsked, ReportsReading, ReportsSettings, is_done};
 ghost use Rattle.play_script.specs.Views.{expected_on, plain_line};
@@ -51,6 +49,8 @@ fn is_done(line: &Line, failed: bool) -> bool
 }
 
 impl<T: Sink, F: Folder> Player<T, F> {
+    ghost use Rattle.play_script.specs.Players.{play_now};
+
     /// Frees the player and its machine, and returns the capture.
     pub(crate) fn end(self) -> Trace<T>
         ensures { result ≡ self.captured.capture.trace }
@@ -71,11 +71,7 @@ impl<T: Sink, F: Folder> Player<T, F> {
 
     /// Lets this many ticks pass before the line. After any tick, settings are no longer accepted.
     fn wait(&mut self, ticks: u32)
-        ensures waited { IsWaited StackSteps ticks
-            (play_of (state_of self.old.captured.stack) self.old.captured.capture.trace self.old.config self.old.head
-            self.old.printer)
-            (play_of (state_of self.new.captured.stack) self.new.captured.capture.trace self.new.config self.new.head
-            self.new.printer) }
+        ensures waited { IsWaited StackSteps ticks (play_now self.old) (play_now self.new) }
         ensures line { self.new.line ≡ self.old.line }
     {
         self.captured.wait(self.printer.number, ticks);
@@ -86,12 +82,8 @@ impl<T: Sink, F: Folder> Player<T, F> {
     fn set_up(&mut self, text: &mut Buffer<OUTPUT>)
         requires { length text.old ≤ HELD }
         ensures { (added : List ℕ)
-            × ReportsSettings
-            (play_of (state_of self.old.captured.stack) self.old.captured.capture.trace self.old.config self.old.head
-            self.old.printer)
-            self.old.line.shown (words self.old.line.words) (expected_on self.old.line) added
-            (play_of (state_of self.new.captured.stack) self.new.captured.capture.trace self.new.config self.new.head
-            self.new.printer)
+            × ReportsSettings (play_now self.old) self.old.line.shown (words self.old.line.words)
+            (expected_on self.old.line) added (play_now self.new)
             × (text.new ≡ text.old ++ added) }
     {
         let outcome = settled(
@@ -115,12 +107,8 @@ impl<T: Sink, F: Folder> Player<T, F> {
     fn ask(&mut self, text: &mut Buffer<OUTPUT>)
         requires { length text.old ≤ HELD }
         ensures { (added : List ℕ)
-            × ReportsAsked StackSteps F.may_have
-            (play_of (state_of self.old.captured.stack) self.old.captured.capture.trace self.old.config self.old.head
-            self.old.printer)
-            self.old.line.shown (plain_line self.old.line) (expected_on self.old.line) added
-            (play_of (state_of self.new.captured.stack) self.new.captured.capture.trace self.new.config self.new.head
-            self.new.printer)
+            × ReportsAsked StackSteps F.may_have (play_now self.old) self.old.line.shown (plain_line self.old.line)
+            (expected_on self.old.line) added (play_now self.new)
             × (text.new ≡ text.old ++ added) }
     {
         self.captured.capture.line = self.printer.number;
@@ -150,18 +138,16 @@ impl<T: Sink, F: Folder> Player<T, F> {
 }
 
 impl<T: Sink, F: Folder> Player<T, F> {
+    ghost use Rattle.play_script.specs.Players.{play_now};
+
     /// Executes a line with its time.
     fn execute_timed(&mut self, line: &[u8], timed: Timed<'_>, text: &mut Buffer<OUTPUT>)
         requires held { length text.old ≤ HELD }
         requires part { length timed.part.now ≤ length line.now }
         ensures { (added : List ℕ)
-            × ReportsReading StackSteps F.may_have
-            (play_of (state_of self.old.captured.stack) self.old.captured.capture.trace self.old.config self.old.head
-            self.old.printer)
-            timed.entry.ticks (length line.now - length timed.entry.part.now)
-            (reading_part line.now timed.entry.part.now) added
-            (play_of (state_of self.new.captured.stack) self.new.captured.capture.trace self.new.config self.new.head
-            self.new.printer)
+            × ReportsReading StackSteps F.may_have (play_now self.old) timed.entry.ticks
+            (length line.now - length timed.entry.part.now) (reading_part line.now timed.entry.part.now) added
+            (play_now self.new)
             × (text.new ≡ text.old ++ added) }
     {
         match read_part(line, timed.part, &mut self.reader, &mut self.line) {
@@ -180,9 +166,11 @@ impl<T: Sink, F: Folder> Player<T, F> {
 }
 
 impl<T: Sink, F: Folder> Answers<OUTPUT> for Player<T, F> {
+    ghost use Rattle.play_script.specs.Players.{play_now};
+
     ghost State = { Play };
 
-    ghost state = { λ p. play_of (state_of p.captured.stack) p.captured.capture.trace p.config p.head p.printer };
+    ghost state = { λ p. play_now p };
 
     ghost may_answer = { Reports StackSteps F.may_have };
 

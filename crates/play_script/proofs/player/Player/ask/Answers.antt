@@ -1,6 +1,7 @@
 use Rattle.std.proofs.Common.{◌≡◌, Bool, ◌&&◌, refl, ap, ap₂, ◌∙◌}
 use Rattle.play_text.specs.Texts.{fault_text}
 use Rattle.play_script.specs.Inside.{play_of}
+use Rattle.play_script.specs.Players.{play_now}
 use Rattle.play_script.specs.Plays.{captured_of}
 use Rattle.play_script.specs.Reports.{is_done, is_sound, stays_head, reply_line_text}
 use Rattle.play_script.specs.Views.{expected_on, plain_line}
@@ -29,7 +30,7 @@ returns-in-Done g c =
       reply_line_text now.printer.form now.printer.texts now.printer.name now.printer.number now.line.shown wanted text
           below,
       Ask-reports StackSteps g.F.Folder.may_have
-          (play_of (state_of now.captured.stack) now.captured.capture.trace now.config now.head now.printer)
+          (play_now now)
           (playing c.both-head.result c.put_reply_line.new.self c.both-sound.result) now.line.shown (plain_line
           now.line) wanted
           done.0 text below
@@ -48,7 +49,7 @@ returns-in-Settings g c =
     let set = c.set_up.ensures in (
       set.0,
       Settings-execute StackSteps g.F.Folder.may_have
-          (play_of (state_of now.captured.stack) now.captured.capture.trace now.config now.head now.printer) _ _
+          (play_now now) _ _
           now.line.shown (plain_line now.line) now.line.words set.0 (expected_on now.line) done.2.0.0 done.0
           (captured_of (state_of after.stack) after.capture.trace after.capture.line)
           (settings_words now.line done.0 done.2.0.0 done.1 done.2.0.1) done.1
@@ -64,7 +65,7 @@ returns-in-Nothing g c =
     let playing = λ (p : Printer). play_of (state_of after.stack) after.capture.trace now.config now.head p in (
       fault_text now.printer.form now.printer.name now.printer.number c.bytes_of.result.now,
       None-reports StackSteps g.F.Folder.may_have
-          (play_of (state_of now.captured.stack) now.captured.capture.trace now.config now.head now.printer)
+          (play_now now)
           (playing c.put_fault.new.self) now.line.shown (plain_line now.line) (expected_on now.line)
           (captured_of (state_of after.stack) after.capture.trace after.capture.line) c.bytes_of.result.now done.0
           done.1

@@ -1,12 +1,10 @@
 use Rattle.std.proofs.Common.{[], ◌-◌, ◌++◌, ◌∙◌, ap, append-nil, codes, length, refl, sym}
-use Rattle.net_stack.specs.Stack.{state_of}
 use Rattle.play_line.specs.declared.fault.SyntaxError.{SyntaxError}
 use Rattle.play_text.specs.Texts.{fault_text, line_error_text}
-use Rattle.play_script.specs.Inside.{play_of}
+use Rattle.play_script.specs.Players.{play_now, printing}
 use Rattle.play_script.specs.Lines.{Asks, Faulty, Nothing, TooLong, reading_part, shifted}
 use Rattle.play_script.specs.Views.{expected_on, plain_line}
 use Rattle.play_script.specs.declared.line.Line.{Line}
-use Rattle.play_script.specs.declared.printer.Printer.{Printer}
 use Rattle.play_script.proofs.AnswerLemmas.{Reading-reports}
 use Rattle.stack_call.specs.Moves.{StackSteps}
 use Rattle.play_script.proofs.player.Player.execute_timed.Goals as goal
@@ -14,11 +12,9 @@ use Rattle.play_script.proofs.player.Player.execute_timed.Goals as goal
 pub returns-in-Nothing : goal.returns-in-Nothing
 returns-in-Nothing g c =
     let now = c.args.self.now in
-    let t = c.args.timed in
-    let playing =
-    λ (p : Printer). play_of (state_of now.captured.stack) now.captured.capture.trace now.config now.head p in (
+    let t = c.args.timed in (
       [],
-      Reading-reports StackSteps g.F.Folder.may_have (playing now.printer) (playing now.printer) t.ticks
+      Reading-reports StackSteps g.F.Folder.may_have (printing now now.printer) (printing now now.printer) t.ticks
           (length c.args.line.now - length t.part.now) (reading_part c.args.line.now t.part.now) Nothing []
           c.in-Nothing.ensures (refl, refl),
       sym (append-nil c.args.text.now),
@@ -29,13 +25,11 @@ returns-in-TooLong g c =
     let now = c.args.self.now in
     let t = c.args.timed in
     let q = now.printer in
-    let text = fault_text q.form q.name q.number (codes "the line is too long") in
-    let playing =
-    λ (p : Printer). play_of (state_of now.captured.stack) now.captured.capture.trace now.config now.head p in (
+    let text = fault_text q.form q.name q.number (codes "the line is too long") in (
       text,
-      Reading-reports StackSteps g.F.Folder.may_have (playing q) (playing c.put_too_long.new.self) t.ticks
+      Reading-reports StackSteps g.F.Folder.may_have (printing now q) (printing now c.put_too_long.new.self) t.ticks
           (length c.args.line.now - length t.part.now) (reading_part c.args.line.now t.part.now) TooLong text
-          c.in-TooLong.ensures (refl, ap playing c.put_too_long.ensures.printer),
+          c.in-TooLong.ensures (refl, ap (printing now) c.put_too_long.ensures.printer),
       c.put_too_long.ensures.text,
     )
 
@@ -45,13 +39,11 @@ returns-in-Faulty g c =
     let t = c.args.timed in
     let q = now.printer in
     let before = length c.args.line.now - length t.part.now in
-    let text = line_error_text q.form q.name q.number (shifted before c.in-Faulty.error) in
-    let playing =
-    λ (p : Printer). play_of (state_of now.captured.stack) now.captured.capture.trace now.config now.head p in (
+    let text = line_error_text q.form q.name q.number (shifted before c.in-Faulty.error) in (
       text,
-      Reading-reports StackSteps g.F.Folder.may_have (playing q) (playing c.put_error.new.self) t.ticks before
-          (reading_part c.args.line.now t.part.now) (Faulty c.in-Faulty.error) text c.in-Faulty.ensures
-          (refl, ap playing c.put_error.ensures.printer),
+      Reading-reports StackSteps g.F.Folder.may_have (printing now q) (printing now c.put_error.new.self) t.ticks
+          before (reading_part c.args.line.now t.part.now) (Faulty c.in-Faulty.error) text c.in-Faulty.ensures
+          (refl, ap (printing now) c.put_error.ensures.printer),
       c.put_error.ensures.text
           ∙ ap (λ (s : SyntaxError). c.args.text.now ++ line_error_text q.form q.name q.number s) c.shift_column.ensures,
     )
@@ -64,11 +56,11 @@ returns-in-Asks g c =
     let mid = c.wait.new.self in (
       reported.0,
       Reading-reports StackSteps g.F.Folder.may_have
-          (play_of (state_of now.captured.stack) now.captured.capture.trace now.config now.head now.printer) _ t.ticks
+          (play_now now) _ t.ticks
           (length c.args.line.now - length t.part.now) (reading_part c.args.line.now t.part.now)
           (Asks mid.line.shown (plain_line mid.line) (expected_on mid.line)) reported.0
           (c.in-Asks.ensures ∙ ap (λ (l : Line). Asks l.shown (plain_line l) (expected_on l)) (sym c.wait.ensures.line)) (
-            play_of (state_of mid.captured.stack) mid.captured.capture.trace mid.config mid.head mid.printer,
+            play_now mid,
             c.wait.ensures.waited,
             reported.1,
           ),
