@@ -219,7 +219,11 @@ impl SockBuf {
         ensures { Appended pool.old self.old chain sender pool.new self.new }
     {
         pool.laws();
-        let whole = pool.new_plain_before(PACKET_START, &sockaddr_bytes(sender), chain, len);
+        let Ok(whole) = pool.new_plain_with(true, PACKET_START, &sockaddr_bytes(sender)) else {
+            unreachable!()
+        };
+        let first = pool.first(&whole);
+        pool.link_counted(&whole, first, chain, len);
         let end = self.train.len();
         self.train.insert(pool, end, whole, 0);
         self.cc += SOCKADDR_BYTES + len;

@@ -1,16 +1,30 @@
-use Rattle.std.proofs.Common.{◌≡◌, ◌+◌, ℕ, List, ap, sym, subst, ◌∙◌, arith}
+use Rattle.std.proofs.Common.{◌≡◌, ◌+◌, ℕ, List, length, ap, sym, subst, ◌∙◌, arith}
 use Rattle.std.specs.List.{insert}
 use Rattle.mbuf_chain.specs.Owners.{times_among}
-use Rattle.mbuf_chain.specs.Chain.{chain_of}
+use Rattle.mbuf_chain.specs.Chain.{ChainView, chain_of, string}
 use Rattle.mbuf_chain.specs.Train.{QueuedPacket, queued_packets}
-use Rattle.mbuf_chain.proofs.Laws.Owners.{live_adds}
+use Rattle.mbuf_chain.proofs.Laws.Owners.{live_adds, kept_with}
+use Rattle.mbuf_chain.proofs.Laws.Steps.{apart, live_beside, count_new}
 use Rattle.sockbuf.specs.SockBuf.{Appended, SockBufView, IsSockBuf, chains_of}
-use Rattle.sockbuf.proofs.Fronts.{addressed}
+use Rattle.sockbuf.proofs.Fronts.{with_bytes, addressed}
 use Rattle.sockbuf.proofs.Queues.{appended, held_beside, apart_beside}
 use Rattle.sockbuf.proofs.buffer.SockBuf.append_sized.Goals as goal
 
-pub insert-requires-clause-live : goal.insert-requires-clause-live
-insert-requires-clause-live c = live_adds c.new_plain_before-whole.ensures
+pub first-first-requires : goal.first-first-requires
+first-first-requires c = live_adds c.in-Ok.ensures.ok
+
+pub link_counted-requires-clause-back : goal.link_counted-requires-clause-back
+link_counted-requires-clause-back c = live_beside _ _ _ _ c.in-Ok.ensures.ok _ c.requires.can.live
+
+pub link_counted-requires-clause-last : goal.link_counted-requires-clause-last
+link_counted-requires-clause-last c =
+    omega (arith, c.first-first.ensures.index, count_new _ _ _ _ _ c.in-Ok.ensures.ok)
+
+pub link_counted-requires-clause-len : goal.link_counted-requires-clause-len
+link_counted-requires-clause-len c =
+    let a = c.in-Ok.ensures.ok in
+    c.requires.can.len ∙ ap (λ (v : ChainView). length (string v))
+    (sym (kept_with _ _ _ _ _ a.pool (apart _ _ _ _ a _ c.requires.can.live)))
 
 pub insert-requires-clause-held : goal.insert-requires-clause-held
 insert-requires-clause-held c =
@@ -19,12 +33,14 @@ insert-requires-clause-held c =
     subst (λ (v : SockBufView). times_among c.args.chain (chains_of c.args.pool.now v) ≡ 0) (sym c.self.view_is)
     c.requires.can.apart in
     let made =
-    addressed c.args.sender _ c.new_plain_before-whole.ensures c.sockaddr_bytes.ensures c.requires.can.live in
+    addressed _ _ _ (with_bytes c.args.sender _ c.in-Ok.ensures.ok c.sockaddr_bytes.ensures) c.requires.can.live
+    c.link_counted.ensures.change in
     held_beside c.self.inside.train made.moves beside ready.held
 
 pub insert-requires-clause-headed : goal.insert-requires-clause-headed
 insert-requires-clause-headed c =
-    (addressed c.args.sender _ c.new_plain_before-whole.ensures c.sockaddr_bytes.ensures c.requires.can.live).headed
+    (addressed _ _ _ (with_bytes c.args.sender _ c.in-Ok.ensures.ok c.sockaddr_bytes.ensures) c.requires.can.live
+    c.link_counted.ensures.change).headed
 
 pub insert-requires-clause-apart : goal.insert-requires-clause-apart
 insert-requires-clause-apart c =
@@ -33,7 +49,8 @@ insert-requires-clause-apart c =
     subst (λ (v : SockBufView). times_among c.args.chain (chains_of c.args.pool.now v) ≡ 0) (sym c.self.view_is)
     c.requires.can.apart in
     let made =
-    addressed c.args.sender _ c.new_plain_before-whole.ensures c.sockaddr_bytes.ensures c.requires.can.live in
+    addressed _ _ _ (with_bytes c.args.sender _ c.in-Ok.ensures.ok c.sockaddr_bytes.ensures) c.requires.can.live
+    c.link_counted.ensures.change in
     apart_beside c.self.inside.train made.moves c.requires.can.live beside ready.held
 
 pub returns : goal.returns
@@ -43,12 +60,13 @@ returns c =
     subst (λ (v : SockBufView). times_among c.args.chain (chains_of c.args.pool.now v) ≡ 0) (sym c.self.view_is)
     c.requires.can.apart in
     let made =
-    addressed c.args.sender _ c.new_plain_before-whole.ensures c.sockaddr_bytes.ensures c.requires.can.live in
-    let old : List QueuedPacket = queued_packets c.new_plain_before-whole.new.self c.self.inside.train in
+    addressed _ _ _ (with_bytes c.args.sender _ c.in-Ok.ensures.ok c.sockaddr_bytes.ensures) c.requires.can.live
+    c.link_counted.ensures.change in
+    let old : List QueuedPacket = queued_packets c.link_counted.new.self c.self.inside.train in
     let new : QueuedPacket =
     record {
-      number = c.new_plain_before-whole.result;
-      entries = (chain_of c.new_plain_before-whole.new.self c.new_plain_before-whole.result).entries;
+      number = c.in-Ok.whole;
+      entries = (chain_of c.link_counted.new.self c.in-Ok.whole).entries;
       tag = 0;
     } in
     subst (λ (v : SockBufView). Appended c.args.pool.now v c.args.chain c.args.sender c.insert.new.pool
