@@ -219,6 +219,7 @@ impl SockBuf {
         ensures { Appended pool.old self.old chain sender pool.new self.new }
     {
         pool.laws();
+        // By new_plain_before, `store` wouldn't be inlined, at 40 instructions for a datagram that is received.
         let Ok(whole) = pool.new_plain_with(true, PACKET_START, &sockaddr_bytes(sender)) else {
             unreachable!()
         };
