@@ -412,6 +412,21 @@ def test_with_quiet_packets_have_no_objects(bsdplay):
     same("--quiet", [it for it in printed(bsdplay, [*HOSTS, *SEND, "carry"], "-q") if "fate" in it], [])
 
 
+def test_objects_are_whole_if_a_packet_reaches_many_hosts(bsdplay):
+    """63 hosts drop each of two broadcasts, whose objects have 9 KB. Space for them ends within the second's."""
+    names = [f"h{it}" for it in range(63)]
+    script = ["host a --mtu 4352 --mbufs 2000 --clusters 400"]
+    script += [f"host {it} --addr 10.0.0.{at + 2} --mtu 4352" for at, it in enumerate(names)]
+    script += [f"wire a {' '.join(names)}", "a: socket", "a: setsockopt 3 broadcast 1"]
+    script += [*["a: sendto 3 10.0.0.255 7 @4324"] * 2, "collect", "deliver"]
+    packet, more = f'"number":{len(script)},"from":', '"fate":"more"'
+    found = [it for it in printed(bsdplay, script, "--json") if packet in it or more in it]
+    same("objects that are cut", [it[:30] for it in found if it[-1] != "}"], [])
+    fates = [json.loads(it)["fate"] for it in found]
+    same("fates", (set(fates[:-1]), fates[-1]), ({"dropped"}, "more"))
+    assert 2**20 - 10 * 2**10 <= sum(len(it) + 1 for it in found) <= 2**20
+
+
 # ---- lines that begin with a time ----------------------------------------------------------------------------------
 
 NO_TIME = "a time is +0.5s or +2s, and a line follows it"

@@ -76,6 +76,8 @@ pub(crate) struct Log {
     more: u64,
     /// Whether an object was left out.
     partial: bool,
+    /// Whether the line has as many objects as fit.
+    full: bool,
     /// The host to which a packet is about to be delivered.
     before: Option<Look>,
     /// Whether the line moves packets, and whether some of them weren't printed as text.
@@ -101,6 +103,7 @@ impl Log {
             printed: 0,
             more: 0,
             partial: false,
+            full: false,
             before: None,
             moved: false,
             missed: false,
@@ -116,6 +119,7 @@ impl Log {
         self.number = number;
         self.moved = false;
         self.missed = false;
+        self.full = false;
         self.text.clear();
         self.objects.clear();
         self.clear();
@@ -194,7 +198,7 @@ impl Log {
                 wait: 0,
             };
             let events = self.events.as_slice();
-            if self.json && has_room(&self.objects) {
+            if self.json {
                 add_objects(&mut self.objects, names, events, number, fields);
             }
             if self.printed < MOST {
@@ -216,14 +220,16 @@ impl Log {
             add_number(&mut self.text, self.more);
             add(&mut self.text, b" more\n");
         }
-        if self.json && (self.partial || !has_room(&self.objects)) {
+        let full = !has_room(&self.objects);
+        if self.json && !self.full && (self.partial || full) {
             add_more(&mut self.objects, self.number);
         }
+        self.full = full;
     }
 
     /// Writes a packet that is in flight.
     fn report_in_flight(&mut self, names: &[Buffer<NAME>], ether: bool, it: &UnderWay<'_>) {
-        if self.json && has_room(&self.objects) {
+        if self.json {
             let fields = Fields {
                 number: self.number,
                 from: it.sender,

@@ -71,13 +71,16 @@ pub(crate) fn has_room(objects: &Buffer<OBJECTS>) -> bool {
     objects.len() <= OBJECTS - OBJECT
 }
 
-/// Appends an object.
+/// Appends an object if it fits.
 pub(crate) fn add_object(
     objects: &mut Buffer<OBJECTS>,
     names: &[Buffer<NAME>],
     fields: &Fields<'_>,
     verdict: Option<&Verdict>,
 ) {
+    if !has_room(objects) {
+        return;
+    }
     add(objects, b"{\"number\":");
     add_number(objects, fields.number);
     add(objects, b",\"from\":");

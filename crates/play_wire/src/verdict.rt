@@ -158,22 +158,13 @@ impl Verdict {
             add_sockets(text, &self.effect.delivered);
         }
         if dropped {
-            add(
-                text,
-                if delivered {
-                    b" and dropped".as_slice()
-                } else {
-                    b" dropped"
-                },
-            );
-            add(
-                text,
-                if delivered {
-                    b" a copy".as_slice()
-                } else {
-                    what
-                },
-            );
+            let (verb, what) = if delivered {
+                (b" and dropped".as_slice(), b" a copy".as_slice())
+            } else {
+                (b" dropped".as_slice(), what)
+            };
+            add(text, verb);
+            add(text, what);
             add_causes(text, b": ", &self.effect.drops);
         }
         if !delivered && !dropped {
