@@ -108,6 +108,7 @@ TOOLS = {
     "lintian": Tool(command("lintian"), "lintian"),
     "libpcap": Tool(includes("pcap/pcap.h"), "libpcap-dev"),
     "tshark": Tool(command("tshark"), "tshark"),
+    "rlwrap": Tool(command("rlwrap"), "rlwrap"),
     "editcap": Tool(command("editcap"), "wireshark-common"),
     "mergecap": Tool(command("mergecap"), "wireshark-common"),
     "tcpdump": Tool(command("tcpdump"), "tcpdump"),

@@ -297,18 +297,31 @@ def test_punctuation_is_ignored_and_the_wrong_word_is_named(reply, note, bsdplay
     same("status", ended.returncode, 1 if note else 0)
 
 
-@pytest.mark.parametrize("reply, right", [
-    ("3 packets, the next of 572 bytes", True), ("3 packets ..", False), ("3 packets, the next of _ bytes", False)
-])  # fmt: skip
-def test_the_key_says_which_words_count(reply, right, bsdplay, tmp_path):
-    """A reply that leaves out words of the key comes when the hand-in is played, and its mark is lost."""
+@pytest.mark.parametrize(
+    "reply, note",
+    [
+        ("3 packets, the next of 572 bytes", ""),
+        ("3 packets ..", "; this reply comes, but leaves out words that the key wants"),
+        ("3 packets, the next of _ bytes", "; this reply comes, but leaves out words that the key wants"),
+    ],
+)
+def test_the_key_says_which_words_count(reply, note, bsdplay, tmp_path):
+    """A reply that leaves out words of the key comes when the hand-in is played. Its mark is lost, with the reason."""
     key, hand = tmp_path / "key.txt", tmp_path / "ann.txt"
     key.write_text(FRAGMENTS.format("3 packets, the next of 572 bytes"), encoding="utf-8")
     hand.write_text(FRAGMENTS.format(reply), encoding="utf-8")
     same("status when played", run(bsdplay, hand).returncode, 0)
     ended = run(bsdplay, "--grade", "--key", key, hand)
-    marks = "3 right, 0 wrong, 0 missing" if right else "2 right, 1 wrong, 0 missing, first at line 4 of the key"
-    assert ended.stdout.decode().startswith(f"{hand}: {'passed' if right else 'failed'}, {marks}"), ended
+    right = "2 right, 1 wrong, 0 missing, first at line 4 of the key" if note else "3 right, 0 wrong, 0 missing"
+    same("line", ended.stdout.decode(), f"{hand}: {'failed' if note else 'passed'}, {right}{note}\n")
+
+
+def test_another_answer_to_a_question_is_named(bsdplay, tmp_path):
+    for name, answer in (("key.txt", 552), ("ann.txt", 548)):
+        text = FRAGMENTS.format("3 packets ..") + f"#? At which byte => {answer}\n"
+        (tmp_path / name).write_text(text, encoding="utf-8")
+    ended = run(bsdplay, "--grade", "--key", tmp_path / "key.txt", tmp_path / "ann.txt")
+    assert ended.stdout.decode().endswith("first at line 5 of the key; another answer than the key's\n"), ended
 
 
 @pytest.mark.parametrize("form", [[], ["--csv"]], ids=["text", "csv"])
@@ -343,6 +356,23 @@ def test_want_of_memory_is_no_mark(kilobytes, bsdplay, tmp_path):
         ended = limited(kilobytes, bsdplay, "--grade", "--key", key, large)
         same(f"status and marks: {ended.stderr}", (ended.returncode, ended.stdout), (3, b""))
         assert b"no memory" in ended.stderr
+
+
+@pytest.mark.parametrize("words", [[], ["--json"], ["--quiet"], ["--color", "always"], ["--strict"]])
+@pytest.mark.parametrize("front, line", [("", "--mbufs 65535 --clusters 4096"),
+                                         ("host a --addr 10.0.0.1\n", "host b --addr 10.0.0.2 --mbufs 65535")])  # fmt: skip
+def test_settings_without_memory_end_with_status_3(front, line, words, bsdplay, tmp_path):
+    """The lines after them are played all the same."""
+    script = tmp_path / "large.txt"
+    script.write_text(f"{front}{line}\n{'wire a' if front else 'socket => ok 3'}\n", encoding="utf-8")
+    ended = limited(16_000, bsdplay, *words, script)
+    assert (ended.returncode, b"no memory" in ended.stdout) == (3, True), ended
+
+
+def test_a_line_about_memory_is_no_want_of_it(bsdplay):
+    """Neither an expected reply nor a text that says so."""
+    script = 'socket => error no memory\nsendto 3 10.0.0.2 7 "x: no memory"\n'
+    same("status", run(bsdplay, "-", script=script).returncode, 1)
 
 
 # ---- exercises that are played -------------------------------------------------------------------------------------

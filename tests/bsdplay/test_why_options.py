@@ -1,7 +1,9 @@
 """What `bsdplay why` says of checksums that are left to the card, of ICMP errors and of captures without UDP, and what its
 options select. The expected checksums are scapy's, and the ICMP errors are packed by hand from RFC 792."""
+import ctypes
 import json
 import pathlib
+import re
 import struct
 import subprocess
 import threading
@@ -9,6 +11,7 @@ import threading
 import pytest
 
 from tests.bsdplay.runs import run
+from tests.cases import TOP
 from tests.packets import ALL, HERE, MORE, PEER, checksum, datagram, ends, fragment, ip
 from tests.pcaps import ETHERNET, header, record
 
@@ -158,6 +161,7 @@ def test_records_are_judged_as_they_come(bsdplay):
         watch.start()
         program.stdin.write(header())
         packets = [datagram(b"hi"), CLOSED[0], unreachable(CLOSED[0]), CLOSED[1]]
+        assert (program.stdout.readline()[:20], program.stdout.readline()) == (b"A UDP/IP stack alone", b"\n")
         lines = []
         for at, packet in enumerate(packets):
             program.stdin.write(record("<", 0, at * 1000, packet))
@@ -214,6 +218,35 @@ def test_ppp_is_read(framing, bsdplay, tmp_path):
     text = why(bsdplay, tmp_path, frames, link=9).stdout.decode()
     assert text.count("udp 10.0.0.2:5000 > 10.0.0.1:7, 5 bytes, id 7 => delivered to port 7: 5 bytes") == 2, text
     assert "Without IPv4: 3 (1 IPv6, 1 other frames, 1 cut in the link header)." in text, text
+
+
+def table():
+    """Returns the link types by number that the program has names for."""
+    source = (TOP / "crates/bsdplay/src/link_names.rt").read_text(encoding="utf-8")
+    return {int(number): name for number, name in re.findall(r'number: (\d+),\s+name: "([^"]*)"', source)}
+
+
+@pytest.mark.needs("libpcap")
+def test_the_names_of_link_types_are_those_of_libpcap():
+    library = ctypes.CDLL("libpcap.so.0.8")
+    library.pcap_datalink_val_to_description.restype = ctypes.c_char_p
+    named = {number: library.pcap_datalink_val_to_description(number).decode() for number in table()}
+    assert table() == named and len(named) > 40
+
+
+def test_an_unknown_link_type_is_named(bsdplay, tmp_path):
+    ended = why(bsdplay, tmp_path, [bytes(40)], link=105)
+    assert (ended.returncode, ended.stdout) == (1, b"")
+    assert b"unknown link type 105 at byte 20: 802.11; docs/captures.md" in ended.stderr, ended.stderr
+    ended = why(bsdplay, tmp_path, [bytes(40)], link=300)
+    assert b"unknown link type 300 at byte 20: not one that bsdplay knows" in ended.stderr, ended.stderr
+
+
+def test_records_of_an_unknown_link_type_are_counted(bsdplay):
+    """A pcapng file may have interfaces of several link types."""
+    ended = run(bsdplay, "why", "-", script=interface(1, link=127))
+    told = b"1 record: 1 of link type 127 (802.11 plus radiotap header).\n"
+    assert (ended.returncode, ended.stdout[: len(told)]) == (0, told), ended
 
 
 # ---- time ------------------------------------------------------------------------------------------------------------

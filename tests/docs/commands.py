@@ -120,6 +120,12 @@ SESSIONS = {
         {"capture.pcap": "examples/play/faults.pcap"},
         shown="This is some of the output for",
     ),
+    "why as a host": Session(
+        "docs/captures.md",
+        ["bsdplay why --ether --mac 02:00:00:00:00:01 --addr 10.0.0.1 capture.pcap"],
+        {"capture.pcap": "examples/play/faults.pcap"},
+        prints=["A host on an Ethernet judges, with ARP and ICMP."],
+    ),
     "scripts": Session(
         "docs/scripts.md", ["bsdplay examples/play/why_dropped.txt"], EXAMPLES, shown="and what changed:"
     ),

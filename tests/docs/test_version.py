@@ -13,6 +13,7 @@ PLACES = {
     "CITATION.cff": rf"^version: {NUMBER}$",
     "capi/include/bsdudp.h": rf'^#define BSDUDP_VERSION "{NUMBER}"$',
     "crates/bsdplay/src/main.rt": rf'\.version\("{NUMBER}"\)',
+    "crates/bsdplay/src/typed.rt": rf'b"bsdplay {NUMBER} plays',
     "conform/pyproject.toml": rf'^version = "{NUMBER}"$',
     "dist/tag.txt": rf"^bsdudp {NUMBER}$",
     "docs/c.md": r"find_package\(bsdudp (\d+\.\d+) ",

@@ -11,6 +11,15 @@ const AHEAD: usize = 4096;
 /// The byte order mark of UTF-8, which editors may write at the beginning of a script (RFC 3629 section 6).
 const MARK: &[u8] = b"\xef\xbb\xbf";
 
+/// The first bytes of captures: of pcap with microseconds and with nanoseconds, in both byte orders, and of pcapng.
+const CAPTURES: [[u8; 4]; 5] = [
+    [0xd4, 0xc3, 0xb2, 0xa1],
+    [0xa1, 0xb2, 0xc3, 0xd4],
+    [0x4d, 0x3c, 0xb2, 0xa1],
+    [0xa1, 0xb2, 0x3c, 0x4d],
+    [0x0a, 0x0d, 0x0d, 0x0a],
+];
+
 /// The word that a script of many machines begins with.
 const HOST: &[u8] = b"host";
 
@@ -59,6 +68,19 @@ fn begins_with_host(script: &[u8]) -> Option<bool> {
         };
     }
     None
+}
+
+/// Returns whether a file that begins with these bytes is a capture. `None` if these bytes don't show it yet.
+fn begins_capture(front: &[u8]) -> Option<bool> {
+    for magic in CAPTURES {
+        if front.starts_with(&magic) {
+            return Some(true);
+        }
+        if magic.starts_with(front) {
+            return None;
+        }
+    }
+    Some(false)
 }
 
 /// The text that is appended to a script if a summary was requested.
@@ -110,6 +132,34 @@ impl<R: Read> Ahead<R> {
         found
     }
 
+    /// Returns whether this is a capture and not a script. Reads as far as needed: of a script, the first line.
+    pub(crate) fn is_capture(&mut self) -> bool {
+        for _ in 0..AHEAD {
+            if let Some(found) = begins_capture(self.front.get(..self.len).unwrap_or_default()) {
+                return found;
+            }
+            if !self.read_more() {
+                return false;
+            }
+        }
+        false
+    }
+
+    /// Reads ahead once. Returns whether that brought bytes.
+    fn read_more(&mut self) -> bool {
+        let len = self.len;
+        if len >= AHEAD {
+            return false;
+        }
+        match self.inner.read(&mut self.front[len..]) {
+            Ok(0) | Err(_) => false,
+            Ok(more) => {
+                self.len = len + more;
+                true
+            }
+        }
+    }
+
     /// Returns whether the bytes read so far show a script of many machines.
     fn look_ahead(&mut self) -> bool {
         for _ in 0..AHEAD {
@@ -120,12 +170,8 @@ impl<R: Read> Ahead<R> {
             if let Some(found) = begins_with_host(&self.front[..len]) {
                 return found;
             }
-            if len == AHEAD {
+            if !self.read_more() {
                 return false;
-            }
-            match self.inner.read(&mut self.front[len..]) {
-                Ok(0) | Err(_) => return false,
-                Ok(more) => self.len = len + more,
             }
         }
         false

@@ -2,18 +2,16 @@
 use crate::difference::put_difference;
 use crate::hand_in::{REFUSED, load, play_quietly, unmarked};
 use crate::sweep::first_fault;
+use crate::watched::{NO_MEMORY, is_lack};
 use crate::{UNREAD, USAGE};
 use clap::ArgMatches;
 use csv::Writer;
-use play_grade::{Marker, Marks, Verdict};
+use play_grade::{Marker, Marks, Verdict, first_line};
 use play_script::RunFault;
 use std::io::{self, Write};
 
 /// The status if a hand-in doesn't pass, or the key itself doesn't.
 const FAILED: u8 = 1;
-
-/// The status if a hand-in or the key can't be played because host memory is refused.
-const NO_MEMORY: u8 = 3;
 
 /// The report on a hand-in.
 #[derive(Clone, Copy)]
@@ -172,7 +170,7 @@ fn refuse_key(rt: &HostRuntime, name: &str, verdict: &Verdict, written: &[u8]) -
 /// Whether host memory was refused while a script was played: to the player, or to a machine of its settings. Then its
 /// replies aren't marked.
 fn lacks_memory(verdict: &Verdict, fault: &[u8]) -> bool {
-    matches!(verdict.played.outcome, Err(RunFault::Memory)) || fault.ends_with(b": no memory")
+    matches!(verdict.played.outcome, Err(RunFault::Memory)) || is_lack(fault)
 }
 
 /// Returns the status if a key doesn't pass itself, after saying why. `None`: it passes.
@@ -207,6 +205,29 @@ fn report_unwritten(rt: &HostRuntime) -> io::Result<u8> {
 fn report_refused(rt: &HostRuntime, name: &str) -> io::Result<Option<u8>> {
     eprintln!(rt; "bsdplay: {name}: no memory: it isn't graded")?;
     Ok(Some(NO_MEMORY))
+}
+
+/// Returns why the first answer that isn't right is wrong although each expected reply comes: it's one to a question,
+/// or a reply without some words of the key.
+fn reason_of(key: Option<&[u8]>, marks: Marks) -> &'static [u8] {
+    let (Some(key), Some(first)) = (key, marks.first) else {
+        return b"";
+    };
+    if marks.wrong == 0 || marks.missing != 0 {
+        return b"";
+    }
+    let mut left = key;
+    for _ in 1..first {
+        match first_line(left) {
+            (_, Some(more)) => left = more,
+            (_, None) => break,
+        }
+    }
+    if left.starts_with(b"#?") {
+        b"another answer than the key's"
+    } else {
+        b"this reply comes, but leaves out words that the key wants"
+    }
 }
 
 /// Grades a hand-in, prints the report, and returns its status. `None`: the report can't be written.
@@ -244,6 +265,9 @@ fn grade_file<W: Write + Drop>(
     let mut note = Vec::new(rt.alloc());
     note.extend_from_slice(fault)?;
     put_difference(&mut note, fault)?;
+    if fault.is_empty() {
+        note.extend_from_slice(reason_of(key, verdict.marks))?;
+    }
     let report = Report {
         name,
         word: word_of(&verdict),

@@ -7,7 +7,13 @@ const FRONT: &str =
 a capture can't be played; 2 for a wrong command line; 3 without memory; 4 if a file
 can't be read, or writing fails.
 
-Lines, also after a time (+0.5s tx); docs/scripts.md and man bsdplay explain them:
+On a terminal it prompts for lines; `rlwrap bsdplay` adds a history. bsdudp, for programs,
+prints no help: its options and replies are in man bsdudp.
+
+";
+
+const LINES: &str =
+    "Lines, also after a time (+0.5s tx); docs/scripts.md and man bsdplay explain them:
 ";
 
 /// Appends the forms of commands, a line for each.
@@ -33,14 +39,27 @@ fn add_forms_of_rx(text: &mut String) -> Result<(), AllocError> {
     Ok(())
 }
 
-/// Returns the statuses, and the forms of all lines, those that docs/scripts.md has.
+/// Returns the statuses, and the forms of all lines.
 pub(crate) fn lines(alloc: Global) -> Result<String, AllocError> {
     let mut text = String::new(alloc);
     text.push_str(FRONT)?;
-    add_forms(&mut text, &host_commands())?;
-    text.push_str("Lines of a host on an Ethernet, after its NAME:\n")?;
-    add_forms(&mut text, &[Command::Frame, Command::LastError])?;
-    text.push_str("Lines of many hosts, with those above after a host's NAME:\n")?;
-    add_forms(&mut text, &wire_commands())?;
+    add_all_forms(&mut text)?;
     Ok(text)
+}
+
+/// Returns the forms of all lines.
+pub(crate) fn forms(alloc: Global) -> Result<String, AllocError> {
+    let mut text = String::new(alloc);
+    add_all_forms(&mut text)?;
+    Ok(text)
+}
+
+/// Appends the forms of all lines, those that docs/scripts.md has.
+fn add_all_forms(text: &mut String) -> Result<(), AllocError> {
+    text.push_str(LINES)?;
+    add_forms(text, &host_commands())?;
+    text.push_str("Lines of a host on an Ethernet, after its NAME:\n")?;
+    add_forms(text, &[Command::Frame, Command::LastError])?;
+    text.push_str("Lines of many hosts, with those above after a host's NAME:\n")?;
+    add_forms(text, &wire_commands())
 }

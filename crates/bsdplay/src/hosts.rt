@@ -1,5 +1,5 @@
 //! Scripts of many machines, with a capture of their wire or without one.
-use play_script::{Played, Silent, Sink, Source, Style};
+use play_script::{Silent, Sink, Source, Style};
 use play_wire::{Nowhere, PlayedHosts, Start, play_hosts};
 use std::{fs, io};
 
@@ -40,10 +40,10 @@ pub(crate) fn play_captured<R: Source, W: Sink>(
     Some(play_hosts(rt.alloc(), style, start, reader, writer))
 }
 
-/// Returns the status of a script, after a line for a capture that isn't whole.
-pub(crate) fn status_of(rt: &HostRuntime, played: &Played, kept: bool) -> io::Result<u8> {
+/// Returns the status of a script, or that of its capture, after a line that says that the capture isn't whole.
+pub(crate) fn status_of(rt: &HostRuntime, status: u8, kept: bool) -> io::Result<u8> {
     if kept {
-        return Ok(played.status());
+        return Ok(status);
     }
     eprintln!(rt; "bsdplay: the capture isn't whole, since a write failed")?;
     Ok(UNWRITTEN)

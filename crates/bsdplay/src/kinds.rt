@@ -1,4 +1,5 @@
 //! What the records of a capture contain, counted for the summary.
+use crate::link_names::name_of;
 use capture::Record;
 use capture::pcap::{NoPacket, ipv4_packet};
 use std::io::{self, Write};
@@ -36,7 +37,7 @@ static NAMES: [&str; KINDS] = [
     "PPPoE",
     "other frames",
     "cut in the link header",
-    "of a link type that isn't read",
+    "of link type",
 ];
 
 /// Returns the kind of an IPv4 packet.
@@ -97,6 +98,8 @@ impl Kind {
 pub(crate) struct Kinds {
     records: u64,
     counts: [u64; KINDS],
+    /// The first link type that isn't read.
+    link: u16,
 }
 
 /// The kinds of a range of indices.
@@ -115,6 +118,7 @@ impl Kinds {
         Kinds {
             records: 0,
             counts: [0; KINDS],
+            link: 0,
         }
     }
 
@@ -122,6 +126,9 @@ impl Kinds {
     pub(crate) fn add(&mut self, record: Record, bytes: &[u8]) {
         let kind = kind_of(record, bytes);
         self.records = self.records.saturating_add(1);
+        if matches!(kind, Kind::Link) && self.count(Kind::Link) == 0 {
+            self.link = record.link_number;
+        }
         if let Some(count) = self.counts.get_mut(kind.place()) {
             *count = count.saturating_add(1);
         }
@@ -146,6 +153,12 @@ impl Kinds {
                 let name = NAMES.get(kind).copied().unwrap_or("");
                 write!(out, "{}{count} {name}", if is_first { "" } else { ", " })?;
                 is_first = false;
+            }
+        }
+        if part.to == KINDS && self.count(Kind::Link) != 0 {
+            write!(out, " {}", self.link)?;
+            if let Some(name) = name_of(self.link) {
+                write!(out, " ({name})")?;
             }
         }
         Ok(())

@@ -4,6 +4,8 @@
 
 mod choice;
 mod difference;
+mod ether;
+mod ether_text;
 mod folder;
 mod form;
 mod formats;
@@ -13,12 +15,16 @@ mod hand_in;
 mod help;
 mod hosts;
 mod kinds;
+mod link_names;
 mod one;
 mod options;
 mod records;
+mod screen;
 mod strict;
 mod sweep;
+mod typed;
 mod unsolved;
+mod watched;
 mod why;
 
 use choice::Ahead;
@@ -32,14 +38,17 @@ use help::lines;
 use hosts::{play_captured, play_uncaptured, status_of};
 use one::play_one;
 use options::{OPTIONS, with_options};
-use play_script::{Form, Played, Silent, Style};
+use play_script::{Form, Played, RunFault, Style};
+use screen::Screen;
 use std::alloc::{AllocError, Global};
 use std::io::{IsTerminal, Read};
 use std::process::ExitCode;
 use std::{env, fs, io};
 use strict::{print_blank, print_lacks};
 use sweep::{Seeds, seed_in, seeds_in, sweep};
+use typed::{TYPED, Typed, is_typed};
 use unsolved::{Open, Unsolved};
+use watched::Watched;
 use why::{print_why, why_command};
 
 /// The status if the command line can't be read.
@@ -83,8 +92,8 @@ pub(crate) fn report(rt: &HostRuntime, name: &str, played: &Played) -> io::Resul
 
 /// How scripts are played.
 #[derive(Clone, Copy)]
-struct Manner<'a> {
-    form: Form,
+pub(crate) struct Manner<'a> {
+    pub(crate) form: Form,
     seed: u64,
     /// Each of these seeds instead of one.
     seeds: Option<Seeds>,
@@ -93,7 +102,9 @@ struct Manner<'a> {
     /// Whether each line with a request must have an expectation.
     strict: bool,
     /// The file to which the capture is written.
-    capture: Option<&'a str>,
+    pub(crate) capture: Option<&'a str>,
+    /// Whether the lines are typed at a terminal.
+    pub(crate) typed: bool,
 }
 
 /// Returns how the options say to play scripts. `None` if a seed isn't valid.
@@ -114,6 +125,7 @@ fn manner_of<'a>(found: &'a ArgMatches<'_>, form: Form) -> Option<Manner<'a>> {
         progress: found.get_flag("progress"),
         strict: found.get_flag("strict"),
         capture: found.get_str("PCAP"),
+        typed: false,
     })
 }
 
@@ -153,7 +165,16 @@ fn play_wired<R: Read + Drop>(
     if manner.summary {
         reader.ask_for_summary();
     }
-    let mut writer = Silent(rt.stdout());
+    let screen = Screen::over(rt.stdout(), manner.form, manner.typed);
+    let Ok(writer) = Watched::over(rt.alloc(), screen) else {
+        let played = Played {
+            outcome: Err(RunFault::Memory),
+            sound: true,
+        };
+        report(rt, name, &played)?;
+        return Ok(played.status());
+    };
+    let mut writer = writer;
     let style = Style {
         form: manner.form,
         name: name.as_bytes(),
@@ -169,7 +190,7 @@ fn play_wired<R: Read + Drop>(
         },
     };
     report(rt, name, &done.played)?;
-    status_of(rt, &done.played, done.kept)
+    status_of(rt, writer.status_of(&done.played), done.kept)
 }
 
 /// Plays a script like [`play_source`], after it was read completely, and then prints the lines without an expectation.
@@ -197,17 +218,25 @@ fn play_reader<R: Read + Drop>(
     name: &str,
     manner: Manner<'_>,
 ) -> io::Result<u8> {
+    if reader.is_capture() {
+        return report_capture(rt, name);
+    }
     if let Some(seeds) = manner.seeds {
         return play_seeds(rt, reader, name, manner, seeds);
     }
     if reader.has_hosts() {
         return play_wired(rt, reader, name, manner);
     }
-    let style = Style {
-        form: manner.form,
-        name: name.as_bytes(),
-    };
-    play_one(rt, reader, name, style, manner.capture)
+    play_one(rt, reader, name, manner)
+}
+
+/// Prints what to do with a capture that was given as a script.
+fn report_capture(rt: &HostRuntime, name: &str) -> io::Result<u8> {
+    eprintln!(rt;
+        "bsdplay: {name}: it's a capture: `bsdplay why {name}` says what happens to each packet, and \
+        `bsdplay --from-pcap {name}` makes a script of it"
+    )?;
+    Ok(USAGE)
 }
 
 /// Says what is open in an exercise, and returns whether anything is.
@@ -265,10 +294,24 @@ fn play_input<R: Read + Drop>(
     }
 }
 
+/// Plays the script from standard input, with a prompt if it's typed for people.
+fn play_stdin(rt: &HostRuntime, manner: Manner<'_>) -> io::Result<u8> {
+    let for_people = matches!(manner.form, Form::Plain | Form::Coloured);
+    if !for_people || manner.strict || manner.seeds.is_some() || !is_typed(rt) {
+        return play_input(rt, rt.stdin(), "-", manner);
+    }
+    let typed = Manner {
+        typed: true,
+        ..manner
+    };
+    let mut reader = Ahead::over(Typed::begin(rt)?);
+    play_reader(rt, &mut reader, TYPED, typed)
+}
+
 /// Plays the script in a file, or from standard input if the name is `-`.
 fn play_file(rt: &HostRuntime, name: &str, manner: Manner<'_>) -> io::Result<u8> {
     if name == "-" {
-        return play_input(rt, rt.stdin(), "-", manner);
+        return play_stdin(rt, manner);
     }
     let Ok(file) = fs::open(rt, name) else {
         eprintln!(rt; "bsdplay: {name}: it can't be opened")?;
@@ -291,7 +334,7 @@ fn play_all(rt: &HostRuntime, found: &ArgMatches<'_>) -> io::Result<u8> {
         return Ok(USAGE);
     };
     let Some(names) = found.get_strs("FILE") else {
-        return play_input(rt, rt.stdin(), "-", manner);
+        return play_stdin(rt, manner);
     };
     let mut captured = false;
     let mut worst = 0;

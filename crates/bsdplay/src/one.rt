@@ -2,7 +2,9 @@
 use crate::choice::Ahead;
 use crate::folder::HostFolder;
 use crate::hosts::{UNWRITTEN, status_of};
-use crate::report;
+use crate::screen::Screen;
+use crate::watched::Watched;
+use crate::{Manner, report};
 use play_pcap::Nowhere;
 use play_script::{
     Captured, DEFAULTS, Played, RunFault, Silent, Sink, Source, Start, Style, Trace, play_captured,
@@ -14,11 +16,12 @@ use std::io::{self, Read};
 /// Plays a script from a folder, writes the packets that arrive and leave to a sink, and returns the status.
 fn play_to<R: Source, S: Sink + Drop>(
     rt: &HostRuntime,
-    style: Style<'_>,
+    manner: Manner<'_>,
     (name, sink): (&str, S),
     reader: &mut R,
 ) -> io::Result<u8> {
-    let Ok(room) = Buffer::new(rt.alloc()) else {
+    let screen = Screen::over(rt.stdout(), manner.form, manner.typed);
+    let (Ok(room), Ok(writer)) = (Buffer::new(rt.alloc()), Watched::over(rt.alloc(), screen)) else {
         let played = Played {
             outcome: Err(RunFault::Memory),
             sound: true,
@@ -31,12 +34,16 @@ fn play_to<R: Source, S: Sink + Drop>(
         trace: Trace::begin(sink, room),
         folder: HostFolder::of(rt, name),
     };
-    let mut writer = Silent(rt.stdout());
+    let style = Style {
+        form: manner.form,
+        name: name.as_bytes(),
+    };
+    let mut writer = writer;
     let Captured { played, trace } = play_captured(rt.alloc(), start, style, reader, &mut writer);
     let kept = trace.is_whole();
     let _sink = trace.end();
     report(rt, name, &played)?;
-    status_of(rt, &played, kept)
+    status_of(rt, writer.status_of(&played), kept)
 }
 
 /// Plays a script on one machine, and writes a capture to a new file if it's wanted.
@@ -44,15 +51,14 @@ pub(crate) fn play_one<R: Read + Drop>(
     rt: &HostRuntime,
     reader: &mut Ahead<R>,
     name: &str,
-    style: Style<'_>,
-    capture: Option<&str>,
+    manner: Manner<'_>,
 ) -> io::Result<u8> {
-    let Some(path) = capture else {
-        return play_to(rt, style, (name, Nowhere), reader);
+    let Some(path) = manner.capture else {
+        return play_to(rt, manner, (name, Nowhere), reader);
     };
     let Ok(file) = fs::create(rt, path) else {
         eprintln!(rt; "bsdplay: {path}: it can't be written")?;
         return Ok(UNWRITTEN);
     };
-    play_to(rt, style, (name, Silent(file)), reader)
+    play_to(rt, manner, (name, Silent(file)), reader)
 }

@@ -124,7 +124,7 @@ pub(crate) static OPTIONS: [LongOption; 15] = [
 ];
 
 /// The options of `why`.
-pub(crate) static WHY_OPTIONS: [LongOption; 10] = [
+pub(crate) static WHY_OPTIONS: [LongOption; 12] = [
     LongOption {
         id: "A",
         long: "addr",
@@ -160,6 +160,18 @@ pub(crate) static WHY_OPTIONS: [LongOption; 10] = [
         long: "offload",
         help: "Fill in checksums that were left to the sender's card, and go on with the later checks",
         action: ArgAction::SetTrue,
+    },
+    LongOption {
+        id: "ether",
+        long: "ether",
+        help: "Judge as a host on an Ethernet: hardware addresses, ARP and ICMP, and not the stack alone",
+        action: ArgAction::SetTrue,
+    },
+    LongOption {
+        id: "MAC",
+        long: "mac",
+        help: "With --ether: the host's hardware address (default: that with which it sends)",
+        action: ArgAction::Set,
     },
     LongOption {
         id: "dropped",

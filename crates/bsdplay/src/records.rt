@@ -1,15 +1,19 @@
 //! The records of a capture, each of which is given to a judge.
 ghost use Rattle.std.specs.Prelude.{◌≤◌, length, IfSome};
 
+use crate::ether::{EtherEnd, LinkCounts, Linked, MacSeen};
+use crate::ether_text::{Frame, LINK_TEXT, put_frame_text, put_link_totals};
 use crate::kinds::Kinds;
 use crate::why::Choice;
-use capture::pcap::ipv4_packet;
+use capture::pcap::{LinkType, ipv4_packet};
 use capture::{Fault, Record, Records};
+use flat_ether::Mac;
+use flat_model::Why;
 use play_pcap::Range;
 use play_why::{
     Addresses, Arrival, Blame, Busiest, Card, Judge, Layout, Outcome, Refusals, Verdict,
 };
-use script_loop::Source;
+use script_loop::{Buffer, Source};
 use std::alloc::{AllocError, Global};
 use std::io::Write;
 use std::net::Ipv4Addr;
@@ -71,6 +75,22 @@ impl Ahead {
     }
 }
 
+/// Returns the hardware address of a host, by the frames of a capture, if one of them shows it.
+pub(crate) fn find_mac<S: Source>(records: &mut Records<S>, ours: u32) -> Option<Mac> {
+    let mut seen = MacSeen::new(ours);
+    for _ in 0..u64::MAX {
+        match records.next_record() {
+            Ok(Some(record)) => {
+                if matches!(record.link, Some(LinkType::Ethernet)) {
+                    seen.read(records.bytes());
+                }
+            }
+            Ok(None) | Err(_) => break,
+        }
+    }
+    seen.found()
+}
+
 /// Reads a capture ahead, up to its end or its first fault, which is returned too.
 pub(crate) fn read_ahead<S: Source>(
     alloc: Global,
@@ -100,6 +120,8 @@ pub(crate) struct Counts {
     pub(crate) without: u64,
     /// Datagrams that are unfinished at the end.
     pub(crate) unfinished: u64,
+    /// Frames that the link of a host on an Ethernet didn't give to its stack.
+    pub(crate) link: LinkCounts,
     pub(crate) kinds: Kinds,
     /// Whether something happened that `--fail-on` names.
     pub(crate) fails: bool,
@@ -113,11 +135,31 @@ pub(crate) enum End {
     Unwritten,
 }
 
+/// The machine that judges: a stack, and a host on an Ethernet if frames are judged. It must be consumed by `end`.
+pub(crate) struct Machine {
+    pub(crate) judge: Judge,
+    pub(crate) link: Option<EtherEnd>,
+}
+
+impl Machine {
+    /// Ends both.
+    pub(crate) fn end(self) {
+        let Machine { judge, link } = self;
+        judge.end();
+        if let Some(link) = link {
+            link.end();
+        }
+    }
+}
+
 /// The machine to which the packets go. It must be consumed by `end`.
 pub(crate) struct Play {
     choice: Choice,
     ours: u32,
     judge: Judge,
+    /// The host on an Ethernet, if one judges.
+    link: Option<EtherEnd>,
+    link_text: Buffer<LINK_TEXT>,
     refusals: Refusals,
     /// Whether the refusals were read ahead.
     ahead: bool,
@@ -184,22 +226,43 @@ fn is_at_fault(verdict: &Verdict) -> bool {
     found
 }
 
+/// What is printed below a datagram for which a host on an Ethernet sends an ICMP error.
+static REPORTED: &[u8] =
+    b"    the host sends the ICMP error \"port unreachable\" (RFC 1122, section 4.1.3.1)\n";
+
+/// Returns whether no socket took a datagram that the host didn't refuse in the capture.
+fn is_unclaimed(verdict: &Verdict) -> bool {
+    let mut found = false;
+    for finding in verdict.findings {
+        if let Some(finding) = finding {
+            found = found
+                || (matches!(finding.why, Why::UdpNoPort)
+                    && matches!(finding.blame, Blame::Packet));
+        }
+    }
+    found
+}
+
 impl Play {
-    /// The machine of a judge, with the refusals that were read ahead if there are any. On error the judge is returned.
+    /// A machine that has just started, with the refusals that were read ahead if there are any. On error the machine
+    /// is returned.
     pub(crate) fn begin(
         alloc: Global,
         choice: Choice,
         ours: u32,
-        judge: Judge,
+        machine: Machine,
         refusals: Option<Refusals>,
-    ) -> Result<Play, Judge> {
-        let Ok(card) = Card::new(alloc) else {
-            return Err(judge);
+    ) -> Result<Play, Machine> {
+        let (Ok(card), Ok(link_text)) = (Card::new(alloc), Buffer::new(alloc)) else {
+            return Err(machine);
         };
+        let Machine { judge, link } = machine;
         Ok(Play {
             choice,
             ours,
             judge,
+            link,
+            link_text,
             ahead: refusals.is_some(),
             refusals: match refusals {
                 Some(refusals) => refusals,
@@ -210,6 +273,7 @@ impl Play {
                 elsewhere: 0,
                 without: 0,
                 unfinished: 0,
+                link: LinkCounts::new(),
                 kinds: Kinds::new(),
                 fails: false,
             },
@@ -222,12 +286,14 @@ impl Play {
             choice: _choice,
             ours: _ours,
             judge,
+            link,
+            link_text: _link_text,
             refusals: _refusals,
             ahead: _ahead,
             card: _card,
             counts,
         } = self;
-        judge.end();
+        Machine { judge, link }.end();
         counts
     }
 
@@ -256,6 +322,9 @@ impl Play {
         if self.judge.pass(time).is_err() {
             return Err(End::Memory);
         }
+        if let Some(link) = &mut self.link {
+            link.pass(time);
+        }
         self.put_lost(out)
     }
 
@@ -270,42 +339,47 @@ impl Play {
         self.counts.fails = self.counts.fails || is_packet || is_offload;
     }
 
-    /// Lets an arrival arrive, and prints what happened to it if it's selected. Also prints the datagrams that were
-    /// dropped for it.
-    fn receive<W: Write>(&mut self, arrival: &Arrival<'_>, out: &mut W) -> Result<(), End>
-        requires { length arrival.now.packet.now ≤ 65535 }
-    {
-        let Ok(verdict) = self.judge.receive(arrival) else {
-            return Err(End::Memory);
-        };
-        self.note(&verdict);
-        if is_wanted(self.choice, &verdict) {
+    /// Prints what happened to a packet if it's selected, and the datagrams that were dropped for it. `reported`: a
+    /// host on an Ethernet sends an ICMP error for the packet if no socket takes it.
+    fn put_verdict<W: Write>(
+        &mut self,
+        verdict: &Verdict,
+        reported: bool,
+        out: &mut W,
+    ) -> Result<(), End> {
+        self.note(verdict);
+        if is_wanted(self.choice, verdict) {
             put(out, self.judge.text())?;
+            if reported && is_unclaimed(verdict) && matches!(self.choice.layout, Layout::Lines) {
+                put(out, REPORTED)?;
+            }
         }
         self.put_lost(out)
     }
 
     /// Lets a packet for the machine arrive, with its checksum filled in if it was left to the card and the options say
-    /// so.
-    fn receive_filled<W: Write>(&mut self, arrival: &Arrival<'_>, out: &mut W) -> Result<(), End>
+    /// so. Prints what happened to it.
+    fn receive<W: Write>(
+        &mut self,
+        arrival: &Arrival<'_>,
+        reported: bool,
+        out: &mut W,
+    ) -> Result<(), End>
         requires { length arrival.now.packet.now ≤ 65535 }
     {
-        if !self.choice.offload || !self.card.fill(arrival.packet) {
-            return self.receive(arrival, out);
-        }
-        let Ok(verdict) = self.judge.receive(&Arrival {
-            packet: self.card.packet(),
-            filled: true,
-            ..*arrival
-        })
-        else {
-            return Err(End::Memory);
+        let judged = if self.choice.offload && self.card.fill(arrival.packet) {
+            self.judge.receive(&Arrival {
+                packet: self.card.packet(),
+                filled: true,
+                ..*arrival
+            })
+        } else {
+            self.judge.receive(arrival)
         };
-        self.note(&verdict);
-        if is_wanted(self.choice, &verdict) {
-            put(out, self.judge.text())?;
+        match judged {
+            Ok(verdict) => self.put_verdict(&verdict, reported, out),
+            Err(_) => Err(End::Memory),
         }
-        self.put_lost(out)
     }
 
     /// Prints that the host refused a port, if this wasn't read ahead.
@@ -339,20 +413,66 @@ impl Play {
         }
     }
 
-    /// Plays the packet of a record.
-    fn play_packet<W: Write>(&mut self, arrival: &Arrival<'_>, out: &mut W) -> Result<(), End>
+    /// Plays the packet of a record, which the link gave to the stack if `linked` says so.
+    fn play_packet<W: Write>(
+        &mut self,
+        arrival: &Arrival<'_>,
+        linked: Linked,
+        out: &mut W,
+    ) -> Result<(), End>
         requires { length arrival.now.packet.now ≤ 65535 }
     {
-        if !self.choice.all && !self.judge.is_ours(arrival.packet) {
-            self.counts.elsewhere = self.counts.elsewhere.saturating_add(1);
-            self.put_refusal(arrival.number, arrival.packet, out)?;
-        } else {
-            self.receive_filled(arrival, out)?;
+        match linked {
+            Linked::Packet { reported } => self.receive(arrival, reported, out)?,
+            Linked::Elsewhere => {
+                self.counts.elsewhere = self.counts.elsewhere.saturating_add(1);
+                self.put_refusal(arrival.number, arrival.packet, out)?;
+            }
+            _ => {}
         }
         match self.refusals.pass(arrival.number, arrival.packet) {
             Ok(()) => Ok(()),
             Err(_) => Err(End::Memory),
         }
+    }
+
+    /// Returns what the link does with a record. Without a link, each packet for the machine arrives.
+    fn link_of(&mut self, record: Record, bytes: &[u8]) -> Linked {
+        let packet = packet_in(record, bytes);
+        let is_ours = match packet {
+            Some(packet) => self.judge.is_ours(packet),
+            None => false,
+        };
+        let linked = match (&mut self.link, record.link) {
+            (Some(link), Some(LinkType::Ethernet)) => link.take(bytes, is_ours),
+            _ if is_ours => Linked::Packet { reported: false },
+            _ => Linked::Elsewhere,
+        };
+        match linked {
+            Linked::Elsewhere if self.choice.all => Linked::Packet { reported: false },
+            _ => linked,
+        }
+    }
+
+    /// Counts and prints a frame that the link didn't give to the stack, if it did something with it.
+    fn put_linked<W: Write>(
+        &mut self,
+        frame: Frame<'_>,
+        linked: Linked,
+        out: &mut W,
+    ) -> Result<(), End> {
+        self.counts.link.add(linked);
+        let is_drop = linked.is_drop();
+        self.counts.fails = self.counts.fails || (is_drop && self.choice.fail_on.packet);
+        if linked.words().is_none()
+            || !is_in(self.choice.range, frame.number)
+            || (self.choice.dropped && !is_drop)
+            || self.choice.flow.is_some()
+        {
+            return Ok(());
+        }
+        put_frame_text(&mut self.link_text, self.choice.layout, frame, linked);
+        put(out, self.link_text.as_slice())
     }
 
     /// Plays a record that was captured at a time.
@@ -365,6 +485,13 @@ impl Play {
     ) -> Result<(), End> {
         self.counts.kinds.add(record, bytes);
         self.pass(time, out)?;
+        let linked = self.link_of(record, bytes);
+        let frame = Frame {
+            number: record.number,
+            time,
+            bytes,
+        };
+        self.put_linked(frame, linked, out)?;
         let Some(packet) = packet_in(record, bytes) else {
             self.counts.without = self.counts.without.saturating_add(1);
             return Ok(());
@@ -378,7 +505,7 @@ impl Play {
             filled: false,
             refused: self.refusals.record_for(record.number, packet),
         };
-        self.play_packet(&arrival, out)
+        self.play_packet(&arrival, linked, out)
     }
 
     /// Plays all records, and prints what happened to each.
@@ -427,16 +554,33 @@ impl Play {
         put(out, self.judge.text())
     }
 
+    /// Prints what the link of a host on an Ethernet did, if one judges.
+    fn put_link<W: Write>(&mut self, out: &mut W) -> Result<(), End> {
+        let mac = match &self.link {
+            Some(link) => link.mac,
+            None => return Ok(()),
+        };
+        put_link_totals(
+            &mut self.link_text,
+            self.choice.layout,
+            mac,
+            self.counts.link,
+        );
+        put(out, self.link_text.as_slice())
+    }
+
     /// Prints what follows the last record: the datagrams that are unfinished, after the lines of the summary, or
     /// before its object.
     pub(crate) fn put_rest<W: Write>(&mut self, out: &mut W) -> Result<(), End> {
         match self.choice.layout {
             Layout::Lines => {
                 self.put_totals(out)?;
-                self.put_unfinished(out)
+                self.put_unfinished(out)?;
+                self.put_link(out)
             }
             Layout::Objects => {
                 self.put_unfinished(out)?;
+                self.put_link(out)?;
                 self.put_totals(out)
             }
         }

@@ -1,5 +1,6 @@
 //! One script of many machines, played for each seed of a range.
 use crate::hosts::play_uncaptured;
+use crate::screen::Screen;
 use play_script::{Form, Played, Style};
 use std::io::{self, Write};
 
@@ -64,7 +65,8 @@ fn report_seed(
 }
 
 /// Plays the script for each seed. If all expectations are met for a seed, nothing is printed for it; otherwise the
-/// first fault is. Returns the greatest status. Progress is printed to standard error.
+/// first fault is. The last line says for how many seeds they are met. Returns the greatest status. Progress is printed
+/// to standard error.
 pub(crate) fn sweep(
     rt: &HostRuntime,
     script: &[u8],
@@ -76,14 +78,17 @@ pub(crate) fn sweep(
         form: Form::Quiet,
         name: name.as_bytes(),
     };
-    let mut worst = 0;
+    let mut out = Screen::over(rt.stdout(), style.form, false);
+    let (mut worst, mut met) = (0, 0u64);
     let mut seed = seeds.first;
     for _ in 0..u64::MAX {
         let (mut reader, mut written) = (script, Vec::new(rt.alloc()));
         let played = play_uncaptured(rt, style, seed, &mut reader, &mut written).played;
         let status = played.status();
-        if status != 0 {
-            report_seed(&mut rt.stdout(), seed, &played, written.as_slice(), name)?;
+        if status == 0 {
+            met = met.saturating_add(1);
+        } else {
+            report_seed(&mut out, seed, &played, written.as_slice(), name)?;
         }
         if status > worst {
             worst = status;
@@ -96,5 +101,7 @@ pub(crate) fn sweep(
         }
         seed = seed.saturating_add(1);
     }
+    let all = seeds.last.saturating_sub(seeds.first).saturating_add(1);
+    writeln!(out, "{met} of {all} seeds: each line did what it expects")?;
     Ok(worst)
 }

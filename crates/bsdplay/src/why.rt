@@ -1,10 +1,14 @@
 //! Why the packets of a capture were dropped: the subcommand, its options, and the capture that it opens.
+use crate::ether::{EtherEnd, mac_of};
 use crate::from_pcap::{BAD, report};
+use crate::link_names::name_of;
 use crate::options::{WHY_OPTIONS, with_options};
-use crate::records::{Ahead, Counts, End, Play, read_ahead};
+use crate::records::{Ahead, Counts, End, Machine, Play, find_mac, read_ahead};
 use crate::{UNREAD, USAGE};
+use capture::pcap::Why as ClassicWhy;
 use capture::{Fault, Records, Why};
 use clap::{Arg, ArgAction, ArgMatches, Command};
+use ether_host::{EtherFault, Mac};
 use net_stack::BootFault;
 use play_pcap::{CaptureFault, Range, range_of, read_whole};
 use play_script::Silent;
@@ -40,6 +44,9 @@ pub(crate) struct Choice {
     pub(crate) flow: Option<Flow>,
     /// Whether checksums that were left to the card are filled in.
     pub(crate) offload: bool,
+    /// Whether a host on an Ethernet judges, and its hardware address if it was given.
+    pub(crate) ether: bool,
+    pub(crate) mac: Option<Mac>,
     pub(crate) fail_on: FailOn,
     pub(crate) layout: Layout,
 }
@@ -119,6 +126,20 @@ fn fail_on_in(word: Option<&str>) -> Result<FailOn, &'static str> {
     Ok(fail_on)
 }
 
+/// Returns the hardware address that an option names.
+fn mac_in(word: Option<&str>, ether: bool) -> Result<Option<Mac>, &'static str> {
+    let Some(word) = word else {
+        return Ok(None);
+    };
+    if !ether {
+        return Err("--mac goes with --ether");
+    }
+    match mac_of(word.as_bytes()) {
+        Some(mac) => Ok(Some(mac)),
+        None => Err("--mac takes the hardware address of a host, as 02:00:00:00:00:01"),
+    }
+}
+
 /// Returns the port that an option names.
 fn port_in(word: Option<&str>) -> Result<Option<u16>, &'static str> {
     let Some(word) = word else {
@@ -152,6 +173,8 @@ fn choice_of(found: &ArgMatches<'_>) -> Result<Choice, &'static str> {
         dropped: found.get_flag("dropped"),
         flow: flow_in(found.get_str("A:P"))?,
         offload: found.get_flag("offload"),
+        ether: found.get_flag("ether"),
+        mac: mac_in(found.get_str("MAC"), found.get_flag("ether"))?,
         fail_on: fail_on_in(found.get_str("WHAT"))?,
         layout: if found.get_flag("json") {
             Layout::Objects
@@ -174,6 +197,13 @@ fn print_fault(rt: &HostRuntime, name: &str, fault: Fault) -> io::Result<u8> {
         Why::NotRead => {
             eprintln!(rt; "bsdplay: {name}: {fault}")?;
             Ok(UNREAD)
+        }
+        Why::Classic(ClassicWhy::BadLinkType(number)) => {
+            let what = name_of(number).unwrap_or("not one that bsdplay knows");
+            eprintln!(rt;
+                "bsdplay: {name}: {fault}: {what}; docs/captures.md lists the link types that are read"
+            )?;
+            Ok(BAD)
         }
         _ => {
             eprintln!(rt; "bsdplay: {name}: {fault}")?;
@@ -235,6 +265,66 @@ fn play_all<S: Source>(
     }
 }
 
+/// Returns the broadcast address of the host's network.
+fn broadcast_for(choice: Choice, ours: u32) -> u32 {
+    match choice.broadcast {
+        Some(broadcast) => broadcast,
+        None => broadcast_of(ours),
+    }
+}
+
+/// Prints why a host on an Ethernet didn't boot, and returns the status.
+fn print_link_fault(rt: &HostRuntime, name: &str, ours: u32, fault: EtherFault) -> io::Result<u8> {
+    if let EtherFault::Unbooted(BootFault::Memory) = fault {
+        return print_end(rt, name, End::Memory);
+    }
+    let ours = Ipv4Addr::from_bits(ours);
+    eprintln!(rt; "bsdplay: {ours}: {fault}: no host on an Ethernet has this address")?;
+    Ok(USAGE)
+}
+
+/// Boots the machine that judges for a host: on an Ethernet if the host has a hardware address. On error, returns the
+/// status.
+fn boot_machine(
+    rt: &HostRuntime,
+    name: &str,
+    choice: Choice,
+    ours: u32,
+    mac: Option<Mac>,
+) -> io::Result<Result<Machine, u8>> {
+    let judge = match boot_judge(rt, name, choice, ours)? {
+        Ok(judge) => judge,
+        Err(status) => return Ok(Err(status)),
+    };
+    let Some(mac) = mac else {
+        return Ok(Ok(Machine { judge, link: None }));
+    };
+    match EtherEnd::boot(rt.alloc(), ours, broadcast_for(choice, ours), mac) {
+        Ok(link) => Ok(Ok(Machine {
+            judge,
+            link: Some(link),
+        })),
+        Err(fault) => {
+            judge.end();
+            Ok(Err(print_link_fault(rt, name, ours, fault)?))
+        }
+    }
+}
+
+/// Prints which machine judges.
+fn print_judge(rt: &HostRuntime, choice: Choice) -> io::Result<()> {
+    if matches!(choice.layout, Layout::Objects) {
+        return Ok(());
+    }
+    if choice.ether {
+        println!(rt; "A host on an Ethernet judges, with ARP and ICMP.\n")
+    } else {
+        println!(rt;
+            "A UDP/IP stack alone judges; --ether lets a host on an Ethernet judge, with ARP and ICMP.\n"
+        )
+    }
+}
+
 /// Boots a judge with this address. On error, returns the status.
 fn boot_judge(
     rt: &HostRuntime,
@@ -242,10 +332,7 @@ fn boot_judge(
     choice: Choice,
     ours: u32,
 ) -> io::Result<Result<Judge, u8>> {
-    let broadcast = match choice.broadcast {
-        Some(broadcast) => broadcast,
-        None => broadcast_of(ours),
-    };
+    let broadcast = broadcast_for(choice, ours);
     match Judge::new(rt.alloc(), choice.layout, ours, broadcast, choice.port) {
         Ok(judge) => Ok(Ok(judge)),
         Err(BootFault::Memory) => Ok(Err(print_end(rt, name, End::Memory)?)),
@@ -267,12 +354,19 @@ fn judge_records<S: Source>(
     choice: Choice,
     host: Host,
 ) -> io::Result<u8> {
-    let Host { ours, refusals } = host;
-    let judge = match boot_judge(rt, name, choice, ours)? {
-        Ok(judge) => judge,
+    let Host {
+        ours,
+        mac,
+        refusals,
+    } = host;
+    if print_judge(rt, choice).is_err() {
+        return print_end(rt, name, End::Unwritten);
+    }
+    let machine = match boot_machine(rt, name, choice, ours, mac)? {
+        Ok(machine) => machine,
         Err(status) => return Ok(status),
     };
-    match Play::begin(rt.alloc(), choice, ours, judge, refusals) {
+    match Play::begin(rt.alloc(), choice, ours, machine, refusals) {
         Ok(play) => {
             let mut play = play;
             let status = play_all(rt, name, records, &mut play, choice.layout);
@@ -284,8 +378,8 @@ fn judge_records<S: Source>(
                 status
             })
         }
-        Err(judge) => {
-            judge.end();
+        Err(machine) => {
+            machine.end();
             print_end(rt, name, End::Memory)
         }
     }
@@ -295,6 +389,8 @@ fn judge_records<S: Source>(
 #[derive(Drop)]
 struct Host {
     ours: u32,
+    /// Its hardware address, if it's judged as a host on an Ethernet.
+    mac: Option<Mac>,
     /// The refusals in the capture, if it was read ahead.
     refusals: Option<Refusals>,
 }
@@ -337,6 +433,7 @@ fn look_ahead<S: Source>(
     if let Some(ours) = choice.address {
         return Ok(Ok(Host {
             ours,
+            mac: choice.mac,
             refusals: Some(ahead.into_refusals()),
         }));
     }
@@ -346,12 +443,13 @@ fn look_ahead<S: Source>(
     let address = Ipv4Addr::from_bits(busiest.address);
     if matches!(choice.layout, Layout::Lines) {
         println!(rt;
-            "The machine is {address}, to which {} of {} datagrams go; --addr takes another.\n",
+            "The machine is {address}, to which {} of {} datagrams go; --addr takes another.",
             busiest.count, busiest.all
         )?;
     }
     Ok(Ok(Host {
         ours: busiest.address,
+        mac: choice.mac,
         refusals: Some(ahead.into_refusals()),
     }))
 }
@@ -383,13 +481,54 @@ fn look_ahead_in<S: Source + Drop>(
     found
 }
 
-/// Judges a file of any length, which is read twice.
+/// Returns the host with its hardware address, by a source that is read once more, if it's judged as one on an
+/// Ethernet. If no frame shows the address, returns the status.
+fn with_mac<S: Source + Drop>(
+    rt: &HostRuntime,
+    name: &str,
+    source: S,
+    choice: Choice,
+    host: Host,
+) -> io::Result<Result<Host, u8>> {
+    if !choice.ether || host.mac.is_some() {
+        return Ok(Ok(host));
+    }
+    let mut records = Records::new(source, Buffer::new(rt.alloc())?);
+    let mac = find_mac(&mut records, host.ours);
+    let (_source, _room) = records.end();
+    if mac.is_none() {
+        let address = Ipv4Addr::from_bits(host.ours);
+        eprintln!(rt;
+            "bsdplay: {name}: no frame of an Ethernet is from {address} or for it: --mac names its hardware address"
+        )?;
+        return Ok(Err(USAGE));
+    }
+    let Host {
+        ours,
+        mac: _mac,
+        refusals,
+    } = host;
+    Ok(Ok(Host {
+        ours,
+        mac,
+        refusals,
+    }))
+}
+
+/// Judges a file of any length, which is read twice, and once more for a hardware address.
 fn judge_file(rt: &HostRuntime, name: &str, choice: Choice) -> io::Result<u8> {
     let not_opened = Err(CaptureFault::NotOpened);
     let Ok(file) = fs::open(rt, name) else {
         return report(rt, name, not_opened);
     };
     let host = match look_ahead_in(rt, name, Silent(file), choice)? {
+        Ok(host) => host,
+        Err(status) => return Ok(status),
+    };
+    let Ok(file) = fs::open(rt, name) else {
+        return report(rt, name, not_opened);
+    };
+    let host = match with_mac(rt, name, Silent(file), choice, host)? {
         Ok(host) => host,
         Err(status) => return Ok(status),
     };
@@ -403,8 +542,15 @@ fn judge_file(rt: &HostRuntime, name: &str, choice: Choice) -> io::Result<u8> {
 fn judge_input(rt: &HostRuntime, choice: Choice) -> io::Result<u8> {
     let name = "-";
     if let Some(ours) = choice.address {
+        if choice.ether && choice.mac.is_none() {
+            eprintln!(rt;
+                "bsdplay: -: --ether wants --mac here, because the records are judged as they come"
+            )?;
+            return Ok(USAGE);
+        }
         let host = Host {
             ours,
+            mac: choice.mac,
             refusals: None,
         };
         return judge_source(rt, name, Silent(rt.stdin()), choice, host);
@@ -419,7 +565,11 @@ fn judge_input(rt: &HostRuntime, choice: Choice) -> io::Result<u8> {
         }
         Err(fault) => return report(rt, name, Err(fault)),
     };
-    match look_ahead_in(rt, name, file.as_slice(), choice)? {
+    let host = match look_ahead_in(rt, name, file.as_slice(), choice)? {
+        Ok(host) => host,
+        Err(status) => return Ok(status),
+    };
+    match with_mac(rt, name, file.as_slice(), choice, host)? {
         Ok(host) => judge_source(rt, name, file.as_slice(), choice, host),
         Err(status) => Ok(status),
     }
