@@ -97,21 +97,16 @@ pub(crate) fn mac_of(word: &[u8]) -> Option<Mac> {
     if word.len() != 17 {
         return None;
     }
-    let mut number = 0u64;
+    let mut octets = [0; 6];
     for at in 0..6usize {
-        let mut octet = [0; 1];
         if at > 0 && word.get(3 * at - 1) != Some(&b':') {
             return None;
         }
-        if hex::decode_to_slice(word.get(3 * at..3 * at + 2)?, &mut octet).is_err() {
+        if hex::decode_to_slice(word.get(3 * at..3 * at + 2)?, &mut octets[at..at + 1]).is_err() {
             return None;
         }
-        number = (number << 8) | u64::from(octet[0]);
     }
-    of_host(Some(Mac {
-        high: (number >> 32) as u16,
-        low: (number % 0x1_0000_0000) as u32,
-    }))
+    of_host(mac_at(&octets))
 }
 
 /// Returns the hardware address with which the host sends a frame, by the addresses inside the frame.
