@@ -269,14 +269,15 @@ int bsdudp_rx(struct bsdudp *stack, const void *packet, size_t len);
    -BSDUDP_EMSGSIZE if `len` is below the MTU. */
 int bsdudp_tx(struct bsdudp *stack, void *buffer, size_t len);
 
-/* Sets time to live and type of service of a packet that leaves. `packet` points to the `len` bytes that bsdudp_tx
-   stored, or to those after the 14 bytes of header of a frame. The header's checksum is adjusted, so a right one stays
-   right. The other bytes are unchanged. The stack itself sends each packet with 64 and 0. Source: RFC 1624, section 3.
+/* Sets time to live and type of service of a packet that leaves, and the checksum of its header. `packet` points to the
+   `len` bytes that bsdudp_tx stored, or to those after the 14 bytes of header of a frame. The other bytes are unchanged.
+   The stack itself sends each packet with 64 and 0. Source: RFC 791, section 3.1.
 
    Returns 0.
 
    Errors, with `packet` unchanged:
-   -BSDUDP_EINVAL if `len` is below 20, or `packet` does not begin with an IPv4 header, but for example with ARP. */
+   -BSDUDP_EINVAL if `packet` does not begin with an IPv4 header that a stack accepts, because it is for example ARP, has
+   options or a wrong checksum, or if `len` is below the header's total length or above BSDUDP_PACKET. */
 int bsdudp_mark(void *packet, size_t len, uint8_t ttl, uint8_t tos);
 
 /* Advances the stack's clock by half a second. An unfinished datagram is dropped after 60 ticks, and the neighbours of

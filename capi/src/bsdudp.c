@@ -27,6 +27,7 @@ int bsdudp_core_unfinished(struct bsdudp_core *, uint32_t, struct bsdudp_unfinis
 int bsdudp_core_unfinished_range(struct bsdudp_core *, uint32_t, uint32_t, struct bsdudp_range *);
 int bsdudp_core_counter(struct bsdudp_core *, uint32_t, uint64_t *);
 int bsdudp_core_mbstat(struct bsdudp_core *, struct bsdudp_mbstat *);
+int bsdudp_core_mark(uint8_t *, uint64_t, uint8_t, uint8_t);
 
 int bsdudp_end(struct bsdudp *stack)
 {
@@ -136,3 +137,5 @@ int bsdudp_counter(struct bsdudp *s, uint32_t which, uint64_t *value)
 {
     return bsdudp_core_counter(&s->core, which, value);
 }
+
+int bsdudp_mark(void *packet, size_t len, uint8_t ttl, uint8_t tos) { return bsdudp_core_mark(packet, len, ttl, tos); }

@@ -347,6 +347,14 @@ int bsdudp_tx(struct bsdudp *stack, void *buffer, size_t len)
     return answer_of(core_tx(&it, handle_of(&it), give(&it, buffer, len), heard(len)));
 }
 
+/* No stack takes part in it. */
+int bsdudp_mark(void *packet, size_t len, uint8_t ttl, uint8_t tos)
+{
+    const struct bsdudp none = BSDUDP_NONE;
+    BEGIN(mark, &none);
+    return answer_of(core_mark(&it, give(&it, packet, len), heard(len), ttl, tos));
+}
+
 /* The link's calls go through a pointer that its boot sets, so a program that boots no host is linked without them. */
 int bsdudp_tick(struct bsdudp *stack)
 {

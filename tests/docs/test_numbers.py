@@ -43,11 +43,10 @@ def mutants(*places: str) -> int:
 
 
 def exports() -> int:
-    """Returns the number of exports of the C library's core, except boot, end, and the two that docs/proved.md
-    names."""
+    """Returns the number of exports of the C library's core, except boot, end, and those that docs/proved.md names."""
     code = "".join(map(read, sources_of("libbsdudp")))
     named = set(re.findall(r'extern "C" fn bsdudp_core_(\w+)', code))
-    return len(named - {"boot", "end", "rx", "sendto"})
+    return len(named - {"boot", "end", "rx", "sendto", "mark"})
 
 
 def deepest() -> int:

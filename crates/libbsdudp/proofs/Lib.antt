@@ -2,3 +2,4 @@ mod Boxes
 mod Answered
 mod LinkBoxes
 mod EtherAnswered
+mod Marks

@@ -7,3 +7,4 @@ pub mod Life
 pub mod LinkHeld
 pub mod LinkPlain
 pub mod Ether
+pub mod Mark

@@ -24,6 +24,7 @@ mod link_handle;
 mod link_held;
 mod link_owned;
 mod link_plain;
+mod mark;
 mod owned;
 mod parts;
 mod plain;
