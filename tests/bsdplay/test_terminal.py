@@ -193,6 +193,19 @@ def test_seeds_that_fail_are_counted(bsdplay):
     same("the last line", lines[-1], "6 of 8 seeds: each line did what it expects")
 
 
+@pytest.mark.parametrize(
+    "words, script, said",
+    [
+        (["--json"], "host a\n", "--json goes with --seed"),
+        (["--pcap", "/dev/null"], "host a\n", "--pcap goes with --seed"),
+        ([], "socket\n", "it has no hosts, so it has no seeds"),
+    ],
+)
+def test_what_does_not_go_with_seeds_is_said(words, script, said, bsdplay):
+    done = run(bsdplay, "--seeds", "1-2", *words, script=script)
+    assert (done.returncode, done.stdout) == (2, b"") and said in done.stderr.decode(), done
+
+
 CAPTURES = {
     "little endian": "d4c3b2a1",
     "big endian": "a1b2c3d4",
