@@ -144,7 +144,7 @@ def test_the_lines(bsdplay, tmp_path):
 
 def test_the_line_of_the_link_is_below_the_unfinished_datagrams(bsdplay, tmp_path):
     text = why(bsdplay, tmp_path, [frame(fragment(datagram(b"x" * 40), 0, 1))]).stdout.decode()
-    unfinished, link, _others = text.splitlines()[-3:]
+    unfinished, link = text.splitlines()[-2:]
     assert unfinished.startswith("    unfinished: ") and link.startswith("By its link, "), text
 
 
