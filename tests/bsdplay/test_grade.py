@@ -358,6 +358,7 @@ def test_want_of_memory_is_no_mark(kilobytes, bsdplay, tmp_path):
         assert b"no memory" in ended.stderr
 
 
+@pytest.mark.proved
 @pytest.mark.parametrize("words", [[], ["--json"], ["--quiet"], ["--color", "always"], ["--strict"]])
 @pytest.mark.parametrize("front, line", [("", "--mbufs 65535 --clusters 4096"),
                                          ("host a --addr 10.0.0.1\n", "host b --addr 10.0.0.2 --mbufs 65535")])  # fmt: skip
