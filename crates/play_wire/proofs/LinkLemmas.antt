@@ -1,8 +1,8 @@
 -- Lines that the link of a host executes.
-use Rattle.std.proofs.Common.{◌≡◌, ◌<◌, ◌⊎◌, inl, inr, ℕ, zero, suc, Bool, true, false, List, [], ◌∷◌, ◌++◌, map, replicate, Option, Some, None, refl, sym, ap, ap₂, ◌∙◌, subst, arith}
+use Rattle.std.proofs.Common.{◌≡◌, ◌<◌, ◌≤◌, ◌⊎◌, inl, inr, ℕ, zero, suc, Bool, true, false, List, [], ◌∷◌, ◌++◌, map, replicate, Option, Some, None, refl, sym, ap, ap₂, ◌∙◌, subst, arith}
 use Rattle.std.proofs.Math.Dec.{eqb-suc-zero}
 use Rattle.std.proofs.lemmas.Bool.{lt-ltb}
-use Rattle.std.specs.Prelude.{◌==◌, cond, if◌then◌else◌, not, codes, is_some, nat_lt, length, option_map, slice_get, ◌&&◌, Result}
+use Rattle.std.specs.Prelude.{◌==◌, cond, if◌then◌else◌, not, codes, is_some, nat_lt, length, option_map, slice_get, ◌&&◌, IfSome, Result}
 use Rattle.flat_ether.specs.Claims.{address_state}
 use Rattle.flat_ether.specs.Links.{LinkState}
 use Rattle.flat_ether.specs.declared.claim.AddressState.{AddressState}
@@ -22,7 +22,7 @@ use Rattle.segment.specs.Frames.{IsErrorQueried, HasReceived}
 use Rattle.segment.specs.Law.{Act, AreActs, AgesLink, QueriesError, Calls, Ether, ReceivesFrame}
 use Rattle.segment.specs.Segment.{SegmentView, is_ether}
 use Rattle.play_wire.specs.Acts.{IsMissing, IsStackLine, Outcome, Replied, Refused, call_turn}
-use Rattle.play_wire.specs.Inside.{HasCounted, HasNotCounted, IsAtHost, IsAtLink, IsAtStack, IsExchanged, IsKept, ReadsOfLink, link_asks}
+use Rattle.play_wire.specs.Inside.{HasCounted, HasNotCounted, IsAtHost, IsAtLink, IsAtStack, IsExchanged, IsKept, ReadsOfLink, bytes_asked, link_asks}
 use Rattle.play_wire.specs.LinkTexts.{error_text, received_text, neighbours_text, state_text}
 use Rattle.play_wire.specs.Links.{DoesLink, IsForStack, IsHostLine, AsksLink, AsksOfLink, LinkAsk, Frame, LastError, Neighbours, Counts, Ticks, Packets, WritesLink, is_for_link, is_of_link, ticks_at}
 use Rattle.play_wire.specs.Verbs.{IsOneNumber, IsTickCount}
@@ -72,7 +72,7 @@ host_by_stack place plain v v' w came (others, same) (acts, did) =
 pub asks_as : (plain word : List ℕ) (c : Command) (args : List (List ℕ)) (asked : Option Asked)
     → words plain ≡ word ∷ args → find (has_name word) hosted_commands ≡ Some c → ReadsOfLink c args asked
     → AsksLink plain (link_asks asked)
-asks_as plain word c args (Some ask) cut is reads = (c, word, args, cut, is, reads)
+asks_as plain word c args (Some ask) cut is reads = (c, word, args, cut, is, reads.0)
 asks_as plain word c args None cut is none = λ ask h.
     let all : h.1 ∷ h.2 ≡ word ∷ args = sym h.3 ∙ cut in
     let first : h.1 ≡ word = cc all in
@@ -81,6 +81,12 @@ asks_as plain word c args None cut is none = λ ask h.
     let same : h.0 ≡ c = cc both in
     none ask (subst (λ (x : Command). AsksOfLink x args ask) same
     (subst (λ (xs : List (List ℕ)). AsksOfLink h.0 xs ask) rest h.5))
+
+-- the bytes of a request fit in a packet
+pub fits_asked : (c : Command) (args : List (List ℕ)) (asked : Option Asked) → ReadsOfLink c args asked
+    → IfSome asked (λ ask. bytes_asked ask ≤ 65535)
+fits_asked c args (Some ask) reads = reads.1
+fits_asked c args None reads = tt
 
 -- a line that begins with no command has no request
 pub asks_none : (plain word : List ℕ) (args : List (List ℕ)) → words plain ≡ word ∷ args

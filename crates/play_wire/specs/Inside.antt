@@ -1,5 +1,6 @@
 -- Definitions that only this crate uses.
-use Rattle.std.specs.Prelude.{◌≡◌, ◌⊎◌, ℕ, List, length, slice_get, Option, Some, None, Result, Ok, Err}
+use Rattle.std.specs.Prelude.{◌≡◌, ◌⊎◌, ℕ, ◌≤◌, List, length, slice_get, Option, Some, None, Result, Ok, Err}
+use Rattle.params.specs.declared.TheConstants.{IP_MAX_PACKET}
 use Rattle.flat_ether.specs.Links.{LinkState}
 use Rattle.net_stack.specs.Stack.{StackView, state_of}
 use Rattle.segment.specs.Law.{Act}
@@ -102,9 +103,10 @@ abbrev pub link_asks : Option LinkAsk → Option links.LinkAsk
 link_asks (Some ask) = Some (link_asked ask)
 link_asks None = None
 
--- the words after this one are this request to a link, or no request
+-- the words after this one are this request to a link, whose bytes fit in a packet, or no request
 abbrev pub ReadsOfLink : Command → List (List ℕ) → Option LinkAsk → Type 0
-ReadsOfLink asked args (Some ask) = links.AsksOfLink asked args (link_asked ask)
+ReadsOfLink asked args (Some ask) =
+    links.AsksOfLink asked args (link_asked ask) × (bytes_asked ask ≤ IP_MAX_PACKET)
 ReadsOfLink asked args None = (ask : links.LinkAsk) → links.AsksOfLink asked args ask → ⊥
 
 -- a line of a host, or one for a host that doesn't exist

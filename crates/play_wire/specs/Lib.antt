@@ -7,3 +7,4 @@ pub mod Reports
 pub mod Runs
 pub mod Verdicts
 pub mod Inside
+pub mod Players

@@ -35,8 +35,7 @@ pub(crate) enum LinkAsk<'r> {
 /// `frame BYTES`.
 fn frame_of<'r>(rest: Option<&[u8]>, buffer: &'r mut [u8]) -> Option<LinkAsk<'r>>
     requires { length buffer.old ≡ IP_MAX_PACKET }
-    ensures is { ReadsOfLink command.Frame (left rest.entry) result }
-    ensures fits { IfSome result (λ ask. bytes_asked ask ≤ IP_MAX_PACKET) }
+    ensures { ReadsOfLink command.Frame (left rest.entry) result }
 {
     let word = one(rest)?;
     let len = bytes(word, buffer)?;
@@ -45,24 +44,21 @@ fn frame_of<'r>(rest: Option<&[u8]>, buffer: &'r mut [u8]) -> Option<LinkAsk<'r>
 
 /// `error FD`.
 fn error_of(rest: Option<&[u8]>) -> Option<LinkAsk<'static>>
-    ensures is { ReadsOfLink command.LastError (left rest.entry) result }
-    ensures fits { IfSome result (λ ask. bytes_asked ask ≤ IP_MAX_PACKET) }
+    ensures { ReadsOfLink command.LastError (left rest.entry) result }
 {
     Some(LinkAsk::LastError(one_number(rest, u32::MAX)?))
 }
 
 /// `tick` or `tick N`.
 fn link_ticks_of(rest: Option<&[u8]>) -> Option<LinkAsk<'static>>
-    ensures is { ReadsOfLink command.Tick (left rest.entry) result }
-    ensures fits { IfSome result (λ ask. bytes_asked ask ≤ IP_MAX_PACKET) }
+    ensures { ReadsOfLink command.Tick (left rest.entry) result }
 {
     Some(LinkAsk::Ticks(ticks_of(rest)?))
 }
 
 /// `show neighbours` or `show link`.
 fn shown_of(rest: Option<&[u8]>) -> Option<LinkAsk<'static>>
-    ensures is { ReadsOfLink command.ShowOfHost (left rest.entry) result }
-    ensures fits { IfSome result (λ ask. bytes_asked ask ≤ IP_MAX_PACKET) }
+    ensures { ReadsOfLink command.ShowOfHost (left rest.entry) result }
 {
     let word = one(rest)?;
     if word == b"neighbours".as_slice() {
@@ -76,8 +72,7 @@ fn shown_of(rest: Option<&[u8]>) -> Option<LinkAsk<'static>>
 
 /// Returns the request for a packet that arrives, given by its bytes or by a description.
 fn coming(rest: Option<&[u8]>) -> Option<LinkAsk<'static>>
-    ensures is { ReadsOfLink command.Rx (left rest.entry) result }
-    ensures fits { IfSome result (λ ask. bytes_asked ask ≤ IP_MAX_PACKET) }
+    ensures { ReadsOfLink command.Rx (left rest.entry) result }
 {
     if is_end(rest) {
         None
@@ -88,8 +83,7 @@ fn coming(rest: Option<&[u8]>) -> Option<LinkAsk<'static>>
 
 /// Returns the request for a packet that leaves.
 fn taken(rest: Option<&[u8]>) -> Option<LinkAsk<'static>>
-    ensures is { ReadsOfLink command.Tx (left rest.entry) result }
-    ensures fits { IfSome result (λ ask. bytes_asked ask ≤ IP_MAX_PACKET) }
+    ensures { ReadsOfLink command.Tx (left rest.entry) result }
 {
     if is_end(rest) {
         Some(LinkAsk::Packets)
@@ -101,8 +95,7 @@ fn taken(rest: Option<&[u8]>) -> Option<LinkAsk<'static>>
 /// Returns the request of a command and the words after it to a link. The buffer has 65,535 bytes.
 fn form_of<'r>(asked: Command, rest: Option<&[u8]>, buffer: &'r mut [u8]) -> Option<LinkAsk<'r>>
     requires { length buffer.old ≡ IP_MAX_PACKET }
-    ensures is { ReadsOfLink asked (left rest.entry) result }
-    ensures fits { IfSome result (λ ask. bytes_asked ask ≤ IP_MAX_PACKET) }
+    ensures { ReadsOfLink asked (left rest.entry) result }
 {
     match asked {
         Command::Frame => frame_of(rest, buffer),

@@ -5,7 +5,8 @@ ghost use Rattle.segment.specs.Law.{Act};
 ghost use Rattle.play_text.specs.Forms.{is_json};
 ghost use Rattle.play_script.specs.Views.{expected_on, plain_line};
 ghost use Rattle.play_script.specs.Lines.{reading_part};
-ghost use Rattle.play_wire.specs.Inside.{outcome_of, named_by, play_with};
+ghost use Rattle.play_wire.specs.Inside.{outcome_of, named_by};
+ghost use Rattle.play_wire.specs.Players.{wire_now};
 ghost use Rattle.play_wire.specs.Reports.{WirePlay, has_objects, moves_packets, IsDone, IsParted, Reports, ReportsAsked, ReportsPart};
 
 use crate::fault::Fault;
@@ -130,10 +131,8 @@ impl<T: Sink + Drop> Player<T> {
     fn ask(&mut self, text: &mut Buffer<OUTPUT>)
         requires { length text.old ≤ HELD }
         ensures { (acts : List Act) × (added : List ℕ)
-            × ReportsAsked (play_with (view self.old.hosts.segment) self.old.hosts.names.items self.old.printer)
-            (named_by self.old.target) self.old.line.shown (plain_line self.old.line) (expected_on self.old.line) acts
-            added
-            (play_with (view self.new.hosts.segment) self.new.hosts.names.items self.new.printer)
+            × ReportsAsked (wire_now self.old) (named_by self.old.target) self.old.line.shown
+            (plain_line self.old.line) (expected_on self.old.line) acts added (wire_now self.new)
             × (text.new ≡ text.old ++ added) }
     {
         self.report.quiet = self.printer.form.is_quiet();
@@ -157,9 +156,8 @@ impl<T: Sink + Drop> Player<T> {
         requires part { length timed.part.now ≤ length line.now }
         ensures { (acts : List Act) × (added : List ℕ) × (host : Option (List ℕ)) × (part : List ℕ)
             × IsParted timed.entry.part.now host part
-            × ReportsPart (play_with (view self.old.hosts.segment) self.old.hosts.names.items self.old.printer) host
-            timed.entry.ticks (length line.now - length part) (reading_part line.now part) acts added
-            (play_with (view self.new.hosts.segment) self.new.hosts.names.items self.new.printer)
+            × ReportsPart (wire_now self.old) host timed.entry.ticks (length line.now - length part)
+            (reading_part line.now part) acts added (wire_now self.new)
             × (text.new ≡ text.old ++ added) }
     {
         let part = self.target.take(timed.part);
@@ -194,7 +192,7 @@ impl<T: Sink + Drop> Player<T> {
 impl<T: Sink + Drop> Answers<OUTPUT> for Player<T> {
     ghost State = { WirePlay };
 
-    ghost state = { λ p. play_with (view p.hosts.segment) p.hosts.names.items p.printer };
+    ghost state = { λ p. wire_now p };
 
     ghost may_answer = { Reports };
 

@@ -7,13 +7,14 @@ use Rattle.play_script.specs.declared.printer.Printer.{Printer}
 use Rattle.segment.specs.Inside.{view}
 use Rattle.play_wire.specs.Acts.{Replied, Refused}
 use Rattle.play_wire.specs.Inside.{play_with}
+use Rattle.play_wire.specs.Players.{wire_now}
 use Rattle.play_wire.proofs.PlayLemmas.{and_false}
 use Rattle.play_wire.proofs.player.Player.ask.Goals as goal
 
 pub returns-in-Ok : goal.returns-in-Ok
 returns-in-Ok g c =
     let now = c.args.self.now in
-    let p = play_with (view now.hosts.segment) now.hosts.names.items now.printer in
+    let p = wire_now now in
     let did = c.in-Ok.ensures p refl refl in
     let segment = view c.execute_words.new.hosts.segment in
     let names = c.execute_words.new.hosts.names.items in
@@ -38,7 +39,7 @@ returns-in-Ok g c =
 pub returns-in-Err : goal.returns-in-Err
 returns-in-Err g c =
     let now = c.args.self.now in
-    let p = play_with (view now.hosts.segment) now.hosts.names.items now.printer in
+    let p = wire_now now in
     let did = c.in-Err.ensures p refl refl in
     let segment = view c.execute_words.new.hosts.segment in
     let names = c.execute_words.new.hosts.names.items in (

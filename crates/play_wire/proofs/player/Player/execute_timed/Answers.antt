@@ -3,9 +3,9 @@ use Rattle.play_line.specs.declared.fault.SyntaxError.{SyntaxError}
 use Rattle.play_text.specs.Texts.{fault_text, line_error_text}
 use Rattle.play_script.specs.Lines.{Asks, Faulty, Nothing, TooLong, reading_part, shifted}
 use Rattle.play_script.specs.Views.{expected_on, plain_line}
-use Rattle.play_script.specs.declared.printer.Printer.{Printer}
 use Rattle.segment.specs.Inside.{view}
 use Rattle.play_wire.specs.Inside.{named_by, play_with}
+use Rattle.play_wire.specs.Players.{wire_now, wire_printing}
 use Rattle.play_wire.specs.Reports.{ReportsAsked}
 use Rattle.play_wire.proofs.PlayLemmas.{nothing_more, reported_part}
 use Rattle.play_wire.proofs.player.Player.execute_timed.Goals as goal
@@ -14,14 +14,13 @@ pub returns-in-Nothing : goal.returns-in-Nothing
 returns-in-Nothing g c =
     let now = c.args.self.now in
     let part = c.take-part.result.now in
-    let host = named_by c.take-part.new.self in
-    let playing = λ (q : Printer). play_with (view now.hosts.segment) now.hosts.names.items q in (
+    let host = named_by c.take-part.new.self in (
       [],
       [],
       host,
       part,
       c.take-part.ensures.parted,
-      reported_part (playing now.printer) (playing now.printer) host c.args.timed.ticks
+      reported_part (wire_printing now now.printer) (wire_printing now now.printer) host c.args.timed.ticks
           (length c.args.line.now - length part) (reading_part c.args.line.now part) Nothing [] []
           c.in-Nothing.ensures (refl, refl, refl),
       nothing_more c.args.text.now,
@@ -33,16 +32,15 @@ returns-in-TooLong g c =
     let part = c.take-part.result.now in
     let host = named_by c.take-part.new.self in
     let q = now.printer in
-    let text = fault_text q.form q.name q.number (codes "the line is too long") in
-    let playing = λ (q : Printer). play_with (view now.hosts.segment) now.hosts.names.items q in (
+    let text = fault_text q.form q.name q.number (codes "the line is too long") in (
       [],
       text,
       host,
       part,
       c.take-part.ensures.parted,
-      reported_part (playing q) (playing c.put_too_long.new.self) host c.args.timed.ticks
+      reported_part (wire_printing now q) (wire_printing now c.put_too_long.new.self) host c.args.timed.ticks
           (length c.args.line.now - length part) (reading_part c.args.line.now part) TooLong [] text
-          c.in-TooLong.ensures (refl, refl, ap playing c.put_too_long.ensures.printer),
+          c.in-TooLong.ensures (refl, refl, ap (wire_printing now) c.put_too_long.ensures.printer),
       c.put_too_long.ensures.text,
     )
 
@@ -53,16 +51,15 @@ returns-in-Faulty g c =
     let host = named_by c.take-part.new.self in
     let q = now.printer in
     let before = length c.args.line.now - length part in
-    let text = line_error_text q.form q.name q.number (shifted before c.in-Faulty.error) in
-    let playing = λ (q : Printer). play_with (view now.hosts.segment) now.hosts.names.items q in (
+    let text = line_error_text q.form q.name q.number (shifted before c.in-Faulty.error) in (
       [],
       text,
       host,
       part,
       c.take-part.ensures.parted,
-      reported_part (playing q) (playing c.put_error.new.self) host c.args.timed.ticks before
+      reported_part (wire_printing now q) (wire_printing now c.put_error.new.self) host c.args.timed.ticks before
           (reading_part c.args.line.now part) (Faulty c.in-Faulty.error) [] text
-          c.in-Faulty.ensures (refl, refl, ap playing c.put_error.ensures.printer),
+          c.in-Faulty.ensures (refl, refl, ap (wire_printing now) c.put_error.ensures.printer),
       c.put_error.ensures.text
           ∙ ap (λ (s : SyntaxError). c.args.text.now ++ line_error_text q.form q.name q.number s) c.shift_column.ensures,
     )
@@ -77,13 +74,13 @@ returns-in-Asks g c =
     let mid = view c.wait.new.self.segment in
     let did = c.ask.ensures in
     let after = c.ask.new.self in
-    let new = play_with (view after.hosts.segment) after.hosts.names.items after.printer in (
+    let new = wire_now after in (
       waited.0 ++ did.0,
       did.1,
       host,
       part,
       c.take-part.ensures.parted,
-      reported_part (play_with (view now.hosts.segment) now.hosts.names.items now.printer) new host c.args.timed.ticks
+      reported_part (wire_now now) new host c.args.timed.ticks
           (length c.args.line.now - length part) (reading_part c.args.line.now part)
           (Asks line.shown (plain_line line) (expected_on line)) (waited.0 ++ did.0) did.1
           c.in-Asks.ensures (
