@@ -360,13 +360,15 @@ def test_want_of_memory_is_no_mark(kilobytes, bsdplay, tmp_path):
 
 @pytest.mark.proved
 @pytest.mark.parametrize("words", [[], ["--json"], ["--quiet"], ["--color", "always"], ["--strict"]])
-@pytest.mark.parametrize("front, line", [("", "--mbufs 65535 --clusters 4096"),
-                                         ("host a --addr 10.0.0.1\n", "host b --addr 10.0.0.2 --mbufs 65535")])  # fmt: skip
-def test_settings_without_memory_end_with_status_3(front, line, words, bsdplay, tmp_path):
+@pytest.mark.parametrize("kilobytes, front, line", [
+    (16_000, "", "--mbufs 65535 --clusters 4096"),
+    (72_000, "host a --addr 10.0.0.1\n", "host b --addr 10.0.0.2 --mbufs 65535"),  # 68 MB are for a wire
+])  # fmt: skip
+def test_settings_without_memory_end_with_status_3(kilobytes, front, line, words, bsdplay, tmp_path):
     """The lines after them are played all the same."""
     script = tmp_path / "large.txt"
     script.write_text(f"{front}{line}\n{'wire a' if front else 'socket => ok 3'}\n", encoding="utf-8")
-    ended = limited(16_000, bsdplay, *words, script)
+    ended = limited(kilobytes, bsdplay, *words, script)
     assert (ended.returncode, b"no memory" in ended.stdout) == (3, True), ended
 
 

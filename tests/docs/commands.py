@@ -145,7 +145,7 @@ SESSIONS = {
         EXAMPLES,
         prints=[
             line[4:]
-            for line in read("docs/tour.md").partition("## 14.")[2].splitlines()
+            for line in read("docs/tour.md").partition("`bsdudp chain` plays scripts")[2].splitlines()
             if re.match(r"    (?!bsdudp |    sed )", line)
         ],
     ),
