@@ -1,6 +1,6 @@
 """The device's address: DHCP (RFC 2131) with Debian's dnsmasq and ISC's server as peers, link-local addresses (RFC
 3927), and a server of the tests' own that makes mistakes. Ticks of the Linux program take 20 ms, so a lease of two
-minutes lasts 4.8 s, and it's renewed after 0.8 s, because dnsmasq says so."""
+minutes lasts 4.8 s, and it's renewed after 0.8 s, because dnsmasq says so. Ticks of the board take 100 ms."""
 from __future__ import annotations
 
 import contextlib
@@ -30,6 +30,7 @@ CLIENTS = pytest.mark.needs("coap-client", "curl")
 pytestmark = [pytest.mark.slow]
 
 MAC, TICK, NEVER = "02:00:00:00:00:01", 0.02, "0.0.0.0"
+HALF_A_SECOND = 12_500_000  # of the board's clock
 T1 = 20  # seconds of the device, two ticks each
 DISCOVER, OFFER, REQUEST, DECLINE, ACK, NAK = range(1, 7)
 MALFORMED, LINUX_MAC = 2000, bytes.fromhex("020000000002")
@@ -102,11 +103,11 @@ def ends(it: Client) -> None:
 
 
 @contextlib.contextmanager
-def dnsmasq(folder: pathlib.Path, first: str, last: str, t1: int = T1) -> Iterator[None]:
+def dnsmasq(folder: pathlib.Path, first: str, last: str) -> Iterator[None]:
     """Serves this range, for two minutes, the least that it grants. What it logs is in the file "dnsmasq"."""
     how = ["dnsmasq", "--no-daemon", "--conf-file=/dev/null", "--port=0", "--interface=lin0", "--bind-interfaces"]
     how += [f"--dhcp-range={first},{last},255.255.255.0,2m", f"--dhcp-leasefile={folder}/leases", "--log-dhcp"]
-    how += [f"--dhcp-option=option:T1,{t1}"]
+    how += [f"--dhcp-option=option:T1,{T1}"]
     with open(folder / "dnsmasq", "a", encoding="utf-8") as log:
         words = [*how, "--no-ping", "--dhcp-authoritative", "--user=root"]
         with subprocess.Popen(words, stdout=log, stderr=log) as child:
@@ -304,19 +305,19 @@ def test_over_a_wire_that_loses(start):
 @DNSMASQ
 @CLIENTS
 def test_on_the_board(on_board, tmp_path, flash):
-    """In QEMU: the first lease, and another address three seconds later. It takes half a minute, in which the computer
-    has nothing to do."""
+    """In QEMU: the first lease, and another address when it's renewed."""
     (tmp_path / "flash").write_bytes(flash[:20000])
-    it = Client(tmp_path, [*MACHINE, "-kernel", on_board(tmp_path / "flash")], 0.5)
+    device = on_board(tmp_path / "flash", f"-DHALF_A_SECOND={HALF_A_SECOND // 5}")
+    it = Client(tmp_path, [*MACHINE, "-kernel", device], 0.1)
     with it.namespace.inside():
-        with dnsmasq(tmp_path, "10.0.0.50", "10.0.0.50", 3):
+        with dnsmasq(tmp_path, "10.0.0.50", "10.0.0.50"):
             it.serves(it.gets(r"10\.0\.0\.50", 60))
         (tmp_path / "leases").unlink()
         with dnsmasq(tmp_path, "10.0.0.77", "10.0.0.77"):
             it.serves(it.gets(r"10\.0\.0\.77", 60))
             used = re.search(r"call stack (\d+)", run("coap-client-notls", "-m", "get", "coap://10.0.0.77/stats"))[1]
     ends(it)
-    sizes = run("arm-none-eabi-size", on_board(tmp_path / "flash")).splitlines()[1].split()
+    sizes = run("arm-none-eabi-size", device).splitlines()[1].split()
     assert int(sizes[1]) + int(sizes[2]) + int(used) < 65536
 
 
