@@ -17,7 +17,7 @@ MODULE = ("rt", "wasm-opt", "cc")
 pytestmark = [pytest.mark.slow, pytest.mark.needs(*MODULE)]
 TARGETS = "cortex-m0 cortex-m3 cortex-m4 cortex-m7 cortex-m33 rv32imac i686 armv7 x86_64 aarch64".split()
 RANDOM = 2000
-MOST_OF_LEAST = 41_400  # bytes of the core for the least size, where pointers have 64 bits
+MOST_OF_LEAST = 40_200  # bytes of the core for the least size, where pointers have 64 bits
 
 
 class Host(NamedTuple):
@@ -172,8 +172,12 @@ def test_planted_fault_is_seen(old, new, module, compiled, tmp_path):
     if subprocess.run([copy / "portable/core", "i686", library], capture_output=True, check=False).returncode:
         return  # clang refuses it
     how = [CC, "-m32", *STRICT]
-    calls = compiled("calls", *how, "tests/calls.c", library / "libbsdudp.a")
-    driver = compiled("driver", *how, *DRIVER, library / "libbsdudp.a")
+    try:
+        calls = compiled("calls", *how, "tests/calls.c", library / "libbsdudp.a")
+        driver = compiled("driver", *how, *DRIVER, library / "libbsdudp.a")
+    except pytest.fail.Exception as why:  # the core calls a function that it never calls without the fault
+        assert "undefined reference to `rattle_realloc'" in str(why)
+        return
     assert not (passes(calls) and plays_examples(driver))
 
 
@@ -184,9 +188,9 @@ MACHINE += ["stdio", "-semihosting-config", "enable=on,target=native"]
 # The most of the columns of bench/board's table, for each level: the library, the echo's text, data, bss and call
 # stack, and the instructions of three lengths.
 COSTS = {
-    "-Oz": [43_300, 22_000, 16, 52_500, 1_500, 5_700, 11_950, 44_800],
-    "-Os": [47_200, 24_000, 16, 52_500, 960, 2_085, 7_860, 24_700],
-    "-O2": [87_500, 56_700, 16, 52_500, 1_050, 2_000, 7_070, 21_100],
+    "-Oz": [41_900, 21_850, 16, 52_500, 1_480, 5_600, 11_850, 44_400],
+    "-Os": [45_900, 23_750, 16, 52_500, 950, 2_025, 7_800, 24_500],
+    "-O2": [86_100, 56_000, 16, 52_500, 1_020, 1_940, 6_990, 20_850],
 }
 DATA = 2
 on_board = pytest.mark.needs("arm-none-eabi", "qemu-arm")

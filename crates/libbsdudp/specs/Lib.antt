@@ -1,10 +1,14 @@
 pub mod Held
+pub mod HeldLends
+pub mod HandleLends
 pub mod Answers
 pub mod Plain
 pub mod Calls
 pub mod Queries
 pub mod Life
 pub mod LinkHeld
+pub mod LinkHeldLends
+pub mod LinkHandleLends
 pub mod LinkPlain
 pub mod Ether
 pub mod Mark

@@ -30,8 +30,7 @@ pub extern "C" fn bsdudp_core_ether_boot(
 ) -> i32
     ensures { IsLinkBooted (handle_link handle.old) config.now link.now result (handle_link handle.new) }
 {
-    if let Some(boxed) = handle.take(alloc) {
-        handle.put(boxed);
+    if handle.is_live() {
         return NO_STACK;
     }
     let config = config.config();
@@ -75,7 +74,6 @@ pub extern "C" fn bsdudp_core_ether_end(alloc: Global, handle: &mut LinkHandle) 
 #[tactic(auto, using(crate::proofs::EtherAnswered::host_answered))]
 #[unsafe(no_mangle)]
 pub extern "C" fn bsdudp_core_ether_receive(
-    alloc: Global,
     handle: &mut Handle,
     link: &mut LinkHandle,
     frame: &[u8],
@@ -84,17 +82,17 @@ pub extern "C" fn bsdudp_core_ether_receive(
         (handle_link link.new) ⊤
         (Arrives frame.now result) }
 {
-    let Some(mut stack) = handle.take(alloc) else {
+    if !handle.is_live() {
         return NO_STACK;
-    };
-    let Some(mut layer) = link.take(alloc) else {
-        handle.put(stack);
+    }
+    if !link.is_live() {
         return NO_LINK;
-    };
-    let answer = ether_calls::receive(&mut stack.stack, &mut layer.layer, frame);
-    handle.put(stack);
-    link.put(layer);
-    answer
+    }
+    ether_calls::receive(
+        &mut handle.value_mut().stack,
+        &mut link.value_mut().layer,
+        frame,
+    )
 }
 
 /// Takes the next frame for the link. Returns its length in bytes, or 0 if no frame is queued; -EMSGSIZE if the buffer
@@ -104,7 +102,6 @@ pub extern "C" fn bsdudp_core_ether_receive(
 #[tactic(auto, using(crate::proofs::EtherAnswered::host_answered))]
 #[unsafe(no_mangle)]
 pub extern "C" fn bsdudp_core_ether_transmit(
-    alloc: Global,
     handle: &mut Handle,
     link: &mut LinkHandle,
     buffer: &mut [u8],
@@ -113,17 +110,17 @@ pub extern "C" fn bsdudp_core_ether_transmit(
         (handle_link link.new)
         (buffer.new ≡ buffer.old) (IsFramed buffer.old buffer.new result) }
 {
-    let Some(mut stack) = handle.take(alloc) else {
+    if !handle.is_live() {
         return NO_STACK;
-    };
-    let Some(mut layer) = link.take(alloc) else {
-        handle.put(stack);
+    }
+    if !link.is_live() {
         return NO_LINK;
-    };
-    let answer = ether_calls::transmit(&mut stack.stack, &mut layer.layer, buffer);
-    handle.put(stack);
-    link.put(layer);
-    answer
+    }
+    ether_calls::transmit(
+        &mut handle.value_mut().stack,
+        &mut link.value_mut().layer,
+        buffer,
+    )
 }
 
 /// Returns what other hosts reported about the datagrams that a connected socket sent to its peer, and clears it: 0 for
@@ -133,7 +130,6 @@ pub extern "C" fn bsdudp_core_ether_transmit(
 #[tactic(auto, using(crate::proofs::EtherAnswered::host_answered))]
 #[unsafe(no_mangle)]
 pub extern "C" fn bsdudp_core_ether_last_error(
-    alloc: Global,
     handle: &mut Handle,
     link: &mut LinkHandle,
     fd: u32,
@@ -142,17 +138,13 @@ pub extern "C" fn bsdudp_core_ether_last_error(
         (handle_link link.new) ⊤
         (ReportsError fd result) }
 {
-    let Some(stack) = handle.take(alloc) else {
+    if !handle.is_live() {
         return NO_STACK;
-    };
-    let Some(mut layer) = link.take(alloc) else {
-        handle.put(stack);
+    }
+    if !link.is_live() {
         return NO_LINK;
-    };
-    let answer = ether_calls::last_error(&stack.stack, &mut layer.layer, fd);
-    handle.put(stack);
-    link.put(layer);
-    answer
+    }
+    ether_calls::last_error(&handle.value_mut().stack, &mut link.value_mut().layer, fd)
 }
 
 /// Half a second has passed: the link's part of the tick, in addition to `bsdudp_core_tick`. Returns 0.
@@ -160,10 +152,10 @@ pub extern "C" fn bsdudp_core_ether_last_error(
 ///     int bsdudp_core_ether_tick(struct bsdudp_core *link)
 #[tactic(auto, using(crate::proofs::EtherAnswered::link_answered))]
 #[unsafe(no_mangle)]
-pub extern "C" fn bsdudp_core_ether_tick(alloc: Global, link: &mut LinkHandle) -> i32
+pub extern "C" fn bsdudp_core_ether_tick(link: &mut LinkHandle) -> i32
     ensures { AnswersLink (handle_link link.old) result (handle_link link.new) ⊤ (HasAged result) }
 {
-    with_held!(link, alloc, NO_LINK, boxed => ether_calls::tick(&mut boxed.layer))
+    with_held!(link, NO_LINK, held => ether_calls::tick(&mut held.layer))
 }
 
 /// Returns the state of the host's address: 1 if it is in use, 0 while the host probes for it, or -EADDRINUSE if
@@ -172,10 +164,10 @@ pub extern "C" fn bsdudp_core_ether_tick(alloc: Global, link: &mut LinkHandle) -
 ///     int bsdudp_core_ether_address(struct bsdudp_core *link)
 #[tactic(auto, using(crate::proofs::EtherAnswered::link_asked))]
 #[unsafe(no_mangle)]
-pub extern "C" fn bsdudp_core_ether_address(alloc: Global, link: &mut LinkHandle) -> i32
+pub extern "C" fn bsdudp_core_ether_address(link: &mut LinkHandle) -> i32
     ensures { AnswersLink (handle_link link.old) result (handle_link link.new) ⊤ (IsLinkAsked (ReportsAddress result)) }
 {
-    with_held!(link, alloc, NO_LINK, boxed => ether_calls::address(&boxed.layer))
+    with_held!(link, NO_LINK, held => ether_calls::address(&held.layer))
 }
 
 /// Reads the counters of the link. Returns 0.
@@ -183,15 +175,11 @@ pub extern "C" fn bsdudp_core_ether_address(alloc: Global, link: &mut LinkHandle
 ///     int bsdudp_core_ether_tallies(struct bsdudp_core *link, struct bsdudp_tallies *)
 #[tactic(auto, using(crate::proofs::EtherAnswered::link_asked))]
 #[unsafe(no_mangle)]
-pub extern "C" fn bsdudp_core_ether_tallies(
-    alloc: Global,
-    link: &mut LinkHandle,
-    tallies: &mut CTallies,
-) -> i32
+pub extern "C" fn bsdudp_core_ether_tallies(link: &mut LinkHandle, tallies: &mut CTallies) -> i32
     ensures { AnswersLink (handle_link link.old) result (handle_link link.new) (tallies.new ≡ tallies.old)
         (IsLinkAsked (ReportsTallies result tallies.new)) }
 {
-    with_held!(link, alloc, NO_LINK, boxed => ether_calls::tallies(&boxed.layer, tallies))
+    with_held!(link, NO_LINK, held => ether_calls::tallies(&held.layer, tallies))
 }
 
 /// Reads a neighbour by its index in the table, in which the newest entry is last. Returns 0, or -EINVAL if there is no
@@ -201,7 +189,6 @@ pub extern "C" fn bsdudp_core_ether_tallies(
 #[tactic(auto, using(crate::proofs::EtherAnswered::link_asked))]
 #[unsafe(no_mangle)]
 pub extern "C" fn bsdudp_core_ether_neighbour(
-    alloc: Global,
     link: &mut LinkHandle,
     i: u32,
     neighbour: &mut CNeighbour,
@@ -209,5 +196,5 @@ pub extern "C" fn bsdudp_core_ether_neighbour(
     ensures { AnswersLink (handle_link link.old) result (handle_link link.new) (neighbour.new ≡ neighbour.old)
         (IsLinkAsked (ReportsNeighbour i result neighbour.old neighbour.new)) }
 {
-    with_held!(link, alloc, NO_LINK, boxed => ether_calls::neighbour(&boxed.layer, i, neighbour))
+    with_held!(link, NO_LINK, held => ether_calls::neighbour(&held.layer, i, neighbour))
 }

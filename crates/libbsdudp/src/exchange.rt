@@ -1,6 +1,8 @@
-//! How a stack is taken out of a handle, and put back.
-ghost use Rattle.std.specs.Prelude.{◌≡◌, MatchOption, None, Some};
+//! How a call gets the stack of a handle, and how a stack is put into one and taken out.
+ghost use Rattle.std.specs.Prelude.{◌≡◌, ◌==◌, MatchOption, None, Some};
+ghost use Rattle.std.specs.Borrow.{sem};
 ghost use Rattle.libbsdudp.specs.Calls.{stack_in};
+ghost use Rattle.libbsdudp.specs.HandleLends.{LendsValue};
 
 use crate::handle::Handle;
 use crate::held::Held;
@@ -9,17 +11,14 @@ use crate::parts::{open, shut};
 use std::alloc::Global;
 use std::mem::replace;
 
-/// Takes the value out of a handle for the duration of a call, and puts it back. If the handle has no value, the result
-/// is `$lacks`.
+/// Passes the value that a handle holds to a call. If the handle has no value, the result is `$lacks`.
 macro_rules! with_held {
-    ($handle:ident, $alloc:ident, $lacks:ident, $boxed:ident => $call:expr) => {
-        match $handle.take($alloc) {
-            Some(mut $boxed) => {
-                let answer = $call;
-                $handle.put($boxed);
-                answer
-            }
-            None => $lacks,
+    ($handle:ident, $lacks:ident, $held:ident => $call:expr) => {
+        if $handle.is_live() {
+            let $held = $handle.value_mut();
+            $call
+        } else {
+            $lacks
         }
     };
 }
@@ -38,6 +37,22 @@ impl Handle {
             live: 0,
             held: Held::nothing(alloc),
         }
+    }
+
+    /// Returns whether the handle has a stack.
+    pub(crate) fn is_live(&self) -> bool
+        ensures { result ≡ (self.now.live == 1651729525) }
+    {
+        self.live == LIVE
+    }
+
+    /// Returns the stack, mutable. The handle must have one.
+    pub(crate) fn value_mut(&mut self) -> &mut Owned
+        requires { self.old.live ≡ 1651729525 }
+        ensures* writes_back { sem 𝓛 (LendsValue self.entry result) }
+        ensures value { stack_in self.old ≡ Some result.now.stack }
+    {
+        self.held.value_mut()
     }
 
     /// Takes out the stack, and leaves the handle without one. Returns `None` if it has no stack; the handle is then

@@ -1,5 +1,6 @@
 //! A boxed stack as C keeps it: only an address.
 ghost use Rattle.std.specs.Prelude.{◌≡◌, None, Some};
+ghost use Rattle.std.specs.Borrow.{sem};
 ghost use Rattle.libbsdudp.specs.Held.{IsFull, Kept, kept_coded, kept_owns};
 
 use crate::owned::Owned;
@@ -23,6 +24,8 @@ impl Model for Held {
 }
 
 impl Held {
+    ghost use Rattle.libbsdudp.specs.HeldLends.{LendsBoxed};
+
     /// No box.
     pub(crate) fn nothing(alloc: Global) -> Held
         ensures { result.kept ≡ None }
@@ -54,5 +57,14 @@ impl Held {
             at: at as *mut Owned,
             alloc,
         }
+    }
+
+    /// Returns the value in the box, mutable. There must be one.
+    pub(crate) fn value_mut(&mut self) -> &mut Owned
+        requires { IsFull self.old.kept }
+        ensures* writes_back { sem 𝓛 (LendsBoxed self.entry result) }
+        ensures value { self.old.kept ≡ Some result.now }
+    {
+        unsafe { &mut *(self.at as *mut Owned) }
     }
 }

@@ -35,17 +35,16 @@ use exchange::with_held;
 use flat_model::Opt;
 use handle::Handle;
 use plain::CAddr;
-use std::alloc::Global;
 
 /// Receives a packet. Returns 0, or -EMSGSIZE if it has more than 65,535 bytes.
 ///
 ///     int bsdudp_core_rx(struct bsdudp_core *, const uint8_t *packet, size_t len)
 #[tactic(auto, using(crate::proofs::Answered::answered))]
 #[unsafe(no_mangle)]
-pub extern "C" fn bsdudp_core_rx(alloc: Global, handle: &mut Handle, packet: &[u8]) -> i32
+pub extern "C" fn bsdudp_core_rx(handle: &mut Handle, packet: &[u8]) -> i32
     ensures { Answers (stack_in handle.old) result (stack_in handle.new) ⊤ (AnswersArrival packet.now result) }
 {
-    with_held!(handle, alloc, NO_STACK, boxed => calls::rx(&mut boxed.stack, packet))
+    with_held!(handle, NO_STACK, held => calls::rx(&mut held.stack, packet))
 }
 
 /// Takes the oldest packet of the output queue. Returns its length in bytes, or 0 if the queue is empty; -EMSGSIZE if
@@ -54,11 +53,11 @@ pub extern "C" fn bsdudp_core_rx(alloc: Global, handle: &mut Handle, packet: &[u
 ///     int bsdudp_core_tx(struct bsdudp_core *, uint8_t *room, size_t len)
 #[tactic(auto, using(crate::proofs::Answered::answered))]
 #[unsafe(no_mangle)]
-pub extern "C" fn bsdudp_core_tx(alloc: Global, handle: &mut Handle, buffer: &mut [u8]) -> i32
+pub extern "C" fn bsdudp_core_tx(handle: &mut Handle, buffer: &mut [u8]) -> i32
     ensures { Answers (stack_in handle.old) result (stack_in handle.new) (buffer.new ≡ buffer.old)
         (AnswersTransmit buffer.old buffer.new result) }
 {
-    with_held!(handle, alloc, NO_STACK, boxed => calls::tx(&mut boxed.stack, buffer))
+    with_held!(handle, NO_STACK, held => calls::tx(&mut held.stack, buffer))
 }
 
 /// Half a second has passed. Returns 0.
@@ -66,10 +65,10 @@ pub extern "C" fn bsdudp_core_tx(alloc: Global, handle: &mut Handle, buffer: &mu
 ///     int bsdudp_core_tick(struct bsdudp_core *)
 #[tactic(auto, using(crate::proofs::Answered::answered))]
 #[unsafe(no_mangle)]
-pub extern "C" fn bsdudp_core_tick(alloc: Global, handle: &mut Handle) -> i32
+pub extern "C" fn bsdudp_core_tick(handle: &mut Handle) -> i32
     ensures { Answers (stack_in handle.old) result (stack_in handle.new) ⊤ (HasTicked result Tick) }
 {
-    with_held!(handle, alloc, NO_STACK, boxed => calls::tick(&mut boxed.stack))
+    with_held!(handle, NO_STACK, held => calls::tick(&mut held.stack))
 }
 
 /// Opens a socket. Returns its descriptor, or a negative error code.
@@ -77,10 +76,10 @@ pub extern "C" fn bsdudp_core_tick(alloc: Global, handle: &mut Handle) -> i32
 ///     int bsdudp_core_socket(struct bsdudp_core *)
 #[tactic(auto, using(crate::proofs::Answered::answered))]
 #[unsafe(no_mangle)]
-pub extern "C" fn bsdudp_core_socket(alloc: Global, handle: &mut Handle) -> i32
+pub extern "C" fn bsdudp_core_socket(handle: &mut Handle) -> i32
     ensures { Answers (stack_in handle.old) result (stack_in handle.new) ⊤ (IsOpened result) }
 {
-    with_held!(handle, alloc, NO_STACK, boxed => calls::socket(&mut boxed.stack))
+    with_held!(handle, NO_STACK, held => calls::socket(&mut held.stack))
 }
 
 /// Binds a socket to a local address and port. Returns 0, or a negative error code.
@@ -88,16 +87,11 @@ pub extern "C" fn bsdudp_core_socket(alloc: Global, handle: &mut Handle) -> i32
 ///     int bsdudp_core_bind(struct bsdudp_core *, uint32_t fd, const struct bsdudp_addr *)
 #[tactic(auto, using(crate::proofs::Answered::answered))]
 #[unsafe(no_mangle)]
-pub extern "C" fn bsdudp_core_bind(
-    alloc: Global,
-    handle: &mut Handle,
-    fd: u32,
-    local: &CAddr,
-) -> i32
+pub extern "C" fn bsdudp_core_bind(handle: &mut Handle, fd: u32, local: &CAddr) -> i32
     ensures { Answers (stack_in handle.old) result (stack_in handle.new) ⊤
         (AnswersCall (Bind fd (addr_of local.now)) result) }
 {
-    with_held!(handle, alloc, NO_STACK, boxed => calls::bind(&mut boxed.stack, fd, local.addr()))
+    with_held!(handle, NO_STACK, held => calls::bind(&mut held.stack, fd, local.addr()))
 }
 
 /// Connects a socket. Returns 0, or a negative error code.
@@ -105,16 +99,11 @@ pub extern "C" fn bsdudp_core_bind(
 ///     int bsdudp_core_connect(struct bsdudp_core *, uint32_t fd, const struct bsdudp_addr *)
 #[tactic(auto, using(crate::proofs::Answered::answered))]
 #[unsafe(no_mangle)]
-pub extern "C" fn bsdudp_core_connect(
-    alloc: Global,
-    handle: &mut Handle,
-    fd: u32,
-    to: &CAddr,
-) -> i32
+pub extern "C" fn bsdudp_core_connect(handle: &mut Handle, fd: u32, to: &CAddr) -> i32
     ensures { Answers (stack_in handle.old) result (stack_in handle.new) ⊤
         (AnswersCall (Connect fd (addr_of to.now)) result) }
 {
-    with_held!(handle, alloc, NO_STACK, boxed => calls::connect(&mut boxed.stack, fd, to.addr()))
+    with_held!(handle, NO_STACK, held => calls::connect(&mut held.stack, fd, to.addr()))
 }
 
 /// Sends a datagram to an address. Returns its length in bytes, or a negative error code.
@@ -122,17 +111,11 @@ pub extern "C" fn bsdudp_core_connect(
 ///     int bsdudp_core_sendto(struct bsdudp_core *, uint32_t fd, const struct bsdudp_addr *, const uint8_t *, size_t)
 #[tactic(auto, using(crate::proofs::Answered::answered))]
 #[unsafe(no_mangle)]
-pub extern "C" fn bsdudp_core_sendto(
-    alloc: Global,
-    handle: &mut Handle,
-    fd: u32,
-    to: &CAddr,
-    bytes: &[u8],
-) -> i32
+pub extern "C" fn bsdudp_core_sendto(handle: &mut Handle, fd: u32, to: &CAddr, bytes: &[u8]) -> i32
     ensures { Answers (stack_in handle.old) result (stack_in handle.new) ⊤
         (AnswersSend (Send fd (Some (addr_of to.now)) bytes.now) result) }
 {
-    with_held!(handle, alloc, NO_STACK, boxed => calls::send(&mut boxed.stack, fd, Some(to.addr()), bytes))
+    with_held!(handle, NO_STACK, held => calls::send(&mut held.stack, fd, Some(to.addr()), bytes))
 }
 
 /// Sends a datagram to the peer. Returns its length in bytes, or a negative error code.
@@ -140,11 +123,11 @@ pub extern "C" fn bsdudp_core_sendto(
 ///     int bsdudp_core_send(struct bsdudp_core *, uint32_t fd, const uint8_t *, size_t)
 #[tactic(auto, using(crate::proofs::Answered::answered))]
 #[unsafe(no_mangle)]
-pub extern "C" fn bsdudp_core_send(alloc: Global, handle: &mut Handle, fd: u32, bytes: &[u8]) -> i32
+pub extern "C" fn bsdudp_core_send(handle: &mut Handle, fd: u32, bytes: &[u8]) -> i32
     ensures { Answers (stack_in handle.old) result (stack_in handle.new) ⊤
         (AnswersSend (Send fd None bytes.now) result) }
 {
-    with_held!(handle, alloc, NO_STACK, boxed => calls::send(&mut boxed.stack, fd, None, bytes))
+    with_held!(handle, NO_STACK, held => calls::send(&mut held.stack, fd, None, bytes))
 }
 
 /// Takes the oldest queued datagram. Returns how many bytes were written to the buffer, or a negative error code.
@@ -153,7 +136,6 @@ pub extern "C" fn bsdudp_core_send(alloc: Global, handle: &mut Handle, fd: u32, 
 #[tactic(auto, using(crate::proofs::Answered::answered))]
 #[unsafe(no_mangle)]
 pub extern "C" fn bsdudp_core_recvfrom(
-    alloc: Global,
     handle: &mut Handle,
     fd: u32,
     buffer: &mut [u8],
@@ -163,7 +145,7 @@ pub extern "C" fn bsdudp_core_recvfrom(
         ((buffer.new ≡ buffer.old) × (from.new ≡ from.old)) (IsReceived fd result buffer.old buffer.new
         from.old from.new) }
 {
-    with_held!(handle, alloc, NO_STACK, boxed => calls::receive(&mut boxed.stack, fd, buffer, from))
+    with_held!(handle, NO_STACK, held => calls::receive(&mut held.stack, fd, buffer, from))
 }
 
 /// Closes a socket. Returns 0, or a negative error code.
@@ -171,10 +153,10 @@ pub extern "C" fn bsdudp_core_recvfrom(
 ///     int bsdudp_core_close(struct bsdudp_core *, uint32_t fd)
 #[tactic(auto, using(crate::proofs::Answered::answered))]
 #[unsafe(no_mangle)]
-pub extern "C" fn bsdudp_core_close(alloc: Global, handle: &mut Handle, fd: u32) -> i32
+pub extern "C" fn bsdudp_core_close(handle: &mut Handle, fd: u32) -> i32
     ensures { Answers (stack_in handle.old) result (stack_in handle.new) ⊤ (AnswersCall (Close fd) result) }
 {
-    with_held!(handle, alloc, NO_STACK, boxed => calls::close(&mut boxed.stack, fd))
+    with_held!(handle, NO_STACK, held => calls::close(&mut held.stack, fd))
 }
 
 /// Sets whether a socket may send broadcasts. Returns 0, or a negative error code.
@@ -182,16 +164,11 @@ pub extern "C" fn bsdudp_core_close(alloc: Global, handle: &mut Handle, fd: u32)
 ///     int bsdudp_core_set_broadcast(struct bsdudp_core *, uint32_t fd, bool on)
 #[tactic(auto, using(crate::proofs::Answered::answered))]
 #[unsafe(no_mangle)]
-pub extern "C" fn bsdudp_core_set_broadcast(
-    alloc: Global,
-    handle: &mut Handle,
-    fd: u32,
-    on: bool,
-) -> i32
+pub extern "C" fn bsdudp_core_set_broadcast(handle: &mut Handle, fd: u32, on: bool) -> i32
     ensures { Answers (stack_in handle.old) result (stack_in handle.new) ⊤
         (AnswersCall (Set_option fd Broadcast on) result) }
 {
-    with_held!(handle, alloc, NO_STACK, boxed => calls::set(&mut boxed.stack, fd, Opt::Broadcast, on))
+    with_held!(handle, NO_STACK, held => calls::set(&mut held.stack, fd, Opt::Broadcast, on))
 }
 
 /// Sets whether a socket's address and port may be shared. Returns 0, or a negative error code.
@@ -199,14 +176,9 @@ pub extern "C" fn bsdudp_core_set_broadcast(
 ///     int bsdudp_core_set_reuse_port(struct bsdudp_core *, uint32_t fd, bool on)
 #[tactic(auto, using(crate::proofs::Answered::answered))]
 #[unsafe(no_mangle)]
-pub extern "C" fn bsdudp_core_set_reuse_port(
-    alloc: Global,
-    handle: &mut Handle,
-    fd: u32,
-    on: bool,
-) -> i32
+pub extern "C" fn bsdudp_core_set_reuse_port(handle: &mut Handle, fd: u32, on: bool) -> i32
     ensures { Answers (stack_in handle.old) result (stack_in handle.new) ⊤
         (AnswersCall (Set_option fd ReusePort on) result) }
 {
-    with_held!(handle, alloc, NO_STACK, boxed => calls::set(&mut boxed.stack, fd, Opt::ReusePort, on))
+    with_held!(handle, NO_STACK, held => calls::set(&mut held.stack, fd, Opt::ReusePort, on))
 }

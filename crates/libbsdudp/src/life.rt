@@ -19,8 +19,7 @@ use std::alloc::Global;
 pub extern "C" fn bsdudp_core_boot(alloc: Global, handle: &mut Handle, config: &CConfig) -> i32
     ensures { IsBooted (stack_in handle.old) config.now result (stack_in handle.new) }
 {
-    if let Some(boxed) = handle.take(alloc) {
-        handle.put(boxed);
+    if handle.is_live() {
         return NO_STACK;
     }
     let stack = match Stack::boot(alloc, config.config()) {

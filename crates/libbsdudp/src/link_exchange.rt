@@ -1,7 +1,9 @@
-//! How a link is taken out of its handle, and put back.
-ghost use Rattle.std.specs.Prelude.{◌≡◌, MatchOption, None, Some};
+//! How a call gets the link of its handle, and how a link is put into one and taken out.
+ghost use Rattle.std.specs.Prelude.{◌≡◌, ◌==◌, MatchOption, None, Some};
+ghost use Rattle.std.specs.Borrow.{sem};
 ghost use Rattle.ether_host.specs.Inside.{link_seen};
 ghost use Rattle.libbsdudp.specs.Ether.{handle_link};
+ghost use Rattle.libbsdudp.specs.LinkHandleLends.{LendsLayer};
 
 use crate::link_handle::LinkHandle;
 use crate::link_held::LinkHeld;
@@ -22,6 +24,22 @@ impl LinkHandle {
             live: 0,
             held: LinkHeld::nothing(alloc),
         }
+    }
+
+    /// Returns whether the handle has a link.
+    pub(crate) fn is_live(&self) -> bool
+        ensures { result ≡ (self.now.live == 1651731563) }
+    {
+        self.live == LIVE
+    }
+
+    /// Returns the link, mutable. The handle must have one.
+    pub(crate) fn value_mut(&mut self) -> &mut OwnedLink
+        requires { self.old.live ≡ 1651731563 }
+        ensures* writes_back { sem 𝓛 (LendsLayer self.entry result) }
+        ensures value { handle_link self.old ≡ Some (link_seen result.now.layer) }
+    {
+        self.held.value_mut()
     }
 
     /// Takes out the link, and leaves the handle without one. Returns `None` if it has no link; the handle is then

@@ -1,5 +1,6 @@
 //! A boxed link as C keeps it, the counterpart of `held` for a stack.
 ghost use Rattle.std.specs.Prelude.{◌≡◌, None, Some};
+ghost use Rattle.std.specs.Borrow.{sem};
 ghost use Rattle.libbsdudp.specs.LinkHeld.{IsLinkFull, LinkKept, link_kept_coded, link_kept_owns};
 
 use crate::link_owned::OwnedLink;
@@ -24,6 +25,8 @@ impl Model for LinkHeld {
 }
 
 impl LinkHeld {
+    ghost use Rattle.libbsdudp.specs.LinkHeldLends.{LendsBoxedLink};
+
     /// No box.
     pub(crate) fn nothing(alloc: Global) -> LinkHeld
         ensures { result.kept ≡ None }
@@ -55,5 +58,14 @@ impl LinkHeld {
             at: at as *mut OwnedLink,
             alloc,
         }
+    }
+
+    /// Returns the value in the box, mutable. There must be one.
+    pub(crate) fn value_mut(&mut self) -> &mut OwnedLink
+        requires { IsLinkFull self.old.kept }
+        ensures* writes_back { sem 𝓛 (LendsBoxedLink self.entry result) }
+        ensures value { self.old.kept ≡ Some result.now }
+    {
+        unsafe { &mut *(self.at as *mut OwnedLink) }
     }
 }

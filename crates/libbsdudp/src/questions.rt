@@ -8,23 +8,17 @@ use crate::errors::NO_STACK;
 use crate::exchange::with_held;
 use crate::handle::Handle;
 use crate::plain::{CMbstat, CName, CNext, CRange, CUnfinished};
-use std::alloc::Global;
 
 /// Reads the addresses of a socket, and its options. Returns 0, or -EBADF.
 ///
 ///     int bsdudp_core_name(struct bsdudp_core *, uint32_t fd, struct bsdudp_name *)
 #[tactic(auto, using(crate::proofs::Answered::asked))]
 #[unsafe(no_mangle)]
-pub extern "C" fn bsdudp_core_name(
-    alloc: Global,
-    handle: &mut Handle,
-    fd: u32,
-    name: &mut CName,
-) -> i32
+pub extern "C" fn bsdudp_core_name(handle: &mut Handle, fd: u32, name: &mut CName) -> i32
     ensures { Answers (stack_in handle.old) result (stack_in handle.new) (name.new ≡ name.old)
         (AnswersQuestion (ReportsName fd result name.old name.new)) }
 {
-    with_held!(handle, alloc, NO_STACK, boxed => asks::name(&boxed.stack, fd, name))
+    with_held!(handle, NO_STACK, held => asks::name(&held.stack, fd, name))
 }
 
 /// Reads the sender and the length of the oldest queued datagram of a socket. Returns 0, or a negative error code if
@@ -33,16 +27,11 @@ pub extern "C" fn bsdudp_core_name(
 ///     int bsdudp_core_next(struct bsdudp_core *, uint32_t fd, struct bsdudp_next *)
 #[tactic(auto, using(crate::proofs::Answered::asked))]
 #[unsafe(no_mangle)]
-pub extern "C" fn bsdudp_core_next(
-    alloc: Global,
-    handle: &mut Handle,
-    fd: u32,
-    next: &mut CNext,
-) -> i32
+pub extern "C" fn bsdudp_core_next(handle: &mut Handle, fd: u32, next: &mut CNext) -> i32
     ensures { Answers (stack_in handle.old) result (stack_in handle.new) (next.new ≡ next.old)
         (AnswersQuestion (ReportsNext fd result next.old next.new)) }
 {
-    with_held!(handle, alloc, NO_STACK, boxed => asks::next(&boxed.stack, fd, next))
+    with_held!(handle, NO_STACK, held => asks::next(&held.stack, fd, next))
 }
 
 /// Reads the set of sockets that have a queued datagram: bit k is descriptor 3 + k. Returns 0.
@@ -50,11 +39,11 @@ pub extern "C" fn bsdudp_core_next(
 ///     int bsdudp_core_readable(struct bsdudp_core *, uint64_t *set)
 #[tactic(auto, using(crate::proofs::Answered::asked))]
 #[unsafe(no_mangle)]
-pub extern "C" fn bsdudp_core_readable(alloc: Global, handle: &mut Handle, set: &mut u64) -> i32
+pub extern "C" fn bsdudp_core_readable(handle: &mut Handle, set: &mut u64) -> i32
     ensures { Answers (stack_in handle.old) result (stack_in handle.new) (set.new ≡ set.old)
         (AnswersQuestion (ReportsReadable result set.new)) }
 {
-    with_held!(handle, alloc, NO_STACK, boxed => asks::readable(&boxed.stack, set))
+    with_held!(handle, NO_STACK, held => asks::readable(&held.stack, set))
 }
 
 /// Returns the number of packets in the output queue.
@@ -62,10 +51,10 @@ pub extern "C" fn bsdudp_core_readable(alloc: Global, handle: &mut Handle, set: 
 ///     int bsdudp_core_output_len(struct bsdudp_core *)
 #[tactic(auto, using(crate::proofs::Answered::asked))]
 #[unsafe(no_mangle)]
-pub extern "C" fn bsdudp_core_output_len(alloc: Global, handle: &mut Handle) -> i32
+pub extern "C" fn bsdudp_core_output_len(handle: &mut Handle) -> i32
     ensures { Answers (stack_in handle.old) result (stack_in handle.new) ⊤ (AnswersQuestion (ReportsOutput result)) }
 {
-    with_held!(handle, alloc, NO_STACK, boxed => asks::output_len(&boxed.stack))
+    with_held!(handle, NO_STACK, held => asks::output_len(&held.stack))
 }
 
 /// Returns the length in bytes of the packet that `tx` takes next, or 0 if the queue is empty.
@@ -73,10 +62,10 @@ pub extern "C" fn bsdudp_core_output_len(alloc: Global, handle: &mut Handle) -> 
 ///     int bsdudp_core_next_packet(struct bsdudp_core *)
 #[tactic(auto, using(crate::proofs::Answered::asked))]
 #[unsafe(no_mangle)]
-pub extern "C" fn bsdudp_core_next_packet(alloc: Global, handle: &mut Handle) -> i32
+pub extern "C" fn bsdudp_core_next_packet(handle: &mut Handle) -> i32
     ensures { Answers (stack_in handle.old) result (stack_in handle.new) ⊤ (AnswersQuestion (ReportsPacket result)) }
 {
-    with_held!(handle, alloc, NO_STACK, boxed => asks::next_packet(&boxed.stack))
+    with_held!(handle, NO_STACK, held => asks::next_packet(&held.stack))
 }
 
 /// Reads a counter by its index in the order of printing. Returns 0, or -EINVAL if there is no such counter.
@@ -84,16 +73,11 @@ pub extern "C" fn bsdudp_core_next_packet(alloc: Global, handle: &mut Handle) ->
 ///     int bsdudp_core_counter(struct bsdudp_core *, uint32_t which, uint64_t *value)
 #[tactic(auto, using(crate::proofs::Answered::asked))]
 #[unsafe(no_mangle)]
-pub extern "C" fn bsdudp_core_counter(
-    alloc: Global,
-    handle: &mut Handle,
-    which: u32,
-    value: &mut u64,
-) -> i32
+pub extern "C" fn bsdudp_core_counter(handle: &mut Handle, which: u32, value: &mut u64) -> i32
     ensures { Answers (stack_in handle.old) result (stack_in handle.new) (value.new ≡ value.old)
         (AnswersQuestion (ReportsCounter which result value.old value.new)) }
 {
-    with_held!(handle, alloc, NO_STACK, boxed => asks::counter(&boxed.stack, which, value))
+    with_held!(handle, NO_STACK, held => asks::counter(&held.stack, which, value))
 }
 
 /// Reads the usage of the pool. Returns 0.
@@ -101,11 +85,11 @@ pub extern "C" fn bsdudp_core_counter(
 ///     int bsdudp_core_mbstat(struct bsdudp_core *, struct bsdudp_mbstat *)
 #[tactic(auto, using(crate::proofs::Answered::asked))]
 #[unsafe(no_mangle)]
-pub extern "C" fn bsdudp_core_mbstat(alloc: Global, handle: &mut Handle, usage: &mut CMbstat) -> i32
+pub extern "C" fn bsdudp_core_mbstat(handle: &mut Handle, usage: &mut CMbstat) -> i32
     ensures { Answers (stack_in handle.old) result (stack_in handle.new) (usage.new ≡ usage.old)
         (AnswersQuestion (ReportsUsage result usage.new)) }
 {
-    with_held!(handle, alloc, NO_STACK, boxed => asks::mbstat(&boxed.stack, usage))
+    with_held!(handle, NO_STACK, held => asks::mbstat(&held.stack, usage))
 }
 
 /// Returns the number of unfinished datagrams.
@@ -113,10 +97,10 @@ pub extern "C" fn bsdudp_core_mbstat(alloc: Global, handle: &mut Handle, usage: 
 ///     int bsdudp_core_unfinished_len(struct bsdudp_core *)
 #[tactic(auto, using(crate::proofs::Answered::asked))]
 #[unsafe(no_mangle)]
-pub extern "C" fn bsdudp_core_unfinished_len(alloc: Global, handle: &mut Handle) -> i32
+pub extern "C" fn bsdudp_core_unfinished_len(handle: &mut Handle) -> i32
     ensures { Answers (stack_in handle.old) result (stack_in handle.new) ⊤ (AnswersQuestion (ReportsWaiting result)) }
 {
-    with_held!(handle, alloc, NO_STACK, boxed => asks::unfinished_len(&boxed.stack))
+    with_held!(handle, NO_STACK, held => asks::unfinished_len(&held.stack))
 }
 
 /// Reads an unfinished datagram by its index, in the order in which they began. Returns 0, or -EINVAL if there is no
@@ -126,7 +110,6 @@ pub extern "C" fn bsdudp_core_unfinished_len(alloc: Global, handle: &mut Handle)
 #[tactic(auto, using(crate::proofs::Answered::asked))]
 #[unsafe(no_mangle)]
 pub extern "C" fn bsdudp_core_unfinished(
-    alloc: Global,
     handle: &mut Handle,
     i: u32,
     datagram: &mut CUnfinished,
@@ -134,7 +117,7 @@ pub extern "C" fn bsdudp_core_unfinished(
     ensures { Answers (stack_in handle.old) result (stack_in handle.new) (datagram.new ≡ datagram.old)
         (AnswersQuestion (ReportsUnfinished i result datagram.old datagram.new)) }
 {
-    with_held!(handle, alloc, NO_STACK, boxed => asks::unfinished(&boxed.stack, i, datagram))
+    with_held!(handle, NO_STACK, held => asks::unfinished(&held.stack, i, datagram))
 }
 
 /// Reads a range of the bytes of an unfinished datagram by the range's index, in order of offset. Returns 0, or -EINVAL
@@ -144,7 +127,6 @@ pub extern "C" fn bsdudp_core_unfinished(
 #[tactic(auto, using(crate::proofs::Answered::asked))]
 #[unsafe(no_mangle)]
 pub extern "C" fn bsdudp_core_unfinished_range(
-    alloc: Global,
     handle: &mut Handle,
     i: u32,
     k: u32,
@@ -153,5 +135,5 @@ pub extern "C" fn bsdudp_core_unfinished_range(
     ensures { Answers (stack_in handle.old) result (stack_in handle.new) (range.new ≡ range.old)
         (AnswersQuestion (ReportsRange i k result range.old range.new)) }
 {
-    with_held!(handle, alloc, NO_STACK, boxed => asks::unfinished_range(&boxed.stack, i, k, range))
+    with_held!(handle, NO_STACK, held => asks::unfinished_range(&held.stack, i, k, range))
 }

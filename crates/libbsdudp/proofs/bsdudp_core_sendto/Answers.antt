@@ -3,16 +3,15 @@ use Rattle.flat_model.specs.Machine.Event.{Send}
 use Rattle.libbsdudp.specs.Calls.{AnswersSend}
 use Rattle.flat_model.specs.declared.address.Addr.{Addr}
 use Rattle.libbsdudp.specs.Plain.{addr_of}
-use Rattle.libbsdudp.specs.Held.{Boxed}
-use Rattle.libbsdudp.proofs.Answered.{answered_by}
+use Rattle.libbsdudp.proofs.Answered.{called}
 use Rattle.libbsdudp.proofs.bsdudp_core_sendto.Goals as goal
 
-pub returns-in-Some : goal.returns-in-Some
-returns-in-Some c =
-    answered_by c.send-answer.result _
+pub returns-then-is_live : goal.returns-then-is_live
+returns-then-is_live c =
+    called c.args.handle.now (record { stack = c.send.new.stack }) c.send.result _
     (λ z. AnswersSend (Send c.args.fd (Some (addr_of c.args.to.now)) c.args.bytes.now) z)
-    _ _ (record { sfits = c.send-answer.type_inv }) c.in-Some.ensures.taken c.put.ensures
-    (subst (λ (x : Boxed). (AnswersSend (Send c.args.fd (Some (addr_of c.args.to.now)) c.args.bytes.now)
-    c.send-answer.result) x.stack c.send-answer.new.stack) c.deref_mut.ensures.value
-    (subst (λ (a : Addr). AnswersSend (Send c.args.fd (Some a) c.args.bytes.now) c.send-answer.result
-    c.deref_mut.result.now.stack c.send-answer.new.stack) c.addr.ensures c.send-answer.ensures))
+    c.value_mut-held.result.now.stack (record { sfits = c.send.type_inv }) c.if-is_live.true c.is_live.ensures
+    c.value_mut-held.ensures.value
+    (subst (λ (a : Addr). (AnswersSend (Send c.args.fd (Some a) c.args.bytes.now) c.send.result)
+    c.value_mut-held.result.now.stack c.send.new.stack)
+    c.addr.ensures c.send.ensures)

@@ -1,13 +1,9 @@
-use Rattle.std.proofs.Common.{subst}
 use Rattle.libbsdudp.specs.Calls.{IsOpened}
-use Rattle.libbsdudp.specs.Held.{Boxed}
-use Rattle.libbsdudp.proofs.Answered.{answered_by}
+use Rattle.libbsdudp.proofs.Answered.{called}
 use Rattle.libbsdudp.proofs.bsdudp_core_socket.Goals as goal
 
-pub returns-in-Some : goal.returns-in-Some
-returns-in-Some c =
-    answered_by c.socket-answer.result _ (λ z. IsOpened z) _ _ (record { sfits = c.socket-answer.type_inv })
-    c.in-Some.ensures.taken c.put.ensures
-    (subst (λ (x : Boxed). (IsOpened c.socket-answer.result) x.stack c.socket-answer.new.stack)
-    c.deref_mut.ensures.value
-    c.socket-answer.ensures)
+pub returns-then-is_live : goal.returns-then-is_live
+returns-then-is_live c =
+    called c.args.handle.now (record { stack = c.socket.new.stack }) c.socket.result _ (λ z. IsOpened z)
+    c.value_mut-held.result.now.stack (record { sfits = c.socket.type_inv }) c.if-is_live.true c.is_live.ensures
+    c.value_mut-held.ensures.value c.socket.ensures

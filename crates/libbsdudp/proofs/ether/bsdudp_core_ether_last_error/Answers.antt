@@ -1,20 +1,22 @@
-use Rattle.std.proofs.Common.{subst}
+use Rattle.std.proofs.Common.{sym, ◌∙◌}
 use Rattle.ether_host.specs.Inside.{link_seen}
-use Rattle.libbsdudp.specs.Ether.{ReportsError, both}
-use Rattle.libbsdudp.specs.Held.{Boxed}
-use Rattle.libbsdudp.specs.LinkHeld as link
-use Rattle.libbsdudp.proofs.EtherAnswered.{host_answered_by}
+use Rattle.libbsdudp.specs.Ether.{ReportsError}
+use Rattle.libbsdudp.proofs.EtherAnswered.{host_called, lacks_link, lacks_stack}
 use Rattle.libbsdudp.proofs.ether.bsdudp_core_ether_last_error.Goals as goal
+
+pub returns-then-not-is_live : goal.returns-then-not-is_live
+returns-then-not-is_live c =
+    lacks_stack c.args.handle.now c.args.link.now _ _ (sym c.is_live.ensures ∙ c.if-not-is_live.true) _
+
+pub returns-then-not-is_live-2 : goal.returns-then-not-is_live-2
+returns-then-not-is_live-2 c =
+    lacks_link c.args.handle.now c.args.link.now _ _ (sym c.is_live.ensures ∙ c.if-not-is_live.false)
+    (sym c.is_live-2.ensures ∙ c.if-not-is_live-2.true) _
 
 pub returns : goal.returns
 returns c =
-    host_answered_by c.last_error-answer.result _ (λ z. ReportsError c.args.fd z) _ _ _ _
-    (record { sfits = c.last_error-answer.type_inv })
-    c.in-Some.ensures.taken c.in-Some-take.ensures.taken c.put-2.ensures c.put-3.ensures
-    (subst (λ (x : Boxed). ReportsError c.args.fd c.last_error-answer.result
-    (both x.stack (link_seen c.in-Some-take.layer.value.layer))
-    (both x.stack (link_seen c.last_error-answer.new.layer))) c.deref.ensures
-    (subst (λ (y : link.LinkBoxed). ReportsError c.args.fd c.last_error-answer.result
-    (both c.deref.result.now.stack (link_seen y.layer))
-    (both c.deref.result.now.stack
-    (link_seen c.last_error-answer.new.layer))) c.deref_mut.ensures.value c.last_error-answer.ensures))
+    host_called c.args.handle.now (c.value_mut.result.now) c.args.link.now
+    (record { layer = c.last_error.new.layer }) c.last_error.result _ (λ z. ReportsError c.args.fd z)
+    c.value_mut.result.now.stack (link_seen c.value_mut-2.result.now.layer) (record { sfits = c.last_error.type_inv })
+    c.if-not-is_live.false c.is_live.ensures c.if-not-is_live-2.false c.is_live-2.ensures
+    c.value_mut.ensures.value c.value_mut-2.ensures.value c.last_error.ensures

@@ -1,21 +1,23 @@
-use Rattle.std.proofs.Common.{subst}
+use Rattle.std.proofs.Common.{refl, sym, ◌∙◌}
 use Rattle.ether_host.specs.Inside.{link_seen}
-use Rattle.libbsdudp.specs.Ether.{IsFramed, both}
-use Rattle.libbsdudp.specs.Held.{Boxed}
-use Rattle.libbsdudp.specs.LinkHeld as link
-use Rattle.libbsdudp.proofs.EtherAnswered.{host_answered_by}
+use Rattle.libbsdudp.specs.Ether.{IsFramed}
+use Rattle.libbsdudp.proofs.EtherAnswered.{host_called, lacks_link, lacks_stack}
 use Rattle.libbsdudp.proofs.ether.bsdudp_core_ether_transmit.Goals as goal
+
+pub returns-then-not-is_live : goal.returns-then-not-is_live
+returns-then-not-is_live c =
+    lacks_stack c.args.handle.now c.args.link.now _ _ (sym c.is_live.ensures ∙ c.if-not-is_live.true) refl
+
+pub returns-then-not-is_live-2 : goal.returns-then-not-is_live-2
+returns-then-not-is_live-2 c =
+    lacks_link c.args.handle.now c.args.link.now _ _ (sym c.is_live.ensures ∙ c.if-not-is_live.false)
+    (sym c.is_live-2.ensures ∙ c.if-not-is_live-2.true) refl
 
 pub returns : goal.returns
 returns c =
-    host_answered_by c.transmit-answer.result _
-    (λ z. IsFramed c.args.buffer.now c.transmit-answer.new.buffer z) _ _ _ _
-    (record { sfits = c.transmit-answer.type_inv })
-    c.in-Some.ensures.taken c.in-Some-take.ensures.taken c.put-2.ensures c.put-3.ensures
-    (subst (λ (x : Boxed). IsFramed c.args.buffer.now c.transmit-answer.new.buffer c.transmit-answer.result
-    (both x.stack (link_seen c.in-Some-take.layer.value.layer))
-    (both c.transmit-answer.new.stack (link_seen c.transmit-answer.new.layer))) c.deref_mut.ensures.value
-    (subst (λ (y : link.LinkBoxed). IsFramed c.args.buffer.now c.transmit-answer.new.buffer c.transmit-answer.result
-    (both c.deref_mut.result.now.stack (link_seen y.layer))
-    (both c.transmit-answer.new.stack
-    (link_seen c.transmit-answer.new.layer))) c.deref_mut-2.ensures.value c.transmit-answer.ensures))
+    host_called c.args.handle.now (record { stack = c.transmit.new.stack }) c.args.link.now
+    (record { layer = c.transmit.new.layer }) c.transmit.result _
+    (λ z. IsFramed c.args.buffer.now c.transmit.new.buffer z)
+    c.value_mut.result.now.stack (link_seen c.value_mut-2.result.now.layer) (record { sfits = c.transmit.type_inv })
+    c.if-not-is_live.false c.is_live.ensures c.if-not-is_live-2.false c.is_live-2.ensures
+    c.value_mut.ensures.value c.value_mut-2.ensures.value c.transmit.ensures

@@ -1,0 +1,9 @@
+use Rattle.libbsdudp.specs.Ether.{ReportsAddress}
+use Rattle.libbsdudp.proofs.EtherAnswered.{link_questioned}
+use Rattle.libbsdudp.proofs.ether.bsdudp_core_ether_address.Goals as goal
+
+pub returns-then-is_live : goal.returns-then-is_live
+returns-then-is_live c =
+    link_questioned c.args.link.now c.value_mut-held.result.now c.address.result _ (λ z. ReportsAddress z)
+    (record { sfits = c.address.type_inv }) c.if-is_live.true c.is_live.ensures c.value_mut-held.ensures.value
+    c.address.ensures
