@@ -532,6 +532,14 @@ int bsdudp_send(struct bsdudp *stack, uint32_t fd, const void *bytes, size_t len
    -BSDUDP_EWOULDBLOCK if the receive queue is empty. */
 int bsdudp_recvfrom(struct bsdudp *stack, uint32_t fd, void *buffer, size_t len, struct bsdudp_addr *from);
 
+/* Copies the oldest datagram as bsdudp_recvfrom does, and leaves it in the receive queue: the flag MSG_PEEK of other
+   systems. So nothing is lost if it is longer than `len`. Source: the book, chapter 16 (soreceive).
+
+   Returns the number of bytes copied.
+
+   Errors, with `buffer` and `*from` unchanged: those of bsdudp_recvfrom. */
+int bsdudp_peek(struct bsdudp *stack, uint32_t fd, void *buffer, size_t len, struct bsdudp_addr *from);
+
 /* Receives as bsdudp_recvfrom does, and returns the length of the whole datagram, as Linux does with MSG_TRUNC.
 
    Returns the length of the datagram in bytes. If it is above `len`, only `len` bytes were copied.

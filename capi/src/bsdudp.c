@@ -14,6 +14,7 @@ int bsdudp_core_connect(struct bsdudp_core *, uint32_t, const struct bsdudp_addr
 int bsdudp_core_sendto(struct bsdudp_core *, uint32_t, const struct bsdudp_addr *, const uint8_t *, uint64_t);
 int bsdudp_core_send(struct bsdudp_core *, uint32_t, const uint8_t *, uint64_t);
 int bsdudp_core_recvfrom(struct bsdudp_core *, uint32_t, uint8_t *, uint64_t, struct bsdudp_addr *);
+int bsdudp_core_peek(struct bsdudp_core *, uint32_t, uint8_t *, uint64_t, struct bsdudp_addr *);
 int bsdudp_core_close(struct bsdudp_core *, uint32_t);
 int bsdudp_core_set_broadcast(struct bsdudp_core *, uint32_t, bool);
 int bsdudp_core_set_reuse_port(struct bsdudp_core *, uint32_t, bool);
@@ -90,6 +91,12 @@ int bsdudp_recvfrom(struct bsdudp *s, uint32_t fd, void *buffer, size_t len, str
 {
     struct bsdudp_addr ignored = {0, 0};
     return bsdudp_core_recvfrom(&s->core, fd, buffer, len, from != NULL ? from : &ignored);
+}
+
+int bsdudp_peek(struct bsdudp *s, uint32_t fd, void *buffer, size_t len, struct bsdudp_addr *from)
+{
+    struct bsdudp_addr ignored = {0, 0};
+    return bsdudp_core_peek(&s->core, fd, buffer, len, from != NULL ? from : &ignored);
 }
 
 int bsdudp_setsockopt(struct bsdudp *s, uint32_t fd, int option, int on)

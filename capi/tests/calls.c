@@ -48,6 +48,7 @@ static int without_a_stack(struct bsdudp *s)
     WANT(bsdudp_sendto(s, 3, &to_far, bytes, 1), -BSDUDP_ENXIO);
     WANT(bsdudp_send(s, 3, bytes, 1), -BSDUDP_ENXIO);
     WANT(bsdudp_recvfrom(s, 3, buffer, sizeof buffer, &from), -BSDUDP_ENXIO);
+    WANT(bsdudp_peek(s, 3, buffer, sizeof buffer, &from), -BSDUDP_ENXIO);
     WANT(bsdudp_close(s, 3), -BSDUDP_ENXIO);
     WANT(bsdudp_setsockopt(s, 3, BSDUDP_SO_BROADCAST, 1), -BSDUDP_ENXIO);
     WANT(bsdudp_setsockopt(s, 3, 1, 1), -BSDUDP_ENXIO);
@@ -219,10 +220,19 @@ static int traffic(void)
     WANT(next.len, 3000);
     WANT(next.waiting, 1);
     WANT(bsdudp_recvfrom(&far_, 5, buffer, sizeof buffer, &from), -BSDUDP_EBADF);
+    WANT(bsdudp_peek(&far_, 5, buffer, sizeof buffer, &from), -BSDUDP_EBADF);
+    WANT(from.ip == 0 && from.port == 0, 1);
+    WANT(bsdudp_peek(&far_, 3, buffer, 1, NULL), 1);
+    WANT(bsdudp_peek(&far_, 3, buffer, sizeof buffer, &from), 3000);
+    WANT(memcmp(buffer, bytes, 3000), 0);
+    WANT(from.ip == 0x0a000001 && from.port == 1024, 1);
+    memset(buffer, 0, sizeof buffer);
+    from.ip = from.port = 0;
     WANT(bsdudp_recvfrom(&far_, 3, buffer, 2999, &from), 2999);
     WANT(memcmp(buffer, bytes, 2999), 0);
     WANT(from.ip == 0x0a000001 && from.port == 1024, 1);
     WANT(bsdudp_recvfrom(&far_, 3, buffer, sizeof buffer, &from), -BSDUDP_EWOULDBLOCK);
+    WANT(bsdudp_peek(&far_, 3, buffer, sizeof buffer, &from), -BSDUDP_EWOULDBLOCK);
     WANT(bsdudp_next(&far_, 3, &next), -BSDUDP_EWOULDBLOCK);
     WANT(bsdudp_next(&far_, 5, &next), -BSDUDP_EBADF);
     WANT(bsdudp_send(&near_, 3, bytes, 0), 0);

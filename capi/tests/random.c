@@ -230,20 +230,25 @@ static bool is_untouched(const uint8_t *buffer, size_t len, size_t end)
 
 static void call_recvfrom(void)
 {
-    static uint8_t buffer[BSDUDP_PACKET];
+    static uint8_t buffer[BSDUDP_PACKET], peeked[BSDUDP_PACKET];
     uint32_t fd = some_fd(), k;
     size_t len = dice(3) == 0 ? 1 + dice(100) : sizeof buffer;
-    struct bsdudp_addr sender = {1, 2};
+    struct bsdudp_addr sender = {1, 2}, seen = {1, 2};
     struct bsdudp_next next;
     uint64_t set = 0;
-    int waits, number;
+    int waits, number, peek;
     bsdudp_readable(&stack, &set);
     for (k = 0; k < BSDUDP_SOCKETS && dice(2); k++) /* mostly from a socket in which one waits */
         if (set >> k & 1)
             fd = BSDUDP_FIRST_FD + k;
     waits = bsdudp_next(&stack, fd, &next);
     memset(buffer, UNTOUCHED, sizeof buffer);
+    memset(peeked, UNTOUCHED, sizeof peeked);
+    peek = bsdudp_peek(&stack, fd, peeked, len, &seen);
     number = bsdudp_recvfrom(&stack, fd, buffer, len, &sender);
+    if (peek != number || seen.ip != sender.ip || seen.port != sender.port ||
+        memcmp(peeked, buffer, sizeof buffer) != 0)
+        wrong("peek tells another datagram");
     ask("recvfrom %u %u", fd, (unsigned)len);
     if (number < 0) {
         answer_number(number, false);

@@ -397,6 +397,16 @@ int bsdudp_send(struct bsdudp *stack, uint32_t fd, const void *bytes, size_t len
     return answer_of(core_send(&it, handle_of(&it), fd, lend(&it, bytes, len), heard(len)));
 }
 
+/* The result of a call that received or peeked, whose sender is in `plain`. */
+static int received(int answer, const u8 *plain, struct bsdudp_addr *from)
+{
+    if (answer >= 0 && from != NULL) {
+        from->ip = get_u32(plain);
+        from->port = get_u16(plain + 4);
+    }
+    return answer;
+}
+
 int bsdudp_recvfrom(struct bsdudp *stack, uint32_t fd, void *buffer, size_t len, struct bsdudp_addr *from)
 {
     int answer;
@@ -404,11 +414,17 @@ int bsdudp_recvfrom(struct bsdudp *stack, uint32_t fd, void *buffer, size_t len,
     put_u32(plain, 0);
     put_u32(plain + 4, 0);
     answer = answer_of(core_recvfrom(&it, handle_of(&it), fd, give(&it, buffer, len), heard(len), argument));
-    if (answer >= 0 && from != NULL) {
-        from->ip = get_u32(plain);
-        from->port = get_u16(plain + 4);
-    }
-    return answer;
+    return received(answer, plain, from);
+}
+
+int bsdudp_peek(struct bsdudp *stack, uint32_t fd, void *buffer, size_t len, struct bsdudp_addr *from)
+{
+    int answer;
+    BEGIN(peek, stack);
+    put_u32(plain, 0);
+    put_u32(plain + 4, 0);
+    answer = answer_of(core_peek(&it, handle_of(&it), fd, give(&it, buffer, len), heard(len), argument));
+    return received(answer, plain, from);
 }
 
 int bsdudp_close(struct bsdudp *stack, uint32_t fd)

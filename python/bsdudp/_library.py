@@ -188,6 +188,7 @@ CALLS: Dict[str, List[Any]] = {
     "sendto": [_u32, ctypes.POINTER(Address), _bytes, _size],
     "send": [_u32, _bytes, _size],
     "recvfrom": [_u32, ctypes.c_void_p, _size, ctypes.POINTER(Address)],
+    "peek": [_u32, ctypes.c_void_p, _size, ctypes.POINTER(Address)],
     "close": [_u32],
     "setsockopt": [_u32, ctypes.c_int, ctypes.c_int],
     "getsockname": [_u32, ctypes.POINTER(Name)],

@@ -26,6 +26,7 @@ if TYPE_CHECKING:
 
 LONGEST = 65_507
 ROOM = 1 << 30  # the largest `bufsize`
+MSG_PEEK = int(host.MSG_PEEK)
 MSG_TRUNC = int(getattr(host, "MSG_TRUNC", 0x20))
 
 # The operating system's numbers of the options, which programs use, and the library's.
@@ -89,6 +90,13 @@ NO_DESCRIPTOR = (
 def _no_flags(name: str, flags: object) -> None:
     if flags != 0:
         raise ValueError(f"{name} has no flags here")
+
+
+def _has_peek(name: str, flags: object) -> bool:
+    """Returns whether the flags are MSG_PEEK. There is no other flag."""
+    if flags not in (0, MSG_PEEK):
+        raise ValueError(f"{name} has no flag here but MSG_PEEK")
+    return flags == MSG_PEEK
 
 
 class Socket(Uncopied):
@@ -222,19 +230,31 @@ class Socket(Uncopied):
                 length = self._call("recvfrom", buffer, size, ctypes.byref(sender))
         return _Taken(buffer.raw[:length], (text_of(sender.ip), sender.port), found.len > most, note)
 
-    def _take_whole(self, most: int, depth: int = 3) -> _Taken:
-        """Does the same, with a warning if it was truncated. The warning names the line `depth` calls above this
-        one."""
+    def _peek(self, most: int) -> _Taken:
+        """Does the same, and the datagram stays."""
+        found, sender = Next(), Raw()
+        with self._stack._turn:
+            self._call("next", ctypes.byref(found))
+            size = min(most, found.len)
+            buffer = ctypes.create_string_buffer(max(size, 1))
+            length = self._call("peek", buffer, size, ctypes.byref(sender))
+        return _Taken(buffer.raw[:length], (text_of(sender.ip), sender.port), False)
+
+    def _receive(self, most: int, has_peek: bool, depth: int = 3) -> _Taken:
+        """Takes the oldest datagram, with a warning if it was truncated, or only reads it. The warning names the line
+        `depth` calls above this one."""
+        if has_peek:
+            return self._peek(most)
         taken = self._take(most)
         if taken.is_cut:
             warning = CutDatagramWarning(f"a datagram from {taken.sender[0]} was cut to {most} bytes")
             warnings.warn(warning, stacklevel=depth)
         return taken
 
-    def _take_into(self, buffer: "WriteableBuffer", nbytes: SupportsIndex) -> Tuple[int, Address]:
+    def _receive_into(self, buffer: "WriteableBuffer", nbytes: SupportsIndex, has_peek: bool) -> Tuple[int, Address]:
         """Does the same into a buffer. Returns the number of bytes and the sender."""
         view = room(buffer)
-        taken = self._take_whole(in_range("nbytes", nbytes, 0, len(view)) or len(view), 4)
+        taken = self._receive(in_range("nbytes", nbytes, 0, len(view)) or len(view), has_peek, 4)
         view[: len(taken.data)] = taken.data
         return len(taken.data), taken.sender
 
@@ -258,28 +278,25 @@ class Socket(Uncopied):
 
     def recvfrom(self, bufsize: SupportsIndex = LONGEST, flags: int = 0) -> Tuple[bytes, Address]:
         """Removes the oldest datagram. Returns up to `bufsize` bytes of it, and the sender. If it had more bytes, they
-        are lost, with a `CutDatagramWarning`. BlockingIOError (EAGAIN) if the receive queue is empty."""
-        _no_flags("recvfrom", flags)
-        taken = self._take_whole(in_range("bufsize", bufsize, 0, ROOM))
+        are lost, with a `CutDatagramWarning`. With the flag MSG_PEEK of Python's `socket`, the datagram stays, and
+        nothing is lost. BlockingIOError (EAGAIN) if the receive queue is empty."""
+        taken = self._receive(in_range("bufsize", bufsize, 0, ROOM), _has_peek("recvfrom", flags))
         return taken.data, taken.sender
 
     def recv(self, bufsize: SupportsIndex = LONGEST, flags: int = 0) -> bytes:
         """Does the same as `recvfrom`, but returns only the bytes."""
-        _no_flags("recv", flags)
-        return self._take_whole(in_range("bufsize", bufsize, 0, ROOM)).data
+        return self._receive(in_range("bufsize", bufsize, 0, ROOM), _has_peek("recv", flags)).data
 
     def recvfrom_into(
         self, buffer: "WriteableBuffer", nbytes: SupportsIndex = 0, flags: int = 0
     ) -> Tuple[int, Address]:
         """Removes the oldest datagram as `recvfrom` does, and copies up to `nbytes` bytes of it to the front of
         `buffer`; 0 means the length of the buffer. Returns the number of bytes and the sender."""
-        _no_flags("recvfrom_into", flags)
-        return self._take_into(buffer, nbytes)
+        return self._receive_into(buffer, nbytes, _has_peek("recvfrom_into", flags))
 
     def recv_into(self, buffer: "WriteableBuffer", nbytes: SupportsIndex = 0, flags: int = 0) -> int:
         """Does the same as `recvfrom_into`, but returns only the number of bytes."""
-        _no_flags("recv_into", flags)
-        return self._take_into(buffer, nbytes)[0]
+        return self._receive_into(buffer, nbytes, _has_peek("recv_into", flags))[0]
 
     @property
     def waiting(self) -> Optional[Waiting]:

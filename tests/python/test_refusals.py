@@ -292,7 +292,7 @@ def test_receive_into(stack):
         with pytest.raises(ValueError):
             it.recv_into(buffer, wrong)
     with pytest.raises(ValueError):
-        it.recv_into(buffer, 0, host.MSG_PEEK)
+        it.recv_into(buffer, 0, host.MSG_OOB)
     assert it.waiting.datagrams == 2
     for call in (it.recv, it.recvfrom):
         it.sendto(b"hello", ("127.0.0.1", 7))

@@ -1,26 +1,31 @@
 -- The results of the queries, each as one fact, so that proofs unfold it only on request (this project's own).
-use Rattle.std.specs.Prelude.{◌≡◌, ℕ, ℤ, pos, length, Option, Some, None, Result, Ok, Err, slice_get}
+use Rattle.std.specs.Prelude.{◌≡◌, ℕ, ℤ, pos, List, length, drop, Option, Some, None, Result, Ok, Err, IfOk, OnErr, slice_get}
+use Rattle.flat_model.specs.declared.address.Addr.{Addr}
 use Rattle.flat_model.specs.declared.counter.Counter.{Counter}
 use Rattle.flat_model.specs.declared.counters.Counters.{Counters}
 use Rattle.flat_model.specs.declared.errno.Errno.{Errno}
 use Rattle.flat_model.specs.declared.usage.Mbstat.{Mbstat}
 use Rattle.flat_model.specs.Machine.Count.{value_of, all_counters}
-use Rattle.flat_model.specs.Machine.Event.{Ask_counters, Ask_usage, Counted, Shown}
+use Rattle.flat_model.specs.Machine.Event.{Ask_counters, Ask_usage, Receive, Counted, Shown}
+use Rattle.flat_model.specs.Machine.Replies.{received_reply, FitsRoom}
 use Rattle.flat_model.specs.Machine.Step.{Step}
 use Rattle.ip_out.specs.Questions.{oldest_length}
 use Rattle.ip_reass.specs.Questions.{nth_range, nth_unfinished}
 use Rattle.ip_reass.specs.declared.questions.HeldRange.{HeldRange}
 use Rattle.ip_reass.specs.declared.questions.UnfinishedDatagram.{UnfinishedDatagram}
+use Rattle.net_stack.specs.Questions.{WouldReply}
 use Rattle.net_stack.specs.Stack.{StackView, state_of}
 use Rattle.sock_calls.specs.Questions.{next_datagram, readable, socket_name}
 use Rattle.sock_calls.specs.declared.questions.SocketName.{SocketName}
 use Rattle.sock_calls.specs.declared.questions.NextDatagram.{NextDatagram}
+use Rattle.libbsdudp.specs.declared.plain.CAddr.{CAddr}
 use Rattle.libbsdudp.specs.declared.plain.CMbstat.{CMbstat}
 use Rattle.libbsdudp.specs.declared.plain.CName.{CName}
 use Rattle.libbsdudp.specs.declared.plain.CNext.{CNext}
 use Rattle.libbsdudp.specs.declared.plain.CRange.{CRange}
 use Rattle.libbsdudp.specs.declared.plain.CUnfinished.{CUnfinished}
-use Rattle.libbsdudp.specs.Answers.{invalid, refusal_code, count_code, given_code}
+use Rattle.libbsdudp.specs.Answers.{invalid, refusal_code, count_code, given_code, received_code}
+use Rattle.libbsdudp.specs.Calls.{sender_after}
 use Rattle.libbsdudp.specs.Plain.{c_name, c_next, c_range, c_unfinished, c_usage}
 
 -- the addresses are written, or the result is the error
@@ -38,6 +43,17 @@ IsNext (Err errno) answer old new = (answer ≡ refusal_code errno) × (new ≡ 
 
 pub record ReportsNext (fd : ℕ) (answer : ℤ) (old new : CNext) (s : StackView) : Type 0 where
   pub is : IsNext (next_datagram fd (state_of s)) answer old new
+
+-- `peek`: the stack is unchanged, and otherwise it is `recvfrom`, to which the machine would reply so
+pub record ReportsOldest (fd : ℕ) (answer : ℤ) (before buffer : List ℕ) (old from : CAddr) (s : StackView) : Type 0
+  where
+    pub reported : Result (Addr × ℕ) Errno
+    pub is : answer ≡ received_code reported
+    pub sender : from ≡ sender_after reported old
+    pub fits : FitsRoom reported buffer
+    pub same : OnErr reported (buffer ≡ before)
+    pub rest : IfOk reported (λ got. drop got.1 buffer ≡ drop got.1 before)
+    pub reply : WouldReply (state_of s) (Receive fd (length before)) (received_reply reported buffer)
 
 -- the set of readable sockets
 pub record ReportsReadable (answer : ℤ) (set : ℕ) (s : StackView) : Type 0 where

@@ -1,8 +1,8 @@
 //! The queries of a stack, with the arguments and results as C has them.
-ghost use Rattle.libbsdudp.specs.Queries.{ReportsCounter, ReportsName, ReportsNext, ReportsOutput, ReportsPacket, ReportsRange, ReportsReadable, ReportsUnfinished, ReportsUsage, ReportsWaiting};
+ghost use Rattle.libbsdudp.specs.Queries.{ReportsCounter, ReportsName, ReportsNext, ReportsOldest, ReportsOutput, ReportsPacket, ReportsRange, ReportsReadable, ReportsUnfinished, ReportsUsage, ReportsWaiting};
 
 use crate::errors::{INVALID, count, refused};
-use crate::plain::{CMbstat, CName, CNext, CRange, CUnfinished};
+use crate::plain::{CAddr, CMbstat, CName, CNext, CRange, CUnfinished};
 use flat_model::Counter;
 use net_stack::Stack;
 
@@ -27,6 +27,19 @@ pub(crate) fn next(stack: &Stack, fd: u32, next: &mut CNext) -> i32
         Ok(reported) => {
             *next = CNext::of(reported);
             0
+        }
+        Err(errno) => refused(errno),
+    }
+}
+
+/// Copies the first bytes of the oldest queued datagram, which stays queued.
+pub(crate) fn peek(stack: &Stack, fd: u32, buffer: &mut [u8], from: &mut CAddr) -> i32
+    ensures { ReportsOldest fd result buffer.old buffer.new from.old from.new stack.now }
+{
+    match stack.peek(fd, buffer) {
+        Ok((sender, len)) => {
+            *from = CAddr::of(sender);
+            count(len)
         }
         Err(errno) => refused(errno),
     }

@@ -1,13 +1,13 @@
 //! The queries, which leave the stack unchanged.
 ghost use Rattle.std.specs.Prelude.{◌≡◌, ⊤};
 ghost use Rattle.libbsdudp.specs.Calls.{Answers, AnswersQuestion, stack_in};
-ghost use Rattle.libbsdudp.specs.Queries.{ReportsCounter, ReportsName, ReportsNext, ReportsOutput, ReportsPacket, ReportsRange, ReportsReadable, ReportsUnfinished, ReportsUsage, ReportsWaiting};
+ghost use Rattle.libbsdudp.specs.Queries.{ReportsCounter, ReportsName, ReportsNext, ReportsOldest, ReportsOutput, ReportsPacket, ReportsRange, ReportsReadable, ReportsUnfinished, ReportsUsage, ReportsWaiting};
 
 use crate::asks;
 use crate::errors::NO_STACK;
 use crate::exchange::with_held;
 use crate::handle::Handle;
-use crate::plain::{CMbstat, CName, CNext, CRange, CUnfinished};
+use crate::plain::{CAddr, CMbstat, CName, CNext, CRange, CUnfinished};
 
 /// Reads the addresses of a socket, and its options. Returns 0, or -EBADF.
 ///
@@ -32,6 +32,24 @@ pub extern "C" fn bsdudp_core_next(handle: &mut Handle, fd: u32, next: &mut CNex
         (AnswersQuestion (ReportsNext fd result next.old next.new)) }
 {
     with_held!(handle, NO_STACK, held => asks::next(&held.stack, fd, next))
+}
+
+/// Copies the first bytes of the oldest queued datagram of a socket, which stays queued. Returns how many bytes were
+/// written to the buffer, or a negative error code: what `bsdudp_core_recvfrom` would return.
+///
+///     int bsdudp_core_peek(struct bsdudp_core *, uint32_t fd, uint8_t *, size_t, struct bsdudp_addr *)
+#[unsafe(no_mangle)]
+pub extern "C" fn bsdudp_core_peek(
+    handle: &mut Handle,
+    fd: u32,
+    buffer: &mut [u8],
+    from: &mut CAddr,
+) -> i32
+    ensures { Answers (stack_in handle.old) result (stack_in handle.new)
+        ((buffer.new ≡ buffer.old) × (from.new ≡ from.old))
+        (AnswersQuestion (ReportsOldest fd result buffer.old buffer.new from.old from.new)) }
+{
+    with_held!(handle, NO_STACK, held => asks::peek(&held.stack, fd, buffer, from))
 }
 
 /// Reads the set of sockets that have a queued datagram: bit k is descriptor 3 + k. Returns 0.

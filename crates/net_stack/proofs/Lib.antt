@@ -14,3 +14,4 @@ mod TrafficLemmas
 mod TrySend
 mod StoreFragmentData
 mod Space
+mod Peeks

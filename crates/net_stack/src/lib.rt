@@ -5,6 +5,7 @@ mod arrive;
 mod calls;
 mod host;
 mod laws;
+mod peek;
 mod questions;
 mod receive;
 mod send;

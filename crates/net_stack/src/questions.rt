@@ -1,15 +1,18 @@
 //! Queries of a stack. They change nothing, and aren't steps of the flat machine.
-ghost use Rattle.std.specs.Prelude.{◌≡◌, ◌≤◌, drop, length, take, option_map, IfNone, IfSome};
+ghost use Rattle.std.specs.Prelude.{◌≡◌, ◌≤◌, drop, length, take, option_map, IfNone, IfOk, IfSome, OnErr};
 ghost use Rattle.flat_model.specs.Machine.Count.{value_of};
+ghost use Rattle.flat_model.specs.Machine.Event.{Receive};
+ghost use Rattle.flat_model.specs.Machine.Replies.{received_reply, FitsRoom};
 ghost use Rattle.mbuf_chain.specs.Heads.{nth_heads};
 ghost use Rattle.ip_out.specs.Questions.{nth_packet, oldest_length};
 ghost use Rattle.ip_reass.specs.Questions.{nth_range, nth_unfinished};
 ghost use Rattle.sock_calls.specs.Questions.{bytes_queued_at, memory_queued_at, next_datagram, readable, socket_name};
-ghost use Rattle.net_stack.specs.Questions.{chains_held, nth_references};
+ghost use Rattle.net_stack.specs.Questions.{WouldReply, chains_held, nth_references};
 ghost use Rattle.net_stack.specs.Stack.{state_of};
 
+use crate::peek::copy_oldest;
 use crate::stack::Stack;
-use flat_model::{Counter, Errno};
+use flat_model::{Addr, Counter, Errno};
 use ip_reass::{HeldRange, UnfinishedDatagram};
 use mbuf_chain::MbufHeads;
 use sock_calls::{NextDatagram, SocketName};
@@ -44,6 +47,24 @@ impl Stack {
     {
         let host = self.host.as_ref();
         host.socks.next_datagram(&host.pool, fd)
+    }
+
+    /// Copies the oldest datagram queued at a socket to the front of `buffer`, as `recvfrom` does, and leaves it in the
+    /// queue (MSG_PEEK of volume 2, chapter 16). Returns the sender and the number of bytes copied. The rest of
+    /// `buffer` is unchanged.
+    ///
+    /// # Errors
+    ///
+    /// `BadDescriptor`; `WouldBlock` if no datagram is queued. Then `buffer` is unchanged.
+    pub fn peek(&self, fd: u32, buffer: &mut [u8]) -> Result<(Addr, usize), Errno>
+        ensures reply { WouldReply (state_of self.now) (Receive fd (length buffer.old))
+            (received_reply result buffer.new) }
+        ensures fits { FitsRoom result buffer.new }
+        ensures same { OnErr result (buffer.new ≡ buffer.old) }
+        ensures rest { IfOk result (λ got. drop got.1 buffer.new ≡ drop got.1 buffer.old) }
+    {
+        let host = self.host.as_ref();
+        copy_oldest(&host.pool, &host.socks, fd, buffer)
     }
 
     /// The number of bytes queued at a socket, including 16 for each sender's address, 0 to 41,600. A datagram that
