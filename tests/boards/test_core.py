@@ -17,7 +17,7 @@ MODULE = ("rt", "wasm-opt", "cc")
 pytestmark = [pytest.mark.slow, pytest.mark.needs(*MODULE)]
 TARGETS = "cortex-m0 cortex-m3 cortex-m4 cortex-m7 cortex-m33 rv32imac i686 armv7 x86_64 aarch64".split()
 RANDOM = 2000
-MOST_OF_LEAST = 40_200  # bytes of the core for the least size, where pointers have 64 bits
+MOST_OF_LEAST = 41_000  # bytes of the core for the least size, where pointers have 64 bits
 
 
 class Host(NamedTuple):
@@ -188,9 +188,9 @@ MACHINE += ["stdio", "-semihosting-config", "enable=on,target=native"]
 # The most of the columns of bench/board's table, for each level: the library, the echo's text, data, bss and call
 # stack, and the instructions of three lengths.
 COSTS = {
-    "-Oz": [41_900, 21_850, 16, 52_500, 1_480, 5_600, 11_850, 44_400],
-    "-Os": [45_900, 23_750, 16, 52_500, 950, 2_025, 7_800, 24_500],
-    "-O2": [86_100, 56_000, 16, 52_500, 1_020, 1_940, 6_990, 20_850],
+    "-Oz": [42_600, 21_850, 16, 52_500, 1_480, 5_600, 11_850, 44_400],
+    "-Os": [46_700, 23_750, 16, 52_500, 950, 2_025, 7_800, 24_500],
+    "-O2": [86_700, 56_000, 16, 52_500, 1_020, 1_940, 6_990, 20_850],
 }
 DATA = 2
 on_board = pytest.mark.needs("arm-none-eabi", "qemu-arm")
