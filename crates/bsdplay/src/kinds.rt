@@ -18,7 +18,7 @@ enum Kind {
     Ipv6,
     Arp,
     Pppoe,
-    /// A frame with something else.
+    /// A frame of another kind.
     Other,
     /// A frame that ends within its link header.
     Cut,
@@ -144,7 +144,7 @@ impl Kinds {
         self.counts.get(kind).copied().unwrap_or(0)
     }
 
-    /// Writes the counts of a part of the kinds that aren't 0, as `4 TCP, 2 ARP`.
+    /// Writes the counts of a part of the kinds that aren't 0, such as `4 TCP, 2 ARP`.
     fn write_part(&self, out: &mut impl Write, part: Part) -> io::Result<()> {
         let mut is_first = true;
         for kind in part.from..part.to {
@@ -164,7 +164,7 @@ impl Kinds {
         Ok(())
     }
 
-    /// Writes all counts, as `4 records: 4 TCP.`.
+    /// Writes all counts, such as `4 records: 4 TCP.`.
     pub(crate) fn write_all(&self, out: &mut impl Write) -> io::Result<()> {
         if self.records == 0 {
             return out.write_all(b"No records.\n");
@@ -179,7 +179,7 @@ impl Kinds {
         out.write_all(b".\n")
     }
 
-    /// Writes the counts of records without IPv4, as ` (2 ARP)`; nothing if there are none.
+    /// Writes the counts of records without IPv4, such as ` (2 ARP)`. Without such a record it writes nothing.
     pub(crate) fn write_without(&self, out: &mut impl Write) -> io::Result<()> {
         let mut any = false;
         for kind in WITHOUT..KINDS {

@@ -294,7 +294,7 @@ fn play_input<R: Read + Drop>(
     }
 }
 
-/// Plays the script from standard input, with a prompt if it's typed for people.
+/// Plays the script from standard input, with a prompt if it's typed at a terminal.
 fn play_stdin(rt: &HostRuntime, manner: Manner<'_>) -> io::Result<u8> {
     let for_people = matches!(manner.form, Form::Plain | Form::Coloured);
     if !for_people || manner.strict || manner.seeds.is_some() || !is_typed(rt) {

@@ -100,7 +100,7 @@ fn echo_len(bytes: &[u8]) -> usize {
     0
 }
 
-/// A writer for people.
+/// A writer of text.
 #[derive(Drop)]
 pub(crate) struct Screen<W> {
     inner: W,
