@@ -2,17 +2,9 @@
 from __future__ import annotations
 
 import pathlib
-import time
 from typing import NamedTuple
 
 TOP = pathlib.Path(__file__).resolve().parent.parent
-# The last crate of a clone in which `rt ci` runs is ready within this time.
-SECONDS = 3 * 3600
-
-
-class Late(Exception):
-    """Which libraries `rt ci` didn't make in time, for the user."""
-
 
 class Crate(NamedTuple):
     """The libraries that a crate uses, of the repository and of the toolchain, and whether it's a static library."""
@@ -47,15 +39,3 @@ def below(name: str, used: dict[str, list[str]]) -> list[str]:
             found.add(it)
             left += used[it]
     return sorted(found)
-
-
-def wait_for(name: str, used: dict[str, list[str]], top: pathlib.Path = TOP) -> None:
-    """Waits until the libraries below a crate exist in a clone in which `rt ci` runs, and haven't changed for some
-    seconds."""
-    # (a library's file `format` holds the sum of the others)
-    homes = [top / "crates" / it / f"out/rlib/{it}.rlib/format" for it in below(name, used)]
-    until = time.monotonic() + SECONDS
-    while not all(it.is_file() and time.time() - it.stat().st_mtime > 5 for it in homes):
-        if time.monotonic() > until:
-            raise Late(f"the libraries below {name} didn't come")
-        time.sleep(1)

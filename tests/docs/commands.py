@@ -78,7 +78,6 @@ ROWS = {
     "rt lemma head_fault": Row("definitions", "head_fault"),
     "tools/callers write": Row("crates", "tools/callers"),
     "tools/lists write": Row("lists", "tools/lists"),
-    ".ci/wrong-bodies [CRATE ..]": Row("run", ".ci/wrong-bodies"),
 }
 class Session(NamedTuple):
     """Commands of a page that tests/commands/test_pages.py runs in order in an empty folder, with the built programs on
@@ -269,6 +268,7 @@ UNTRIED = {
     "bench/run.sh stack": "measurements are made by hand",
     "grep -rnw IsUnshared crates/*/specs": "it looks for a word",
     "grep -rnw head_fault crates docs tests": "it looks for a word",
+    "rt must-fail *": "it takes minutes for a crate; rt ci of the gate does it",
     "tools/mutants *": "it takes minutes for a crate",
     "tools/mutants": "it takes hours, before a version",
     "tools/mutants [CRATE ..]": "it takes hours, before a version",
