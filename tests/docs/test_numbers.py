@@ -60,6 +60,25 @@ def lines_of_definitions() -> int:
     return sum(len(path.read_text(encoding="utf-8").splitlines()) for path in SPECS.rglob("*.antt"))
 
 
+def lines_of_code(*places: str) -> int:
+    """Returns the lines of C or C++ in these files, without comments and empty lines."""
+    texts = [path.read_text(encoding="utf-8") for place in places for path in TOP.glob(place)]
+    return sum(bool(line.strip()) for it in texts for line in re.sub(r"(?s)/\*.*?\*/|//[^\n]*", "", it).split("\n"))
+
+
+def deviations(stack: str, level: str = "") -> int:
+    """Returns the number of the judge's cases in which a stack deviates, or deviates at this level."""
+    found = re.findall(r"(?m)^([A-Z]+) (\S+)$", read(f"conform/known/{stack}.txt"))
+    return len({case for its, case in found if level in ("", its)})
+
+
+def cases() -> int:
+    """Returns the number of the judge's cases, as the sum of all rows."""
+    stacks = ["bsdudp", "on an Ethernet", "Linux 6.18", "lwIP 2.1.3", "gVisor", "libslirp 4.7.0", "passt", "ns-3 3.37"]
+    rows = table("docs/results.md", "Eight stacks", "Rules (cases)", *stacks, "DPDK 22.11")[1]
+    return sum(number(re.search(r"\(([\d,]+)\)$", row.cells[0])[1]) for row in rows[:-1])
+
+
 # The text of a page, and the right number. After `about` it may be rounded to a hundredth.
 COUNTED = [
     ("README.md", "functions in N crates are proved", lambda: len(crates.uses())),
@@ -74,7 +93,23 @@ COUNTED = [
     ),
     ("README.md", "lwIP takes N as Debian", lambda: cell_of(PERFORMANCE, *BESIDE, "lwIP `-O2`", 1)),
     ("README.md", "and N at its best", lambda: cell_of(PERFORMANCE, *BESIDE, "the same, pools for its heap", 1)),
+    ("README.md", "about N lines of C", lambda: lines_of_code("capi/src/*.c")),
+    ("README.md", "from the RFCs](docs/results.md#eight-stacks), of N cases", cases),
+    ("README.md", "cases | N, on an Ethernet", lambda: deviations("bsdudp")),
+    ("README.md", "on an Ethernet N; no wrong byte", lambda: deviations("bsdudp-ethernet")),
+    ("README.md", "| N, 161 of them wrong bytes", lambda: deviations("lwip")),
+    ("README.md", "331, N of them wrong bytes", lambda: deviations("lwip", "NEVER")),
+    ("README.md", "of them wrong bytes | not tried | N |", lambda: deviations("libslirp")),
+    ("SECURITY.md", "about N lines of C", lambda: lines_of_code("capi/src/*.c")),
+    ("docs/results.md", "| all (N) |", cases),
     ("docs/proved.md", "`bsdudp_core_sendto` and N more", exports),
+    ("docs/proved.md", "about N lines of C in `capi/src`", lambda: lines_of_code("capi/src/*.c")),
+    ("docs/proved.md", "about N lines of C in `portable/c`", lambda: lines_of_code("portable/c/**/*.[ch]")),
+    (
+        "docs/proved.md",
+        "about N lines of C++ in `simulators/ns3`",
+        lambda: lines_of_code(*(f"simulators/ns3/{it}/*.{end}" for it in ("model", "helper") for end in ("cc", "h"))),
+    ),
     ("docs/security.md", "take at most N bytes each", deepest),
 ]
 
@@ -82,8 +117,8 @@ COUNTED = [
 @pytest.mark.parametrize("path, words, count", COUNTED, ids=[f"{path} {words}" for path, words, _ in COUNTED])
 def test_number(path, words, count):
     is_round, text = words.startswith("about "), read(path)
-    pattern = words.replace("about ", "[Aa]bout ").replace(" ", r"\s+").replace("N", r"([\d,]+)", 1)
-    found = re.search(pattern, text)
+    pattern = r"([\d,]+)".join(re.escape(part).replace(r"\ ", r"\s+") for part in words.split("N", 1))
+    found = re.search(pattern.replace("about", "[Aa]bout", 1), text)
     if not found:
         none_of([Fault(f"{path}:1", f"the page has no text '{words}'")])
     said, right = number(found[1]), count()
