@@ -1,6 +1,6 @@
 #!/usr/bin/env bash
-# Measures the named subject, or all subjects. Ends with status 1 if a row takes more instructions than its limit. A
-# subject is a folder next to this file. Its measure.sh, or otherwise lib.sh, measures it.
+# Measures the named subjects, or all. Ends with status 1 if a row takes more instructions than its limit. A subject is a
+# folder next to this file. Its measure.sh, or otherwise lib.sh, measures it.
 set -euo pipefail
 source "$(dirname "$0")/../tools/script.bash"
 words "[SUBJECT ..]" "$@"
@@ -11,7 +11,7 @@ trap 'rm -rf "$work"' EXIT
 
 subjects=("$@")
 if [ $# = 0 ]; then
-    for program in "$bench"/*/bench.c; do subjects+=("$(basename "$(dirname "$program")")"); done
+    for subject in "$bench"/*/; do subjects+=("$(basename "$subject")"); done
 fi
 for subject in "${subjects[@]}"; do
     [ -d "$bench/$subject" ] || usage "there is no subject $subject"

@@ -1,7 +1,8 @@
 /*
  * Shared by the benchmarks: a table of rows and columns, its times, and the commands that bench/lib.sh uses.
  *
- *   bench                     checks the results, and prints nanoseconds. ROUNDS sets another number of rounds than 100
+ *   bench                     checks the results, and prints nanoseconds. ROUNDS sets another number of rounds than 100;
+ *                             with 0 it prints none
  *   bench rows                prints the rows' names, one on each line
  *   bench columns             prints the columns' names, one on each line
  *   bench turns ROW COLUMN N  works N turns of a row and column, for a counter of instructions
@@ -108,8 +109,11 @@ static inline void print_times(const Table *table)
 {
     static double few[TIMER_MOST_ROWS][TIMER_MOST_COLUMNS], many[TIMER_MOST_ROWS][TIMER_MOST_COLUMNS];
     static uint64_t turns[TIMER_MOST_ROWS][TIMER_MOST_COLUMNS];
-    const char *rounds = getenv("ROUNDS");
-    for (int round = 0; round < (rounds ? atoi(rounds) : 100); round++)
+    int rounds = getenv("ROUNDS") ? atoi(getenv("ROUNDS")) : 100;
+    if (rounds < 1)
+        return;
+    printf("times: the best of %d rounds\n", rounds);
+    for (int round = 0; round < rounds; round++)
         for (int c = 0; c < table->column_count; c++)
             for (int r = 0; r < table->row_count; r++) {
                 const Row *row = &table->rows[r];

@@ -8,7 +8,7 @@
 enum { MOST = 65535 };
 
 static const size_t LENGTHS[] = {20, 1500, 9216, MOST};
-static const char *const COLUMNS[] = {"20", "1500", "9216", "65535"};
+static const char *const COLUMNS[] = {"20 bytes", "1,500", "9,216", "65,535"};
 
 /* crates/bench_packets/src/cksum.rt */
 uint16_t bsdudp_sum_slice(const uint8_t *bytes, size_t len);

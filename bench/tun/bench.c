@@ -27,6 +27,7 @@ enum { HOSTS = 8, SIZES = 3, MOST = 9000, UNDER_WAY = 16, PORT = 7, IP_DISCOVER 
 enum { RATE, HOST, BOTH, KINDS };
 
 static const int LENS[SIZES] = {2, 1472, MOST};
+static const char *const COLUMNS[SIZES] = {"2 bytes", "1,472", "9,000"};
 static const int TURNS[SIZES] = {2000, 2000, 500};
 
 typedef struct {
@@ -196,7 +197,7 @@ static void print_head(const char *what)
 {
     printf("%-44s", what);
     for (int size = 0; size < SIZES; size++)
-        printf(" %9d", LENS[size]);
+        printf(" %9s", COLUMNS[size]);
     printf("\n");
 }
 
@@ -238,6 +239,7 @@ int main(int argc, char **argv)
         for (int size = 0; size < SIZES; size++)
             for (int k = 0; k < host_count; k++)
                 measure(&hosts[k], size, round);
+    printf("times: medians of %d rounds\n", rounds);
     print("echoes a second", RATE, rounds);
     print("processor time of the host, ns an echo", HOST, rounds);
     print("of the host and its peer, ns an echo", BOTH, rounds);

@@ -1,5 +1,5 @@
-"""bench/tables: it knows each table of instructions in docs/performance.md and each of its rows, and each row that it
-takes is one of a benchmark."""
+"""bench/tables: it knows each table of figures in docs/performance.md and each of its rows, each row that it takes is one
+of a benchmark, and the sentences that it writes have the numbers of the tables."""
 import importlib.machinery
 import importlib.util
 import re
@@ -10,18 +10,21 @@ from tests.docs.pages import TOP, Fault, none_of
 from tools.listed import read
 
 PAGE = "docs/performance.md"
-# The heads of tables that bench/tables doesn't write: times, memory, lines a second, and what others do.
+# The heads of tables that bench/tables doesn't write: what is compared, and memory of lwIP.
 OTHERS = {
-    "A datagram from one stack to another": [],
-    "Compared with lwIP": ["| Work |", "| Build |", "| | 2 bytes | 1,472 | 9,000 | seven fragments |"],
+    "Compared with lwIP": ["| Work |", "| Build |"],
     "Echoes on a board": ["| Memory | ours | lwIP | lwIP by its sockets |", "| What it has |"],
-    "Echoes on a TUN device": ["| Host |", "| | 2 bytes | 1,472 | 9,000 |"],
-    "ns-3's applications": ["| | bsdudp | ns-3's own | ratio |", "| | 100 nodes | 1,000 nodes |"],
-    "Scripts": ["| Lines |"],
+    "Echoes on a TUN device": ["| Host |"],
     "The checksum": ["| Body | What it is |"],
     "": ["| Question |"],
 }
-PARTS = re.compile(r"`portable/core |frames: |, with two more copies|, by its sockets|`")
+# A script puts the names of these rows together.
+PARTS = {
+    "board": r"`portable/core |frames: |, with two more copies|, by its sockets|`",
+    "ether": r", with two more copies",
+    "ns3": r"20,000 echoes of \d+ bytes",
+    "scripts": r"\d+ lines$",
+}
 
 
 def tables() -> ModuleType:
@@ -58,7 +61,7 @@ def heads() -> list[tuple[str, str, str]]:
 
 def test_each_table_of_instructions_is_written():
     """A table is one that bench/tables writes, or one of OTHERS."""
-    written = [(it.heading, it.head) for it in tables().TABLES]
+    written = [(it.heading, it.head) for it in tables().TABLES.values() if it.page == PAGE]
     faults = []
     for section, head, place in heads():
         known = [it for heading, it in written if heading == section] + OTHERS.get(section, [])
@@ -69,74 +72,107 @@ def test_each_table_of_instructions_is_written():
 
 def test_each_row_is_written():
     """With a made-up run, each row of each table gets its numbers."""
-    module, page = tables(), read(PAGE)
+    module = tables()
     faults = []
-    for it in module.TABLES:
+    for it in module.TABLES.values():
+        page = read(it.page)
         start, end = module.place_of(page, it)
         for line in page[start:end].split("\n")[3:]:
             if module.new_line(line, it, Asked(*["54,321"] * 12)) == line:
-                faults.append(Fault(PAGE, f"no number of a run is written into the row {line}"))
+                faults.append(Fault(it.page, f"no number of a run is written into the row {line}"))
     none_of(faults)
 
 
-def test_times_are_not_written():
-    """A run that has all rows leaves the tables of times as they are."""
-    module, page = tables(), read(PAGE)
-    run = {it.subject: Asked(*["54,321"] * 12) for it in module.TABLES}
-    new = module.with_tables(page, run).split("\n")
-    old, faults, times = page.split("\n"), [], False
-    for number, line in enumerate(old, 1):
-        times = line.startswith(("Times ", "Ratios ")) or times and not line.startswith("#")
-        if times and new[number - 1] != line:
-            faults.append(Fault(f"{PAGE}:{number}", "bench/tables writes instructions into a table of times"))
-    none_of(faults)
+def test_sentences_have_the_numbers_of_the_tables():
+    """Without a run nothing changes: each sentence about a table has its numbers."""
+    module = tables()
+    pages = {it.page: read(it.page) for it in (*module.TABLES.values(), *module.SENTENCES)}
+    new = module.with_run(pages, {})
+    none_of(
+        Fault(f"{path}:{number}", "a number that follows from a table", line, old)
+        for path, text in pages.items()
+        for number, (old, line) in enumerate(zip(text.split("\n"), new[path].split("\n"), strict=True), 1)
+        if old != line
+    )
 
 
 def test_each_row_is_of_a_benchmark():
-    """Each row that bench/tables takes from a run is named in its subject's sources."""
+    """Each row that bench/tables takes from a run is named in its subject's sources, and so is its head."""
     module, faults = tables(), []
-    for it in module.TABLES:
+    for it in module.TABLES.values():
         rows = Asked(*["54,321"] * 12)
         for cells in it.rows.values():
             cells(rows)
-        folder = TOP / "bench" / it.subject
-        text = "".join(path.read_text("utf-8") for path in sorted(folder.iterdir()) if path.is_file())
-        # a script puts the rows of these two together
-        parts_of = PARTS.split if it.subject in ("board", "ether") else lambda name: [f'"{name}"']
+        files = [*sorted((TOP / "bench" / it.subject).iterdir()), TOP / "bench/timer.h", TOP / "portable/core"]
+        text = "".join(path.read_text("utf-8") for path in files if path.is_file())
+        heads = r"^(?:(?:times to|milliseconds|memory|lines a|resident|echoes a|processor time|of the host)[^:]*: )?"
+        parts = re.compile(PARTS.get(it.subject, "$"))
         for name in sorted(rows.names):
-            if not all(part in text for part in parts_of(name)):
-                faults.append(Fault("bench/tables", f"bench/{it.subject} has no row {name}"))
+            head, row = re.fullmatch(f"({heads})(.*)", name).groups()
+            for part in [head.removesuffix(": ").removesuffix(", ratios"), *parts.split(row)]:
+                if part not in text:
+                    faults.append(Fault("bench/tables", f"bench/{it.subject} has no row {name}"))
     none_of(faults)
 
 
+RUN = "\n".join([
+    "== packets",
+    f"{'instructions':40} {'2 bytes':>12}",
+    f"{'rx, recvfrom':40} {1038:>12}",
+    f"{'rx: no such port':40} {226:>12}",
+    "times: the best of 3000 rounds",
+    f"{'a packet':40} {'2 bytes':>12}",
+    f"{'rx, recvfrom':40} {1007.5:>9.1f} ns",
+    f"{'times to those of the first row':40} {'2 bytes':>12}",
+    f"{'rx, recvfrom':40} {1:>12.2f}",
+    "== growth",
+    f"{'open sockets':32} {1:>9} {64:>9}",
+    f"  {'a datagram to the oldest':30} {915:>9} {1981:>9}   +16.9 for each more",
+    f"  {'a datagram to the newest':30} {915:>9} {981:>9}   flat",
+    "== board",
+    "| Cortex-M3 | library |",
+    "|---|---:|",
+    "| lwIP 2.1.3, `-Os` | - | 7,656 |",
+    "",
+    "| Cortex-M3, frames | library |",
+    "|---|---:|",
+    "| lwIP 2.1.3, `-Os` | - | 10,984 |",
+    "",
+    "| Processor | -Os |",
+    "|---|---:|",
+    "| `i686` | 62,540 |",
+    "== tun",
+    "times: medians of 150 rounds",
+    f"{'echoes a second':44} {'2 bytes':>9}",
+    f"{'Linux':44} {200000:>9}",
+    f"{'the same, to the first':44} {'2 bytes':>9}",
+    f"{'Linux':44} {0.75:>9.2f}",
+    "",
+])  # fmt: skip
+
+
 def test_a_run_is_read():
-    """The three forms in which bench/run.sh prints tables."""
-    run = "\n".join([
-        "== packets",
-        f"{'instructions':40} {'2 bytes':>12}",
-        f"{'rx, recvfrom':40} {1038:>12}",
-        f"{'rx: no such port':40} {226:>12}",
-        f"{'a packet':40} {'2 bytes':>12}",
-        f"{'rx, recvfrom':40} {7.5:>9.1f} ns",
-        "== growth",
-        f"{'open sockets':32} {1:>9} {64:>9}",
-        f"  {'a datagram to the oldest':30} {915:>9} {1981:>9}   +16.9 for each more",
-        f"  {'a datagram to the newest':30} {915:>9} {981:>9}   flat",
-        "== board",
-        "| Cortex-M3 | library |",
-        "|---|---:|",
-        "| lwIP 2.1.3, `-Os` | - | 7,656 |",
-        "",
-        "| Cortex-M3, frames | library |",
-        "|---|---:|",
-        "| lwIP 2.1.3, `-Os` | - | 10,984 |",
-        "",
-    ])  # fmt: skip
-    found = tables().counted(run)
-    assert found["packets"] == {"rx, recvfrom": ["1,038"], "rx: no such port": ["226"]}
-    assert found["growth"] == {
-        "a datagram to the oldest": ["915", "1,981", "16.9 for each more"],
-        "a datagram to the newest": ["915", "981", "flat"],
+    """The forms in which bench/run.sh prints tables."""
+    found = tables().counted(RUN)
+    assert found["packets"] == {
+        "rx, recvfrom": ["1,038"],
+        "rx: no such port": ["226"],
+        "rounds": ["3000"],
+        "a packet: rx, recvfrom": ["1,008"],
+        "times to those of the first row: rx, recvfrom": ["1.00"],
     }
+    grows = ["a datagram to the oldest", "a datagram to the newest"]
+    assert [found["growth"][it] for it in grows] == [["915", "1,981", "16.9 for each more"], ["915", "981", "flat"]]
     assert found["board"]["lwIP 2.1.3, `-Os`"] == ["-", "7,656"]
     assert found["board"]["frames: lwIP 2.1.3, `-Os`"] == ["-", "10,984"]
+    assert found["board"]["`i686`"] == ["62,540"]
+    assert found["tun"] == {
+        "rounds": ["150"],
+        "echoes a second: Linux": ["200,000"],
+        "echoes a second, ratios: Linux": ["0.75"],
+    }
+
+
+def test_times_of_few_rounds_are_not_written():
+    found = tables().counted(RUN.replace("3000 rounds", "599 rounds"))
+    assert list(found["packets"]) == ["rx, recvfrom", "rx: no such port"]

@@ -1,0 +1,74 @@
+# What a script costs: lines a second of bsdudp, the best of three runs, its resident memory, and the instructions of
+# bsdplay for a line of a mixed script, without its start. PROGRAM and BSDPLAY name other builds.
+
+# Two lines, repeated, after a socket and its bind.
+repeated() { # TIMES FIRST SECOND
+    printf 'socket\nbind 3 0.0.0.0 7\n'
+    (set +o pipefail && yes "$2"$'\n'"$3" | head -n $((2 * $1)))
+}
+
+# A `sendto` by loopback.
+looped() { # SIZE
+    printf 'sendto 3 127.0.0.1 7 '
+    printf '%*s' "$1" '' | sed 's/ /61/g'
+}
+
+lines_a_second() { # WORK NAME TIMES FIRST
+    local best=0 begin rate
+    repeated "$3" "$4" "recvfrom 3 9216" > "$1/script"
+    for _ in 1 2 3; do
+        begin=$(date +%s%N)
+        "$program" run < "$1/script" > /dev/null
+        rate=$((2 * $3 * 1000000000 / ($(date +%s%N) - begin)))
+        ((rate < best)) || best=$rate
+    done
+    printf '%-40s %12d\n' "$2" "$best"
+}
+
+# The most resident memory of bsdudp in a script with this number of lines, in KB.
+resident() { # WORK LINES
+    mkfifo "$1/lines"
+    "$program" run < "$1/lines" > /dev/null &
+    exec 9> "$1/lines"
+    repeated $(($2 / 2)) "$rx" "recvfrom 3 9216" >&9
+    sleep 1
+    awk '/^VmHWM/ {print $2}' "/proc/$!/status"
+    exec 9>&-
+    wait $!
+    rm "$1/lines"
+}
+
+# The instructions of bsdplay for a mixed script, with all lines but the first two this number of times.
+of_mixed() { # WORK TIMES OPTION..
+    head -n 2 "$bench/scripts/mixed.txt" > "$1/script"
+    for ((i = 0; i < $2; i++)); do tail -n +3 "$bench/scripts/mixed.txt"; done >> "$1/script"
+    counted "$bsdplay" "${@:3}" "$1/script"
+}
+
+measure_scripts() { # WORK
+    local program="${PROGRAM:-$crates/bsdudp/out/bsdudp}" bsdplay="${BSDPLAY:-$crates/bsdplay/out/bsdplay}" lines option
+    local rx="rx 4500001e00010000401166cc0a0000020a00000113880007000a6fdf6869"
+    if [ -x "$program" ]; then
+        printf '%-40s %12s\n' "lines a second" "lines"
+        lines_a_second "$1" "rx and recvfrom, 2 bytes" 500000 "$rx"
+        lines_a_second "$1" "sendto by loopback and recvfrom, 2 bytes" 500000 "$(looped 2)"
+        lines_a_second "$1" "the same, 1,472 bytes" 50000 "$(looped 1472)"
+        lines_a_second "$1" "the same, 9,000 bytes" 10000 "$(looped 9000)"
+        printf '%-40s %12s\n' "resident memory" "KB"
+        for lines in 10000 1000000 10000000; do
+            printf '%-40s %12d\n' "$lines lines" "$(resident "$1" "$lines")"
+        done
+    else
+        echo "left out, since $program isn't built (rt run in crates/bsdudp)"
+    fi
+    if [ -x "$bsdplay" ] && command -v valgrind > /dev/null; then
+        lines=$(($(tail -n +3 "$bench/scripts/mixed.txt" | wc -l) * 60))
+        printf '%-40s %12s\n' "instructions" "a line"
+        for option in "" --quiet; do
+            printf '%-40s %12d\n' "bsdplay${option:+ $option}" \
+                $((($(of_mixed "$1" 80 $option) - $(of_mixed "$1" 20 $option)) / lines))
+        done
+    else
+        echo "left out, since $bsdplay isn't built (rt run in crates/bsdplay), or valgrind isn't there"
+    fi
+}
