@@ -1,5 +1,5 @@
-"""Mutants: files NAME.edit in a crate's must-fail/, wrong-texts/ and wrong-definitions/, and all others in its table
-`mutants`, where each has its name on a line of its own, then its edit, then an empty line. An edit has lines
+"""Mutants: files NAME.edit in a crate's must-fail/, and all others in its tables `mutants`, `wrong-texts` and
+`wrong-definitions`, where each has its name on a line of its own, then its edit, then an empty line. An edit has lines
 `file: PATH`, each followed by pairs of `old: TEXT` and `new: TEXT`. The old text must be in the file exactly once.
 Later pairs apply to the result of earlier ones."""
 from __future__ import annotations
@@ -11,8 +11,8 @@ import subprocess
 from typing import Iterator, NamedTuple
 
 TOP = pathlib.Path(__file__).resolve().parent.parent
-FOLDERS = ("must-fail", "wrong-texts", "wrong-definitions")
-TABLE = "mutants"
+FOLDER = "must-fail"
+TABLE, TEXTS, DEFINITIONS = TABLES = ("mutants", "wrong-texts", "wrong-definitions")
 NAME = re.compile(r"[A-Za-z0-9_-][A-Za-z0-9_.-]*")
 # What `rt` says of a mutant after which a proof cites a name that isn't there: no contract rejected it.
 BY_NAME = "only because a proof file names what the edit took away"
@@ -30,15 +30,9 @@ class Pair(NamedTuple):
     new: str
 
 
-def pairs_of(edit: pathlib.Path) -> list[Pair]:
-    """Returns the pairs of an edit, in order. Raises Refused with the reason if the file isn't an edit."""
-    return pairs_in(edit.read_text(encoding="utf-8"))
-
-
-def table_of(crate: pathlib.Path) -> dict[str, str]:
-    """Returns the text of each edit in a crate's table, by its name: none if there is no table. Raises Refused if a
-    part of the table has no name, or one that another part has."""
-    path = crate / TABLE
+def table_of(path: pathlib.Path) -> dict[str, str]:
+    """Returns the text of each edit in a table, by its name: none if there is no table. Raises Refused if a part of the
+    table has no name, or one that another part has."""
     edits: dict[str, str] = {}
     for part in filter(None, path.read_text(encoding="utf-8").strip("\n").split("\n\n") if path.is_file() else []):
         name, _, text = part.partition("\n")
@@ -49,10 +43,16 @@ def table_of(crate: pathlib.Path) -> dict[str, str]:
 
 
 def edits_of(crate: pathlib.Path, place: str) -> dict[str, str]:
-    """Returns the text of each edit in a folder of a crate, or in its table, by its name, sorted."""
-    if place == TABLE:
-        return table_of(crate)
+    """Returns the text of each edit in the folder of a crate, or in one of its tables, by its name."""
+    if place in TABLES:
+        return table_of(crate / place)
     return {it.stem: it.read_text(encoding="utf-8") for it in sorted((crate / place).glob("*.edit"))}
+
+
+def everywhere(place: str) -> list[tuple[pathlib.Path, str, str]]:
+    """Returns each edit in this folder or table of all crates: its crate, its name and its text."""
+    crates = sorted(TOP.glob("crates/*/"))
+    return [(crate, name, text) for crate in crates for name, text in edits_of(crate, place).items()]
 
 
 def pairs_in(text: str) -> list[Pair]:
@@ -108,15 +108,16 @@ def copy_files(to: pathlib.Path, *paths: str) -> None:
 def faults(crate: pathlib.Path) -> Iterator[tuple[pathlib.Path, str]]:
     """Yields the files with edits in a crate's folder that don't apply, each with the reason."""
     edits: list[tuple[pathlib.Path, str, str]] = []
-    for path in (it for folder in FOLDERS for it in sorted(crate.glob(f"{folder}/**/*"))):
+    for path in sorted(crate.glob(f"{FOLDER}/**/*")):
         if path.parent.parent != crate or path.suffix != ".edit" or not NAME.fullmatch(path.stem):
             yield path, "this folder has only files NAME.edit"
             continue
         edits.append((path, path.stem, path.read_text(encoding="utf-8")))
-    try:
-        edits += [(crate / TABLE, name, text) for name, text in table_of(crate).items()]
-    except Refused as why:
-        yield crate / TABLE, str(why)
+    for table in TABLES:
+        try:
+            edits += [(crate / table, name, text) for name, text in table_of(crate / table).items()]
+        except Refused as why:
+            yield crate / table, str(why)
     known: dict[str, pathlib.Path] = {}
     for path, name, text in edits:
         other = known.setdefault(name, path)

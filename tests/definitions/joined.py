@@ -12,7 +12,6 @@ import shutil
 
 NAME = "flat_model"
 LAW = f"{NAME}::wire_laws::wire_law"
-EDITS = "wrong-definitions"
 PARTS = ("src", "specs", "proofs")
 # The fields of a key that the law needs, each with its index in the parts of `is_key`. It doesn't need the destination:
 # UDP fragments from one address with one identification belong to one datagram.
@@ -66,8 +65,8 @@ def laws_of(text: str, names: set[str]) -> str:
 
 
 def make(crates: pathlib.Path, scratch: pathlib.Path) -> None:
-    """Makes the crate in an empty folder, with the wrong definitions."""
-    for part in (*PARTS, EDITS):
+    """Makes the crate in an empty folder."""
+    for part in PARTS:
         shutil.copytree(crates / NAME / part, scratch / part)
     lib = scratch / "src/lib.rt"
     lib.write_text(replaced(lib.read_text("utf-8"), "\nmod usage;", "\nmod usage;\nmod wire_laws;"), "utf-8")

@@ -11,7 +11,7 @@ from tests.cases import TOP
 from tests.definitions import joined
 from tools import edits
 
-WRONG = sorted((TOP / "crates" / joined.NAME / joined.EDITS).glob("*.edit"))
+WRONG = edits.edits_of(TOP / "crates" / joined.NAME, edits.DEFINITIONS)
 # The lemmas that the prover couldn't prove, and on which the law stands.
 OPEN = re.compile(rf"(?m)^fn {joined.LAW}: not proved; it stands on (.*)")
 
@@ -26,7 +26,7 @@ def checked(tmp_path):
     (tmp_path / "crates.txt").write_text(f"params:\n{uses[0]}", encoding="utf-8")
 
     def check(edit=None):
-        for path, text in edits.applied(edits.pairs_of(edit), crate).items() if edit else ():
+        for path, text in edits.applied(edits.pairs_in(edit), crate).items() if edit else ():
             (crate / path).write_text(text, encoding="utf-8")
         words = ["rt", "check", "--jobs", "1", "--allow-holes", "--only", joined.LAW]
         done = subprocess.run(words, cwd=crate, capture_output=True, text=True, check=False)
@@ -44,7 +44,7 @@ def test_the_law_is_proved(checked):
 
 @pytest.mark.slow
 @pytest.mark.needs("rt")
-@pytest.mark.parametrize("edit", WRONG, ids=[it.stem for it in WRONG])
+@pytest.mark.parametrize("edit", WRONG.values(), ids=WRONG.keys())
 def test_a_wrong_definition_is_rejected(checked, edit):
     """The law isn't proved, and only for what the wrong definition breaks: the fields of a key, or a send."""
     status, said = checked(edit)

@@ -121,11 +121,10 @@ def test_mutants_apply(crate):
 def test_wrong_definitions_apply_to_the_joined_crate(tmp_path):
     """tests/definitions can join flat_model and flat_wire in one crate, and each wrong definition applies there."""
     joined.make(TOP / "crates", tmp_path)
-    there = sorted((TOP / "crates" / joined.NAME / joined.EDITS).iterdir())
+    there = edits.edits_of(TOP / "crates" / joined.NAME, edits.DEFINITIONS)
     assert there
-    for path in there:
-        pairs = edits.pairs_of(path)
-        assert set(edits.applied(pairs, tmp_path)) <= {f"specs/Machine/{name}.antt" for name in ("State", "Send")}
+    for text in there.values():
+        assert set(edits.applied(edits.pairs_in(text), tmp_path)) <= {f"specs/Machine/{name}.antt" for name in ("State", "Send")}
 
 
 # ---- callers -------------------------------------------------------------------------------------------------------
