@@ -16,7 +16,7 @@ Row = "tuple[str, str]"
 
 
 class Case(NamedTuple):
-    """A run of bsdudp. `place` is the file or table with the replies."""
+    """A run of bsdudp. `place` is the file or table with the replies, which begin at its line `first`."""
 
     name: str
     words: Sequence[str]
@@ -25,6 +25,7 @@ class Case(NamedTuple):
     status: int = 0
     said: bytes = b""
     place: str = ""
+    first: int = 1
 
 
 def each(cases: Iterable[Case | Golden]) -> pytest.MarkDecorator:
@@ -56,6 +57,18 @@ def of_folder(folder: str, command: str) -> Iterator[Case]:
         yield Case(f"{command}/{path.stem}", [command, *words], path.read_bytes(), replies.read_bytes(), place=place)
 
 
+def of_dialogs(folder: str, command: str) -> Iterator[Case]:
+    """Yields the dialogs NAME.dialog in a folder: lines of a script, each with ` => ` and its reply. Options are in a
+    line before these."""
+    for path in sorted((TOP / folder).glob("*.dialog")):
+        lines = path.read_bytes().removesuffix(b"\n").split(b"\n")
+        words = lines.pop(0).decode().split() if lines[0].startswith(b"--") else []
+        place, first = str(path.relative_to(TOP)), 2 if words else 1
+        assert all(it.count(b" => ") == 1 for it in lines), f"{place}: a line has no reply, or two"
+        script, replies = (b"".join(it + b"\n" for it in rows) for rows in zip(*(it.split(b" => ") for it in lines)))
+        yield Case(f"{command}/{path.stem}", [command, *words], script, replies, place=place, first=first)
+
+
 def short(text: bytes) -> str:
     """Returns a text, shortened for a message."""
     shown = text.decode(errors="backslashreplace")
@@ -77,7 +90,7 @@ def difference(case: Case, status: int, replies: bytes, said: bytes | None) -> s
         asked = case.script.split(b"\n")
         at, both = other_line(case.replies, replies)
         line = short(asked[at]) if at < len(asked) else ""
-        return f"{case.place or case.name}:{at + 1}: {line}{both}\n    ({where}; status {status})"
+        return f"{case.place or case.name}:{at + case.first}: {line}{both}\n    ({where}; status {status})"
     if status != case.status:
         return f"{case.name}: {where}: status {status}, and not {case.status}; it says {short(said or b'')!r}"
     if said is not None and said != case.said:
