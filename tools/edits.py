@@ -14,8 +14,11 @@ TOP = pathlib.Path(__file__).resolve().parent.parent
 FOLDER = "must-fail"
 TABLE, TEXTS, DEFINITIONS = TABLES = ("mutants", "wrong-texts", "wrong-definitions")
 NAME = re.compile(r"[A-Za-z0-9_-][A-Za-z0-9_.-]*")
-# What `rt` says of a mutant after which a proof cites a name that isn't there: no contract rejected it.
+# What `rt` says of a mutant that no contract rejected: a proof cites a name that isn't there, the prover met a limit of
+# its own, or the mutant can't be read. `rt ci` counts the first two as passed.
 BY_NAME = "only because a proof file names what the edit took away"
+BY_LIMIT = "only by a limit of the prover"
+BAD = "BAD EDIT: "
 
 
 class Refused(Exception):

@@ -16,6 +16,12 @@ BY_NAME = (
     "rt: must-fail udp/b.edit: refused, as it must be (only because a proof file names what the edit took away, so this"
     " says little of the contract: change a value and keep the names): proofs/a.antt:1:1: error\n"
 )
+BY_LIMIT = (
+    "rt: must-fail udp/c.edit: refused, as it must be (only by a limit of the prover, which gave no verdict, so this"
+    " says less of the contract: choose a change that it refuses sooner): src/a.rt:1:1: error: it ran out\n"
+)
+# And this one neither as passed nor as failed.
+BAD = "rt: must-fail udp/d.edit: BAD EDIT: the prover cannot read the edited text, so no contract was tried: src/a.rt\n"
 
 
 class Row(NamedTuple):
@@ -45,6 +51,13 @@ ROWS = [
         1,
         line=BY_NAME + REFUSED + BY_NAME + "3 passed, 0 failed\n",
         before=(f"failed: {BY_NAME.rstrip()}",) * 2,
+    ),
+    Row(
+        "a_mutant_by_a_limit_and_a_bad_one",
+        "3 passed, 2 failed, 0 skipped",
+        1,
+        line=BY_LIMIT + REFUSED + BAD + "3 passed, 0 failed\n",
+        before=(f"failed: {BY_LIMIT.rstrip()}", f"failed: {BAD.rstrip()}"),
     ),
 ]
 
