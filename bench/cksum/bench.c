@@ -74,25 +74,7 @@ static uint16_t c_lanes(const uint8_t *p, size_t len)
     return swapped(fold(sum));
 }
 
-/* The same by hand. */
-static uint16_t c_sse2(const uint8_t *p, size_t len)
-{
-    const __m128i low = _mm_set1_epi32(0xffff);
-    __m128i first = _mm_setzero_si128(), second = first;
-    uint32_t lanes[4];
-    for (; len > 31; len -= 32, p += 32) {
-        __m128i a = _mm_loadu_si128((const __m128i *)p);
-        __m128i b = _mm_loadu_si128((const __m128i *)(p + 16));
-        first = _mm_add_epi32(first, _mm_add_epi32(_mm_and_si128(a, low), _mm_srli_epi32(a, 16)));
-        second = _mm_add_epi32(second, _mm_add_epi32(_mm_and_si128(b, low), _mm_srli_epi32(b, 16)));
-    }
-    _mm_storeu_si128((__m128i *)lanes, _mm_add_epi32(first, second));
-    uint64_t sum = rest_words(p, len);
-    for (int lane = 0; lane < 4; lane++)
-        sum += lanes[lane];
-    return swapped(fold(sum));
-}
-
+/* The same by hand, on vectors of AVX2. */
 __attribute__((target("avx2"))) static uint16_t c_avx2(const uint8_t *p, size_t len)
 {
     const __m256i low = _mm256_set1_epi32(0xffff);
@@ -158,17 +140,16 @@ RUN(by_sum_in_two)
 RUN(by_memcpy)
 RUN(c_plain)
 RUN(c_lanes)
-RUN(c_sse2)
 RUN(c_avx2)
 
 /* The last only if the processor has AVX2. */
 static const Row ROWS[] = {
     {"sum_slice", run_by_sum_slice}, {"Sum", run_by_sum},      {"Sum-in-two", run_by_sum_in_two},
     {"memcpy", run_by_memcpy},       {"c-plain", run_c_plain}, {"c-lanes", run_c_lanes},
-    {"c-sse2", run_c_sse2},          {"c-avx2", run_c_avx2},
+    {"c-avx2", run_c_avx2},
 };
 
-static Body *const BODIES[] = {by_sum_slice, by_sum, by_sum_in_two, c_plain, c_lanes, c_sse2, c_avx2};
+static Body *const BODIES[] = {by_sum_slice, by_sum, by_sum_in_two, c_plain, c_lanes, c_avx2};
 
 static bool has_avx2(void)
 {
