@@ -141,7 +141,7 @@ def asked(
     progress: Optional[bool],
     limit: Limit,
 ) -> Judged:
-    """A stack's answers, without verdicts."""
+    """A stack's replies, without verdicts."""
     with Adapter(command, timeout, limit) as first:
         judged = Judged(name or first.name or command[0], first.abilities)
         for case in cases:
@@ -160,7 +160,7 @@ def asked(
 
 
 def judge_answers(judged: Judged, limit: Limit) -> None:
-    """The verdicts on all answers, or, if a signal arrives meanwhile, on the first ones."""
+    """The verdicts on all replies, or, if a signal arrives meanwhile, on the first ones."""
     every, signals = judged.cases, limit.signals
     judged.cases = []
     for case in every:
