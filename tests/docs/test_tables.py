@@ -173,6 +173,19 @@ def test_a_run_is_read():
     }
 
 
+def test_times_have_their_version():
+    """A run with times gets the present version beside them, and one without leaves the old one there."""
+    module = tables()
+    pages = {it.page: read(it.page) for it in (*module.TABLES.values(), *module.SENTENCES)}
+    pages[PAGE] = re.sub(r"bsdudp(\s)\d+\.\d+\.\d+", r"bsdudp\g<1>0.0.1", pages[PAGE])
+    counts = {it: ["1"] * 4 for it in module.PEERS.values()}
+    times = {f"times to those of the first row: {it}": ["1.00"] * 4 for it in counts}
+    before, without, after = (
+        module.with_run(pages, {"peers": rows})[PAGE].count("bsdudp 0.0.1") for rows in ({}, counts, counts | times)
+    )
+    assert 0 < before == without == after + 1
+
+
 def test_times_of_few_rounds_are_not_written():
     found = tables().counted(RUN.replace("3000 rounds", "599 rounds"))
     assert list(found["packets"]) == ["rx, recvfrom", "rx: no such port"]
