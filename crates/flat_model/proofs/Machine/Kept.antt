@@ -1,5 +1,5 @@
 -- Every arrival keeps the invariant of the state, and never holds more buffers than there are.
-use Rattle.std.proofs.Common.{◌≡◌, ℕ, ◌+◌, ◌*◌, ◌<◌, ◌≤◌, Bool, true, false, List, [], ◌∷◌, ◌++◌, length, take, drop, refl, sym, ◌∙◌, ap, subst, eq-eqb, arith, Some, None, cond, ◌⊎◌, inl, inr}
+use Rattle.std.proofs.Common.{◌≡◌, ℕ, ◌+◌, ◌*◌, ◌<◌, ◌≤◌, Bool, true, false, List, [], ◌∷◌, ◌++◌, length, take, drop, refl, sym, ◌∙◌, ap, subst, eq-eqb, arith, Option, Some, None, cond, ◌⊎◌, inl, inr}
 use Rattle.std.specs.Prelude.{◌==◌, not, nat_lt, count_by}
 use Rattle.std.specs.List.{AllByRecursion as Each}
 use Rattle.std.proofs.lemmas.Bool.{ltb-false, leb-true, and_parts, and_from, or_parts}
@@ -34,18 +34,48 @@ use Rattle.flat_model.proofs.Machine.KeptLists.{count-map, count-same, count-fil
 
 -- ---- the state while a step holds h more mbufs
 
-pub record Good (c : Config) (h : ℕ) (s : State) : Type 0 where
-  pub config : s.config ≡ c
-  pub sockets : Each (IsSocket c) s.sockets
-  pub few : length s.sockets ≤ 64
-  pub distinct : (fd : ℕ) → count_by (λ socket. socket.fd == fd) s.sockets ≤ 1
-  pub unfinished : Each (IsWaiting c) s.unfinished
-  pub keys : (k : Key) → count_by (is_key k) s.unfinished ≤ 1
-  pub output : Each (IsOutput c) s.output
-  pub short : length s.output ≤ OUTPUT_QUEUE_PACKETS
-  pub last_port : (p : ℕ) → s.last_port ≡ Some p → (1024 ≤ p) × (p ≤ 5000)
-  pub next_id : s.next_id < 65536
-  pub mbufs : (weight_of_state s).mbufs + h ≤ c.mbufs
+pub record AreSockets (c : Config) (sockets : List Socket) : Type 0 where
+  pub each : Each (IsSocket c) sockets
+  pub few : length sockets ≤ 64
+  pub distinct : (fd : ℕ) → count_by (λ socket. socket.fd == fd) sockets ≤ 1
+
+pub record AreUnfinished (c : Config) (unfinished : List Unfinished) : Type 0 where
+  pub each : Each (IsWaiting c) unfinished
+  pub keys : (k : Key) → count_by (is_key k) unfinished ≤ 1
+
+pub record IsOutputQueue (c : Config) (output : List Item) : Type 0 where
+  pub each : Each (IsOutput c) output
+  pub short : length output ≤ OUTPUT_QUEUE_PACKETS
+
+pub record AreNumbers (port : Option ℕ) (id : ℕ) : Type 0 where
+  pub last_port : (p : ℕ) → port ≡ Some p → (1024 ≤ p) × (p ≤ 5000)
+  pub next_id : id < 65536
+
+pub record Parts (c : Config) (used : ℕ) (own : Config) (ss : List Socket) (us : List Unfinished) (os : List Item)
+    (port : Option ℕ) (id : ℕ) : Type 0 where
+  pub config : own ≡ c
+  pub sockets : AreSockets c ss
+  pub unfinished : AreUnfinished c us
+  pub output : IsOutputQueue c os
+  pub numbers : AreNumbers port id
+  pub mbufs : used ≤ c.mbufs
+
+-- by parts, so that a step says only those that it changes; the counters are in none
+abbrev pub Good : Config → ℕ → State → Type 0
+Good c h s = Parts c ((weight_of_state s).mbufs + h) s.config s.sockets s.unfinished s.output s.last_port s.next_id
+
+pub with_parts : {c : Config} {n n' : ℕ} {own : Config} {ss ss' : List Socket} {us us' : List Unfinished}
+    {os os' : List Item} {port port' : Option ℕ} {id id' : ℕ}
+    → Parts c n own ss us os port id → AreSockets c ss' → AreUnfinished c us' → IsOutputQueue c os'
+    → AreNumbers port' id' → n' ≤ c.mbufs → Parts c n' own ss' us' os' port' id'
+with_parts good sockets unfinished output numbers mbufs = record {
+  config = good.config;
+  sockets = sockets;
+  unfinished = unfinished;
+  output = output;
+  numbers = numbers;
+  mbufs = mbufs;
+}
 
 abbrev pub weight_of_socket : Socket → Weight
 weight_of_socket socket = all_of (λ (d : Datagram). d.item.weight) socket.queue
@@ -58,56 +88,17 @@ weight_of_item item = item.weight
 
 module _ (c : Config) where
   pub less_held : (g h : ℕ) (s : State) → g ≤ h → Good c h s → Good c g s
-  less_held g h s le good = record {
-    config = good.config;
-    sockets = good.sockets;
-    few = good.few;
-    distinct = good.distinct;
-    unfinished = good.unfinished;
-    keys = good.keys;
-    output = good.output;
-    short = good.short;
-    last_port = good.last_port;
-    next_id = good.next_id;
-    mbufs = omega (arith, good.mbufs);
-  }
-
-  -- the invariant doesn't depend on the counters
-  pub same_rest : (h : ℕ) (old new : State) → new.config ≡ old.config → new.sockets ≡ old.sockets
-      → new.unfinished ≡ old.unfinished → new.output ≡ old.output
-      → new.last_port ≡ old.last_port → new.next_id ≡ old.next_id → Good c h old → Good c h new
-  same_rest h old new ec es eu eo ep ei good = record {
-    config = ec ∙ good.config;
-    sockets = rw es good.sockets;
-    few = rw es good.few;
-    distinct = λ fd. rw es (good.distinct fd);
-    unfinished = rw eu good.unfinished;
-    keys = λ k. rw eu (good.keys k);
-    output = rw eo good.output;
-    short = rw eo good.short;
-    last_port = λ p e. good.last_port p (sym ep ∙ e);
-    next_id = rw ei good.next_id;
-    mbufs = rw (es, eu, eo) good.mbufs;
-  }
+  less_held g h s le good =
+      with_parts good good.sockets good.unfinished good.output good.numbers (omega (arith, good.mbufs))
 
   pub good_ends : (g h : ℕ) (s new : State) (why : Why) → g ≤ h → Good c h s → new ≡ ends why s → Good c g new
   good_ends g h s new why le good e =
-      subst (Good c g) (sym e) (same_rest g s (ends why s) refl refl refl refl refl refl (less_held g h s le good))
+      subst (Good c g) (sym e) (less_held g h s le good)
 
   pub good_reclaimed : (h : ℕ) (s : State) → Good c h s → Good c h (reclaimed s)
-  good_reclaimed h s good = record {
-    config = good.config;
-    sockets = good.sockets;
-    few = good.few;
-    distinct = good.distinct;
-    unfinished = tt;
-    keys = λ k. omega arith;
-    output = good.output;
-    short = good.short;
-    last_port = good.last_port;
-    next_id = good.next_id;
-    mbufs = omega (arith, good.mbufs);
-  }
+  good_reclaimed h s good =
+      with_parts good good.sockets (record { each = tt; keys = λ k. omega arith }) good.output good.numbers
+      (omega (arith, good.mbufs))
 
   -- if the test passes, the step can also hold the mbufs that it needs
   module _ (old new : State) (held : Weight) (need : Need) where
@@ -116,19 +107,7 @@ module _ (c : Config) where
         let parts = and_parts _ _ (sym e) in
         let enough : need.mbufs ≤ free_mbufs s held = leb-true _ _ parts.0 in
         let total_is : s.config.mbufs ≡ c.mbufs = ap (λ (x : Config). x.mbufs) good.config in
-        record {
-          config = good.config;
-          sockets = good.sockets;
-          few = good.few;
-          distinct = good.distinct;
-          unfinished = good.unfinished;
-          keys = good.keys;
-          output = good.output;
-          short = good.short;
-          last_port = good.last_port;
-          next_id = good.next_id;
-          mbufs = omega (arith, good.mbufs);
-        }
+        with_parts good good.sockets good.unfinished good.output good.numbers (omega (arith, good.mbufs))
 
     pub good_has_buffers : Good c held.mbufs old → HasBuffers exact_ledger old held need true new
         → Good c (held.mbufs + need.mbufs) new × ((new ≡ old) ⊎ (new ≡ reclaimed old))
@@ -158,16 +137,15 @@ module _ (c : Config) where
       → IsQueued c d → socket_at fd s ≡ Some me
       → 16 + length d.item.bytes + bytes_queued me.queue ≤ 41600 → length me.queue + 1 ≤ 325
       → Good c h (change_socket fd (Arrival.with_datagram d) s)
-  good_queued h fd d me s good is at room more = record {
-    config = good.config;
-    sockets =
+  good_queued h fd d me s good is at room more = with_parts good (record {
+    each =
         each-map_to (IsSocket c) _ (λ socket g. g) s.sockets
-        (each-both (λ socket g one. go socket g (socket.fd == fd) refl one) s.sockets good.sockets
-        (the_one fd s.sockets me (good.distinct fd) at));
+        (each-both (λ socket g one. go socket g (socket.fd == fd) refl one) s.sockets good.sockets.each
+        (the_one fd s.sockets me (good.sockets.distinct fd) at));
     few =
         omega (
           arith,
-          good.few,
+          good.sockets.few,
           length-map s.sockets
               (λ (socket : Socket). cond (socket.fd == fd) (Arrival.with_datagram d socket) socket),
         );
@@ -175,21 +153,13 @@ module _ (c : Config) where
         λ k. let same =
         count-map (λ (socket : Socket). socket.fd == k)
         (λ socket. cond (socket.fd == fd) (Arrival.with_datagram d socket) socket)
-        (λ socket. fd_same socket k (socket.fd == fd)) s.sockets in omega (arith, good.distinct k);
-    unfinished = good.unfinished;
-    keys = good.keys;
-    output = good.output;
-    short = good.short;
-    last_port = good.last_port;
-    next_id = good.next_id;
-    mbufs =
-        let more =
-        mbufs-changed weight_of_socket (λ (socket : Socket). socket.fd == fd) (Arrival.with_datagram d)
-        d.item.weight.mbufs
-        (λ socket. let app = mbufs-append (λ (x : Datagram). x.item.weight) socket.queue (d ∷ []) in omega arith)
-        s.sockets (good.distinct fd) in
-        omega (arith, good.mbufs);
-  }
+        (λ socket. fd_same socket k (socket.fd == fd)) s.sockets in omega (arith, good.sockets.distinct k);
+  }) good.unfinished good.output good.numbers
+      (let more = mbufs-changed weight_of_socket (λ (socket : Socket). socket.fd == fd) (Arrival.with_datagram d)
+      d.item.weight.mbufs
+      (λ socket. let app = mbufs-append (λ (x : Datagram). x.item.weight) socket.queue (d ∷ []) in omega arith)
+      s.sockets (good.sockets.distinct fd) in
+      omega (arith, good.mbufs))
     where
       fd_same : (socket : Socket) (k : ℕ) (b : Bool)
           → ((cond b (Arrival.with_datagram d socket) socket).fd == k) ≡ (socket.fd == k)
@@ -221,24 +191,16 @@ module _ (c : Config) where
 
   pub good_begins : (h : ℕ) (k : Key) (s : State) → Good c (h + 1) s → unfinished_at k s ≡ None
       → Good c h (begin_unfinished k s)
-  good_begins h k s good none = record {
-    config = good.config;
-    sockets = good.sockets;
-    few = good.few;
-    distinct = good.distinct;
-    unfinished =
-        each-append (IsWaiting c) s.unfinished (begun k ∷ []) good.unfinished (
+  good_begins h k s good none = with_parts good good.sockets (record {
+    each =
+        each-append (IsWaiting c) s.unfinished (begun k ∷ []) good.unfinished.each (
           record { some_ticks = omega arith; ticks = omega arith; bytes = λ offset held e. absurd (none-some held e) },
           tt,
         );
     keys = λ k'. one k' (is_key k' (begun k)) refl;
-    output = good.output;
-    short = good.short;
-    last_port = good.last_port;
-    next_id = good.next_id;
-    mbufs = let app = mbufs-append weight_of_unfinished s.unfinished (begun k ∷ []) in let none' = pieces_none in
-        omega (arith, good.mbufs);
-  }
+  }) good.output good.numbers
+      (let app = mbufs-append weight_of_unfinished s.unfinished (begun k ∷ []) in let none' = pieces_none in
+      omega (arith, good.mbufs))
     where
       one : (k' : Key) (b : Bool) → is_key k' (begun k) ≡ b → count_by (is_key k') (s.unfinished ++ begun k ∷ []) ≤ 1
       one k' true e =
@@ -253,32 +215,22 @@ module _ (c : Config) where
             arith,
             count-append (is_key k') s.unfinished (begun k ∷ []),
             count_cons (is_key k') (begun k) [],
-            good.keys k',
+            good.unfinished.keys k',
           )
 
   pub good_set : (h more : ℕ) (k : Key) (u : Unfinished) (bytes : Map) (s : State) → Good c (h + more) s
       → unfinished_at k s ≡ Some u → IsMap c bytes
       → (weight_of_pieces bytes).mbufs ≤ (weight_of_pieces u.bytes).mbufs + more → Good c h (set_bytes k bytes s)
-  good_set h more k u bytes s good at is le = record {
-    config = good.config;
-    sockets = good.sockets;
-    few = good.few;
-    distinct = good.distinct;
-    unfinished = each-map (IsWaiting c) _ (λ x g. go x g (is_key k x)) s.unfinished good.unfinished;
+  good_set h more k u bytes s good at is le = with_parts good good.sockets (record {
+    each = each-map (IsWaiting c) _ (λ x g. go x g (is_key k x)) s.unfinished good.unfinished.each;
     keys =
         λ k'. let same =
         count-map (is_key k') (λ (x : Unfinished). cond (is_key k x) (record x { bytes = bytes }) x)
-        (λ x. key_kept k' x (is_key k x)) s.unfinished in omega (arith, good.keys k');
-    output = good.output;
-    short = good.short;
-    last_port = good.last_port;
-    next_id = good.next_id;
-    mbufs =
-        let now =
-        mbufs-replaced weight_of_unfinished (is_key k) (λ x. record x { bytes = bytes })
-        (1 + (weight_of_pieces bytes).mbufs) (λ x. refl) s.unfinished u (good.keys k) at in
-        omega (arith, good.mbufs, le);
-  }
+        (λ x. key_kept k' x (is_key k x)) s.unfinished in omega (arith, good.unfinished.keys k');
+  }) good.output good.numbers
+      (let now = mbufs-replaced weight_of_unfinished (is_key k) (λ x. record x { bytes = bytes })
+      (1 + (weight_of_pieces bytes).mbufs) (λ x. refl) s.unfinished u (good.unfinished.keys k) at in
+      omega (arith, good.mbufs, le))
     where
       go : (x : Unfinished) → IsWaiting c x → (b : Bool) → IsWaiting c (cond b (record x { bytes = bytes }) x)
       go x g true = record { some_ticks = g.some_ticks; ticks = g.ticks; bytes = is }
@@ -291,20 +243,12 @@ module _ (c : Config) where
 
   pub good_finishes : (h : ℕ) (k : Key) (u : Unfinished) (s : State) → Good c h s → unfinished_at k s ≡ Some u
       → Good c (h + (1 + (weight_of_pieces u.bytes).mbufs)) (Arrival.counts_reassembled (end_unfinished k s))
-  good_finishes h k u s good at = record {
-    config = good.config;
-    sockets = good.sockets;
-    few = good.few;
-    distinct = good.distinct;
-    unfinished = each-filter (IsWaiting c) (λ x. not (is_key k x)) s.unfinished good.unfinished;
+  good_finishes h k u s good at = with_parts good good.sockets (record {
+    each = each-filter (IsWaiting c) (λ x. not (is_key k x)) s.unfinished good.unfinished.each;
     keys = λ k'. let fewer = count-filter (is_key k') (λ x. not (is_key k x)) s.unfinished in
-        omega (arith, good.keys k');
-    output = good.output;
-    short = good.short;
-    last_port = good.last_port;
-    next_id = good.next_id;
-    mbufs = let rest = mbufs-without weight_of_unfinished (is_key k) s.unfinished u at in omega (arith, good.mbufs);
-  }
+        omega (arith, good.unfinished.keys k');
+  }) good.output good.numbers
+      (let rest = mbufs-without weight_of_unfinished (is_key k) s.unfinished u at in omega (arith, good.mbufs))
 
   -- ---- the receivers
 
@@ -381,7 +325,7 @@ module _ (c : Config) where
       fits mid at found e =
           let limits = and_parts _ _ e in
           let memory = leb-true _ _ limits.1 in
-          let me_is = (each-find (IsSocket c) (λ socket. socket.fd == to.fd) mid.sockets to at.sockets found).0 in
+          let me_is = (each-find (IsSocket c) (λ socket. socket.fd == to.fd) mid.sockets to at.sockets.each found).0 in
           let least = memory_least to.queue me_is.queue in
           good_queued held.mbufs to.fd (record { sender = sender; item = record item { weight = mbuf ⊕ item.weight } })
           to mid
@@ -420,7 +364,7 @@ module _ (c : Config) where
       (λ e g.
       let sender : Addr = record { ip = source; port = u16_at 0 item.bytes } in
       let q : LookupKey = record { local = Some destination; port = Some (u16_at 2 item.bytes); peer = Some sender } in
-      let received = matching_in old destination q (good.distinct) in
+      let received = matching_in old destination q good.sockets.distinct in
       good_goes held sender (record item { bytes = udp_bytes item.bytes }) destination
       (Arrival.matching_sockets old destination q) old new good shorter received.0 received.1 g)
       (λ why e g. good_ends held.mbufs (held.mbufs + item.weight.mbufs) old new why (omega arith) good g))
@@ -446,7 +390,7 @@ module _ (c : Config) where
       (λ e g. go g)
     where
       waiting : IsWaiting c u
-      waiting = (each-find (IsWaiting c) (is_key k) old.unfinished u good.unfinished at).0
+      waiting = (each-find (IsWaiting c) (is_key k) old.unfinished u good.unfinished.each at).0
 
       placed : IsMap c (overlay u.bytes f)
       placed = overlay_is c u.bytes f waiting.bytes fits.carries fits.inside
@@ -460,13 +404,14 @@ module _ (c : Config) where
 
       go : Arrival.Settles exact_ledger held k (overlay u.bytes f) old new → Good c held.mbufs new
       go (inl (n, w, joined, j, arrives)) =
+          let ended : State = Arrival.counts_reassembled (end_unfinished k old) in
           let done = good_finishes (held.mbufs + f.weight.mbufs) k u old good at in
           let less : held.mbufs + joined.mbufs ≤ held.mbufs + f.weight.mbufs + (1 + (weight_of_pieces u.bytes).mbufs) =
           omega (arith, j.mbufs, weighs) in
           good_whole held k.source k.destination k.protocol
-          (record { bytes = bytes_below (overlay u.bytes f) n; weight = joined }) _ new
+          (record { bytes = bytes_below (overlay u.bytes f) n; weight = joined }) ended new
           (less_held (held.mbufs + joined.mbufs) (held.mbufs + f.weight.mbufs + (1 + (weight_of_pieces u.bytes).mbufs))
-          _ less done)
+          ended less done)
           (subst (Carries c joined) (sym (length-map-range_with_len (λ offset. byte_of (overlay u.bytes f offset)) 0 n))
           (record {
             covers = j.covers;
@@ -559,9 +504,7 @@ module _ (c : Config) where
       → Arrival.FragmentArrives exact_ledger origin held head item old new → Good c held.mbufs new
   good_fragment origin held head item old new good is h = by_choice h
       (λ e g. good_ends held.mbufs (held.mbufs + item.weight.mbufs) old new _ (omega arith) good g)
-      (λ e p. good_pulls origin held item.weight (length item.bytes) (Arrival.counts_fragment old) new _
-      (same_rest (held.mbufs + item.weight.mbufs) old (Arrival.counts_fragment old) refl refl refl refl refl refl good)
-      is
+      (λ e p. good_pulls origin held item.weight (length item.bytes) (Arrival.counts_fragment old) new _ good is
       (λ v mid at carries j. good_joins held _ _ mid new at
       (record { carries = carries; inside = ltb-false _ _ (or_parts _ _ e).1 }) j) p)
 
@@ -588,12 +531,10 @@ module _ (c : Config) where
       → Good c (held.mbufs + item.weight.mbufs) old → Carries c item.weight (length item.bytes)
       → Arrival.Arrives exact_ledger origin held item old new → Good c held.mbufs new
   good_arrives origin held item old new good is h =
-      let counted =
-      same_rest (held.mbufs + item.weight.mbufs) old (Arrival.counts_packet old) refl refl refl refl refl refl good in
       by_case h
-      (λ e p. good_passes origin held item (Arrival.counts_packet old) new counted is p)
+      (λ e p. good_passes origin held item (Arrival.counts_packet old) new good is p)
       (λ why e g. good_ends held.mbufs (held.mbufs + item.weight.mbufs) (Arrival.counts_packet old) new why
-      (omega arith) counted g)
+      (omega arith) good g)
 
   pub good_all_arrive : (items : List Item) (old new : State) → Good c (all_of weight_of_item items).mbufs old
       → Each (λ (item : Item). Carries c item.weight (length item.bytes)) items

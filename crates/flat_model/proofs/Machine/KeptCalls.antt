@@ -20,7 +20,7 @@ use Rattle.flat_model.specs.declared.address.Addr.{Addr}
 use Rattle.flat_model.specs.declared.config.Config.{Config}
 use Rattle.flat_model.proofs.Lists.Each.{by_choice, by_case, each-map, each-filter, each-find, none_passed}
 use Rattle.flat_model.proofs.Lists.Totals.{total, zeros, total_le, total_add, spike, total_spike_most, count_cons}
-use Rattle.flat_model.proofs.Machine.Kept.{Good, weight_of_socket}
+use Rattle.flat_model.proofs.Machine.Kept.{Good, weight_of_socket, with_parts}
 use Rattle.flat_model.proofs.Machine.KeptLists.{count-map, count-filter, none_found, mbufs-replaced, mbufs-filter, mbufs-map}
 
 -- ---- sixty-four sockets have the descriptors 3 to 66
@@ -89,28 +89,20 @@ module _ (c : Config) (host : is_ours c c.addr ≡ true) (lo : is_ours c loopbac
       → ((socket : Socket) → (change socket).fd ≡ socket.fd)
       → (all_of weight_of_socket (map (λ (socket : Socket). cond (socket.fd == fd) (change socket) socket)
       s.sockets)).mbufs ≤ (all_of weight_of_socket s.sockets).mbufs → Good c h (change_socket fd change s)
-  changes h fd change s good keeps same less = record {
-    config = good.config;
-    sockets = each-map (IsSocket c) _ (λ socket g. go socket g (socket.fd == fd)) s.sockets good.sockets;
+  changes h fd change s good keeps same less = with_parts good (record {
+    each = each-map (IsSocket c) _ (λ socket g. go socket g (socket.fd == fd)) s.sockets good.sockets.each;
     few =
         omega (
           arith,
-          good.few,
+          good.sockets.few,
           length-map s.sockets
               (λ (socket : Socket). cond (socket.fd == fd) (change socket) socket),
         );
     distinct =
         λ k. let equal =
         count-map (λ (socket : Socket). socket.fd == k) (λ socket. cond (socket.fd == fd) (change socket) socket)
-        (λ socket. fd_same socket k (socket.fd == fd)) s.sockets in omega (arith, good.distinct k);
-    unfinished = good.unfinished;
-    keys = good.keys;
-    output = good.output;
-    short = good.short;
-    last_port = good.last_port;
-    next_id = good.next_id;
-    mbufs = omega (arith, good.mbufs);
-  }
+        (λ socket. fd_same socket k (socket.fd == fd)) s.sockets in omega (arith, good.sockets.distinct k);
+  }) good.unfinished good.output good.numbers (omega (arith, good.mbufs))
     where
       fd_same : (socket : Socket) (k : ℕ) (b : Bool) → ((cond b (change socket) socket).fd == k) ≡ (socket.fd == k)
       fd_same socket k true = ap (λ n. n == k) (same socket)
@@ -153,25 +145,16 @@ module _ (c : Config) (host : is_ours c c.addr ≡ true) (lo : is_ours c loopbac
   gets h old new local None port good small g =
       let here : port ≡ port_after old.last_port g.0.turns = g.0.here in
       let range = port_range old.last_port g.0.turns in (
-        subst (Good c h) (sym g.1) (record {
-          config = good.config;
-          sockets = good.sockets;
-          few = good.few;
-          distinct = good.distinct;
-          unfinished = good.unfinished;
-          keys = good.keys;
-          output = good.output;
-          short = good.short;
+        subst (Good c h) (sym g.1) (with_parts good good.sockets good.unfinished good.output (record {
           last_port = λ p e. let same : port ≡ p = same_Some port p e in
               (omega (arith, range.0), omega (arith, range.1));
-          next_id = good.next_id;
-          mbufs = good.mbufs;
-        }),
+          next_id = good.numbers.next_id;
+        }) good.mbufs),
         record { some = omega (arith, range.0); small = omega (arith, range.1) },
       )
 
   pub found : (h fd : ℕ) (s : State) (me : Socket) → Good c h s → socket_at fd s ≡ Some me → IsSocket c me
-  found h fd s me good e = (each-find (IsSocket c) (λ socket. socket.fd == fd) s.sockets me good.sockets e).0
+  found h fd s me good e = (each-find (IsSocket c) (λ socket. socket.fd == fd) s.sockets me good.sockets.each e).0
 
   pub asked_port : (me : Socket) → IsSocket c me → (p : ℕ) → me.port ≡ Some p → IsPort p
   asked_port me is p e = let r = is.port p e in record { some = r.0; small = r.1 }
@@ -180,9 +163,8 @@ module _ (c : Config) (host : is_ours c c.addr ≡ true) (lo : is_ours c loopbac
 
   pub opens : (old new : State) (reply : Reply) → Good c 0 old → Calls.Opens 64 old reply new → Good c 0 new
   opens old new reply good h = by_choice h
-      (λ e (fd, least, answer, is). subst (Good c 0) (sym is) (record {
-        config = good.config;
-        sockets = (
+      (λ e (fd, least, answer, is). subst (Good c 0) (sym is) (with_parts good (record {
+        each = (
           record {
             least_fd = least.least;
             greatest_fd = lowest_small 0 old fd good (ltb-true (length old.sockets) 64 e) least;
@@ -194,18 +176,11 @@ module _ (c : Config) (host : is_ours c c.addr ≡ true) (lo : is_ours c loopbac
             queued_bytes = omega arith;
             queued = omega arith;
           },
-          good.sockets,
+          good.sockets.each,
         );
         few = let room : length old.sockets < 64 = ltb-true (length old.sockets) 64 e in omega arith;
         distinct = λ k. one fd least k (fd == k) refl;
-        unfinished = good.unfinished;
-        keys = good.keys;
-        output = good.output;
-        short = good.short;
-        last_port = good.last_port;
-        next_id = good.next_id;
-        mbufs = omega (arith, good.mbufs);
-      }))
+      }) good.unfinished good.output good.numbers (omega (arith, good.mbufs))))
       (λ e r. refused old new _ reply good r)
     where
       nothing_at : (fd : ℕ) → IsNone (socket_at fd old) → socket_at fd old ≡ None
@@ -229,32 +204,25 @@ module _ (c : Config) (host : is_ours c c.addr ≡ true) (lo : is_ours c loopbac
           omega (arith, count_cons (λ (socket : Socket). socket.fd == k) (new_socket fd) old.sockets)
       one fd least k false e =
           let here : cond {A = ℕ} (fd == k) 1 0 ≡ 0 = ap (λ b. cond {A = ℕ} b 1 0) e in
-          omega (arith, count_cons (λ (socket : Socket). socket.fd == k) (new_socket fd) old.sockets, good.distinct k)
+          omega (arith, count_cons (λ (socket : Socket). socket.fd == k) (new_socket fd) old.sockets, good.sockets.distinct k)
 
   pub closes : (fd : ℕ) (old new : State) (reply : Reply) → Good c 0 old → Calls.Closes fd old reply new → Good c 0 new
-  closes fd old new reply good h = subst (Good c 0) (sym h.1) (record {
-    config = good.config;
-    sockets = each-filter (IsSocket c) (λ socket. not (socket.fd == fd)) old.sockets good.sockets;
+  closes fd old new reply good h = subst (Good c 0) (sym h.1) (with_parts good (record {
+    each = each-filter (IsSocket c) (λ socket. not (socket.fd == fd)) old.sockets good.sockets.each;
     few =
         omega (
           arith,
-          good.few,
+          good.sockets.few,
           length-filter (λ (socket : Socket). not (socket.fd == fd)) old.sockets,
           count_by-le-length (λ (socket : Socket). not (socket.fd == fd)) old.sockets,
         );
     distinct =
         λ k. let le =
         count-filter (λ (socket : Socket). socket.fd == k) (λ socket. not (socket.fd == fd)) old.sockets in
-        omega (arith, good.distinct k);
-    unfinished = good.unfinished;
-    keys = good.keys;
-    output = good.output;
-    short = good.short;
-    last_port = good.last_port;
-    next_id = good.next_id;
-    mbufs = let le = mbufs-filter weight_of_socket (λ (socket : Socket). not (socket.fd == fd)) old.sockets in
-        omega (arith, good.mbufs);
-  })
+        omega (arith, good.sockets.distinct k);
+  }) good.unfinished good.output good.numbers
+      (let le = mbufs-filter weight_of_socket (λ (socket : Socket). not (socket.fd == fd)) old.sockets in
+      omega (arith, good.mbufs)))
 
   pub binds : (fd : ℕ) (a : Addr) (me : Socket) (old new : State) (reply : Reply) → Good c 0 old → IsAddr a
       → Calls.Binds fd a me old reply new → Good c 0 new
@@ -408,7 +376,7 @@ module _ (c : Config) (host : is_ours c c.addr ≡ true) (lo : is_ours c loopbac
       (λ socket. refl)
       (let now = mbufs-replaced weight_of_socket (λ (socket : Socket). socket.fd == fd)
       (λ socket. record socket { queue = later }) (all_of (λ (x : Datagram). x.item.weight) later).mbufs (λ x. refl)
-      old.sockets me (good.distinct fd) at in
+      old.sockets me (good.sockets.distinct fd) at in
       let all : (weight_of_socket me).mbufs
       ≡ d.item.weight.mbufs + (all_of (λ (x : Datagram). x.item.weight) later).mbufs =
       ap (λ q. (all_of (λ (x : Datagram). x.item.weight) q).mbufs) e in
@@ -424,31 +392,24 @@ module _ (c : Config) (host : is_ours c c.addr ≡ true) (lo : is_ours c loopbac
       subst (Good c 0) (sym h.1) (renames 0 fd _ old good (λ socket s. go option socket s)
       (λ socket. fd_kept option socket) (λ socket. queue_kept option socket))
     where
+      options : (b r : Bool) (socket : Socket) → IsSocket c socket
+          → IsSocket c (record socket { broadcast = b; reuse_port = r })
+      options b r socket s =
+          record {
+            least_fd = s.least_fd;
+            greatest_fd = s.greatest_fd;
+            local = s.local;
+            port = s.port;
+            peer = s.peer;
+            unbound = s.unbound;
+            queue = s.queue;
+            queued_bytes = s.queued_bytes;
+            queued = s.queued;
+          }
+
       go : (option : Opt) (socket : Socket) → IsSocket c socket → IsSocket c (set_option option on socket)
-      go Broadcast socket s =
-          record {
-            least_fd = s.least_fd;
-            greatest_fd = s.greatest_fd;
-            local = s.local;
-            port = s.port;
-            peer = s.peer;
-            unbound = s.unbound;
-            queue = s.queue;
-            queued_bytes = s.queued_bytes;
-            queued = s.queued;
-          }
-      go ReusePort socket s =
-          record {
-            least_fd = s.least_fd;
-            greatest_fd = s.greatest_fd;
-            local = s.local;
-            port = s.port;
-            peer = s.peer;
-            unbound = s.unbound;
-            queue = s.queue;
-            queued_bytes = s.queued_bytes;
-            queued = s.queued;
-          }
+      go Broadcast socket s = options on socket.reuse_port socket s
+      go ReusePort socket s = options socket.broadcast on socket s
 
       fd_kept : (option : Opt) (socket : Socket) → (set_option option on socket).fd ≡ socket.fd
       fd_kept Broadcast socket = refl

@@ -35,7 +35,7 @@ use Rattle.flat_model.proofs.Packets.Sizes.{length-udp}
 use Rattle.flat_model.proofs.Fragments.Grid.{cuts_short}
 use Rattle.flat_model.proofs.Fragments.Overlaid.{pieces_bag}
 use Rattle.flat_model.proofs.Machine.Placed.{ItemFits, parts_fit, items_fit, items_mbufs, length-packet, placed_mbufs, placed_carries, wire_is, wire_some}
-use Rattle.flat_model.proofs.Machine.Kept.{Good, less_held, good_has_buffers, good_lacks, good_ends, good_arrives, good_all_arrive, weight_of_socket, weight_of_unfinished, weight_of_item}
+use Rattle.flat_model.proofs.Machine.Kept.{Good, with_parts, less_held, good_has_buffers, good_lacks, good_ends, good_arrives, good_all_arrive, weight_of_socket, weight_of_unfinished, weight_of_item}
 use Rattle.flat_model.proofs.Machine.KeptLists.{count-map, count-filter, mbufs-append, mbufs-filter, mbufs-map}
 use Rattle.flat_model.proofs.Machine.KeptCalls as KeptCalls
 use Rattle.flat_model.proofs.Machine.KeptCalls.{IsPort}
@@ -93,19 +93,8 @@ module _ (c : Config) (boots : IsConfig c) where
     good_spent h good port =
         KeptCalls.renames c host lo h fd (λ socket. record socket { port = Some x.port })
         (counts_send (parts_of s.config x) s)
-        (record {
-          config = good.config;
-          sockets = good.sockets;
-          few = good.few;
-          distinct = good.distinct;
-          unfinished = good.unfinished;
-          keys = good.keys;
-          output = good.output;
-          short = good.short;
-          last_port = good.last_port;
-          next_id = omega arith;
-          mbufs = good.mbufs;
-        })
+        (with_parts good good.sockets good.unfinished good.output
+        (record { last_port = good.numbers.last_port; next_id = omega arith }) good.mbufs)
         (λ socket g. record {
           least_fd = g.least_fd;
           greatest_fd = g.greatest_fd;
@@ -123,22 +112,14 @@ module _ (c : Config) (boots : IsConfig c) where
   -- packets are appended to the output queue, up to fifty
   good_enqueued : (h : ℕ) (out : List Item) (s : State) → Good c (h + (all_of weight_of_item out).mbufs) s
       → Each (ItemFits c c.mtu) out → Good c h (enqueued out s)
-  good_enqueued h out s good fits = record {
-    config = good.config;
-    sockets = good.sockets;
-    few = good.few;
-    distinct = good.distinct;
-    unfinished = good.unfinished;
-    keys = good.keys;
-    output =
+  good_enqueued h out s good fits = with_parts good good.sockets good.unfinished (record {
+    each =
         each-take (IsOutput c) OUTPUT_QUEUE_PACKETS (s.output ++ out)
-        (each-append (IsOutput c) s.output out good.output (each out fits));
+        (each-append (IsOutput c) s.output out good.output.each (each out fits));
     short = omega (arith, length-take OUTPUT_QUEUE_PACKETS (s.output ++ out));
-    last_port = good.last_port;
-    next_id = good.next_id;
-    mbufs = let le = mbufs-take OUTPUT_QUEUE_PACKETS (s.output ++ out) in
-        let app = mbufs-append weight_of_item s.output out in omega (arith, good.mbufs);
-  }
+  }) good.numbers
+      (let le = mbufs-take OUTPUT_QUEUE_PACKETS (s.output ++ out) in
+      let app = mbufs-append weight_of_item s.output out in omega (arith, good.mbufs))
     where
       each : (xs : List Item) → Each (ItemFits c c.mtu) xs → Each (IsOutput c) xs
       each [] h = tt
@@ -165,15 +146,17 @@ module _ (c : Config) (boots : IsConfig c) where
       let at =
       good_spent fd x [] s (all_of weight_of_item out).mbufs
       (less_held c (all_of weight_of_item out).mbufs (need (length x.bytes) 1536).mbufs s few good) port in
-      good_all_arrive c out _ new (good_enqueued (all_of weight_of_item out).mbufs [] _
-      (less_held c ((all_of weight_of_item out).mbufs + 0) (all_of weight_of_item out).mbufs _ (omega arith) at)
+      let after : State = spent fd x.port (parts_of s.config x) s in
+      good_all_arrive c out _ new (good_enqueued (all_of weight_of_item out).mbufs [] after
+      (less_held c ((all_of weight_of_item out).mbufs + 0) (all_of weight_of_item out).mbufs after (omega arith) at)
       tt) (all_carry 1536 out fits) h
   leaves x fd s new out parts port short false true el eb good fits few h =
       let at =
       good_spent fd x [] s ((all_of weight_of_item out).mbufs + (all_of weight_of_item out).mbufs)
       (less_held c ((all_of weight_of_item out).mbufs + (all_of weight_of_item out).mbufs)
       (need_bcast (length x.bytes)).mbufs s twice good) port in
-      good_all_arrive c out _ new (good_enqueued (all_of weight_of_item out).mbufs out _ at fits)
+      good_all_arrive c out _ new
+      (good_enqueued (all_of weight_of_item out).mbufs out (spent fd x.port (parts_of s.config x) s) at fits)
       (all_carry c.mtu out fits) h
     where
       one : sum_by (need_of_part (sent (length x.bytes))) (drop 1 (cuts (length x.bytes + 8) c.mtu)) ≡ 0
@@ -188,7 +171,7 @@ module _ (c : Config) (boots : IsConfig c) where
       good_spent fd x [] s (0 + (all_of weight_of_item out).mbufs)
       (less_held c (0 + (all_of weight_of_item out).mbufs) (need (length x.bytes) c.mtu).mbufs s
       (omega (arith, few)) good) port in
-      good_all_arrive c [] _ new (good_enqueued 0 out _ at fits) tt h
+      good_all_arrive c [] _ new (good_enqueued 0 out (spent fd x.port (parts_of s.config x) s) at fits) tt h
 
   -- the clusters that were taken exist
   exist : (s : State) (n : ℕ) (clusters : List ℕ) → s.config ≡ c → AreTaken exact_ledger s n clusters
@@ -345,28 +328,19 @@ module _ (c : Config) (boots : IsConfig c) where
           (good_lacks c old mid nothing (need_of (wire (length packet))) good a) (r.no refl)
 
   ticks : (old : State) → Good c 0 old → Good c 0 (ticked old)
-  ticks old good = record {
-    config = good.config;
-    sockets = good.sockets;
-    few = good.few;
-    distinct = good.distinct;
-    unfinished =
+  ticks old good = with_parts good good.sockets (record {
+    each =
         each_with (λ (u : Unfinished). nat_lt 0 u.ticks) waits (map older old.unfinished)
-        (each_older old.unfinished good.unfinished);
+        (each_older old.unfinished good.unfinished.each);
     keys = λ k.
         let fewer = count-filter (is_key k) (λ (u : Unfinished). nat_lt 0 u.ticks) (map older old.unfinished) in
         let same = count-map (is_key k) older (λ u. refl) old.unfinished in
-        omega (arith, good.keys k);
-    output = good.output;
-    short = good.short;
-    last_port = good.last_port;
-    next_id = good.next_id;
-    mbufs =
-        let fewer =
-        mbufs-filter weight_of_unfinished (λ (u : Unfinished). nat_lt 0 u.ticks) (map older old.unfinished) in
-        let same = mbufs-map weight_of_unfinished older (λ u. refl) old.unfinished in
-        omega (arith, good.mbufs);
-  }
+        omega (arith, good.unfinished.keys k);
+  }) good.output good.numbers
+      (let fewer =
+      mbufs-filter weight_of_unfinished (λ (u : Unfinished). nat_lt 0 u.ticks) (map older old.unfinished) in
+      let same = mbufs-map weight_of_unfinished older (λ u. refl) old.unfinished in
+      omega (arith, good.mbufs))
     where
       older : Unfinished → Unfinished
       older u = record u { ticks = u.ticks - 1 }
@@ -384,23 +358,12 @@ module _ (c : Config) (boots : IsConfig c) where
       → Transmits output old reply new → Good c 0 new
   transmits [] old new reply good e h = subst (Good c 0) (sym h.1) good
   transmits (item ∷ later) old new reply good e h =
-      let all : Each (IsOutput c) (item ∷ later) = subst (Each (IsOutput c)) e good.output in
+      let all : Each (IsOutput c) (item ∷ later) = subst (Each (IsOutput c)) e good.output.each in
       let size : length old.output ≡ length (item ∷ later) = ap length e in
       let weight : (all_of weight_of_item old.output).mbufs ≡ (all_of weight_of_item (item ∷ later)).mbufs =
       ap (λ xs. (all_of weight_of_item xs).mbufs) e in
-      subst (Good c 0) (sym h.1) (record {
-        config = good.config;
-        sockets = good.sockets;
-        few = good.few;
-        distinct = good.distinct;
-        unfinished = good.unfinished;
-        keys = good.keys;
-        output = all.1;
-        short = omega (arith, good.short);
-        last_port = good.last_port;
-        next_id = good.next_id;
-        mbufs = omega (arith, good.mbufs);
-      })
+      subst (Good c 0) (sym h.1) (with_parts good good.sockets good.unfinished
+      (record { each = all.1; short = omega (arith, good.output.short) }) good.numbers (omega (arith, good.mbufs)))
 
   on_socket : (fd : ℕ) (old new : State) (reply : Reply) (Call : Socket → Type 0) → Good c 0 old
       → ((me : Socket) → socket_at fd old ≡ Some me → IsSocket c me → Call me → Good c 0 new)
@@ -434,15 +397,10 @@ module _ (c : Config) (boots : IsConfig c) where
   pub boots_good : Good c 0 (boot c)
   boots_good = record {
     config = refl;
-    sockets = tt;
-    few = omega arith;
-    distinct = λ fd. omega arith;
-    unfinished = tt;
-    keys = λ k. omega arith;
-    output = tt;
-    short = omega arith;
-    last_port = λ p e. absurd (none-some p e);
-    next_id = boots.first_id;
+    sockets = record { each = tt; few = omega arith; distinct = λ fd. omega arith };
+    unfinished = record { each = tt; keys = λ k. omega arith };
+    output = record { each = tt; short = omega arith };
+    numbers = record { last_port = λ p e. absurd (none-some p e); next_id = boots.first_id };
     mbufs = omega arith;
   }
 
@@ -456,9 +414,9 @@ each_all_of P w (x ∷ xs) h = each-append P (w x).bag (all_of w xs).bag h.0 (ea
 module _ (c : Config) (s : State) where
   exists_in : Good c 0 s → Each (λ k. k < c.clusters) (weight_of_state s).bag
   exists_in good =
-      each-append P _ _ (each-append P _ _ (each_all_of P weight_of_socket s.sockets (sockets s.sockets good.sockets))
-      (each_all_of P weight_of_unfinished s.unfinished (waiting s.unfinished good.unfinished))) (each_all_of P
-      weight_of_item s.output (output s.output good.output))
+      each-append P _ _ (each-append P _ _ (each_all_of P weight_of_socket s.sockets (sockets s.sockets good.sockets.each))
+      (each_all_of P weight_of_unfinished s.unfinished (waiting s.unfinished good.unfinished.each))) (each_all_of P
+      weight_of_item s.output (output s.output good.output.each))
     where
       P : ℕ → Type 0
       P k = k < c.clusters
@@ -495,15 +453,15 @@ module _ (c : Config) (s : State) where
   is_consistent : IsConfig c → Good c 0 s → IsConsistent s
   is_consistent boots good = record {
     config = subst IsConfig (sym good.config) boots;
-    sockets = subst (λ (cc : Config). Each (IsSocket cc) s.sockets) (sym good.config) good.sockets;
-    few = good.few;
-    distinct = good.distinct;
-    unfinished = subst (λ (cc : Config). Each (IsWaiting cc) s.unfinished) (sym good.config) good.unfinished;
-    keys = good.keys;
-    output = subst (λ (cc : Config). Each (IsOutput cc) s.output) (sym good.config) good.output;
-    short = good.short;
-    last_port = good.last_port;
-    next_id = good.next_id;
+    sockets = subst (λ (cc : Config). Each (IsSocket cc) s.sockets) (sym good.config) good.sockets.each;
+    few = good.sockets.few;
+    distinct = good.sockets.distinct;
+    unfinished = subst (λ (cc : Config). Each (IsWaiting cc) s.unfinished) (sym good.config) good.unfinished.each;
+    keys = good.unfinished.keys;
+    output = subst (λ (cc : Config). Each (IsOutput cc) s.output) (sym good.config) good.output.each;
+    short = good.output.short;
+    last_port = good.numbers.last_port;
+    next_id = good.numbers.next_id;
     mbufs = let total : s.config.mbufs ≡ c.mbufs = ap (λ (cc : Config). cc.mbufs) good.config in
         omega (arith, good.mbufs);
     clusters =
@@ -513,15 +471,10 @@ module _ (c : Config) (s : State) where
 pub is_good : (s : State) → IsConsistent s → Good s.config 0 s
 is_good s is = record {
   config = refl;
-  sockets = is.sockets;
-  few = is.few;
-  distinct = is.distinct;
-  unfinished = is.unfinished;
-  keys = is.keys;
-  output = is.output;
-  short = is.short;
-  last_port = is.last_port;
-  next_id = is.next_id;
+  sockets = record { each = is.sockets; few = is.few; distinct = is.distinct };
+  unfinished = record { each = is.unfinished; keys = is.keys };
+  output = record { each = is.output; short = is.short };
+  numbers = record { last_port = is.last_port; next_id = is.next_id };
   mbufs = omega (arith, is.mbufs);
 }
 
