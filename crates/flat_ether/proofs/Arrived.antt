@@ -1,5 +1,5 @@
 -- The invariant of a host's link still holds after one more frame has arrived.
-use Rattle.std.proofs.Common.{◌≡◌, ◌≢◌, ℕ, Bool, true, false, cond, List, ◌∷◌, Option, Some, None, refl, sym, ap, ◌∙◌, subst}
+use Rattle.std.proofs.Common.{◌≡◌, ◌≢◌, ℕ, Bool, true, false, cond, List, ◌∷◌, Option, Some, None, refl, sym, ap, ◌∙◌}
 use Rattle.std.specs.Prelude.{Contains, ◌==◌, ◌&&◌, ◌||◌, not, is_some}
 use Rattle.std.specs.List.{AllByRecursion as Each}
 use Rattle.std.proofs.lemmas.List.Elements.{All-contains_itself, All-head}
@@ -16,7 +16,7 @@ use Rattle.flat_ether.specs.declared.link.Link.{Link}
 use Rattle.flat_ether.specs.declared.mac.Mac.{Mac}
 use Rattle.flat_ether.specs.declared.neighbour.Neighbour.{Neighbour}
 use Rattle.flat_ether.proofs.Tables.{AreDistinct, new_ip, put_distinct, put_each}
-use Rattle.flat_ether.proofs.Sent.{IsAnswer, IsFromHost, IsGood, IsKnown, IsWaiting, conflict_good, finds_bad_good, later_made, owes_good}
+use Rattle.flat_ether.proofs.Sent.{IsGood, IsKnown, later_made, owes_good}
 
 -- a neighbour is neither this host nor 0
 neighbour_other : (c : Config) (l : Link) (ip : ℕ) → is_neighbour c l ip ≡ true → (ip ≢ c.addr) × (ip ≢ 0)
@@ -38,22 +38,17 @@ module _ (c : Config) (l : Link) (F G : List (List ℕ)) (f : List ℕ) where
   here = All-head (Contains (f ∷ F)) f F (All-contains_itself (f ∷ F))
 
   -- the invariant still holds after one more frame, if the neighbours are known by then
-  later_good : (s t : LinkState) → Good F s → t.config ≡ s.config → t.link ≡ s.link → t.replies ≡ s.replies
-      → t.held ≡ s.held → t.answer ≡ s.answer → t.answer_hop ≡ s.answer_hop
-      → Each (IsKnown c l (f ∷ F) G) t.neighbours → AreDistinct t.neighbours → Good (f ∷ F) t
-  later_good s t good a b r h w o known distinct = record {
-    config = a ∙ good.config;
-    link = b ∙ good.link;
+  later_good : (s : LinkState) (ns : List Neighbour) → Good F s → Each (IsKnown c l (f ∷ F) G) ns → AreDistinct ns
+      → Good (f ∷ F) (record s { neighbours = ns })
+  later_good s ns good known distinct = record {
+    config = good.config;
+    link_is = good.link_is;
     neighbours = known;
     distinct = distinct;
-    replies = subst (Each IsFromHost) (sym r) good.replies;
-    held =
-        subst (Each (IsWaiting c l (f ∷ F) G)) (sym h)
-        (each-weaker (λ x is. record { made = is.made; route = is.route }) s.held good.held);
-    answer =
-        subst (λ hop. Each (IsAnswer c l (f ∷ F) G hop) t.answer) (sym o)
-        (subst (Each (IsAnswer c l (f ∷ F) G s.answer_hop)) (sym w)
-        (each-weaker (λ p is. record { made = later_made c F G f p is.made; route = is.route }) s.answer good.answer));
+    replies = good.replies;
+    held = each-weaker (λ x is. record { made = is.made; route = is.route }) s.held good.held;
+    answered = each-weaker (λ p is. record { made = later_made c F G f p is.made; route = is.route }) s.answer
+        good.answered;
   }
 
   known_later : (n : Neighbour) → ((mac : Mac) → n.mac ≡ Some mac → Learned n.ip ≡ last_given c l n.ip F)
@@ -64,7 +59,7 @@ module _ (c : Config) (l : Link) (F G : List (List ℕ)) (f : List ℕ) where
       → ((n : Neighbour) → (mac : Mac) → n.mac ≡ Some mac → is_neighbour c l n.ip ≡ true
       → Learned n.ip ≡ last_given c l n.ip F) → Good (f ∷ F) s
   all_later s good same =
-      later_good s s good refl refl refl refl refl refl
+      later_good s s.neighbours good
       (each-weaker (λ n is. known_later n (λ mac e. same n mac e (is.near mac e)) is) s.neighbours good.neighbours)
       good.distinct
 
@@ -109,7 +104,7 @@ module _ (c : Config) (l : Link) (F G : List (List ℕ)) (f : List ℕ) where
         near_is : is_neighbour s.config s.link a.ip ≡ is_neighbour c l a.ip
         near_is =
             ap (λ (x : Config). is_neighbour x s.link a.ip) good.config
-            ∙ ap (λ (x : Link). is_neighbour c x a.ip) good.link
+            ∙ ap (λ (x : Link). is_neighbour c x a.ip) good.link_is
 
         known : is_neighbour c l a.ip ≡ true → IsKnown c l (f ∷ F) G (neighbour_from a)
         known near = record {
@@ -122,7 +117,7 @@ module _ (c : Config) (l : Link) (F G : List (List ℕ)) (f : List ℕ) where
         puts : is_neighbour c l a.ip ≡ true → Good (f ∷ F)
             (record s { neighbours = put (neighbour_from a) s.neighbours })
         puts near =
-            later_good s _ good refl refl refl refl refl refl
+            later_good s (put (neighbour_from a) s.neighbours) good
             (put_each (IsKnown c l (f ∷ F) G) (neighbour_from a) s.neighbours (known near) good.distinct
             (each-weaker (λ n is other. known_later n (λ mac e. other_learned n.ip other) is) s.neighbours
             good.neighbours))
@@ -130,7 +125,7 @@ module _ (c : Config) (l : Link) (F G : List (List ℕ)) (f : List ℕ) where
 
         stays_new : neighbour_place a.ip s.neighbours ≡ None → Good (f ∷ F) s
         stays_new e =
-            later_good s s good refl refl refl refl refl refl
+            later_good s s.neighbours good
             (each-both (λ n other is. known_later n (λ mac x. other_learned n.ip other) is) s.neighbours
             (new_ip a.ip s.neighbours e) good.neighbours) good.distinct
 
@@ -168,7 +163,7 @@ module _ (c : Config) (l : Link) (F G : List (List ℕ)) (f : List ℕ) where
     receives_good s good = go (is_sound_arp s.link (body_of f)) refl
       where
         sound_is : is_sound_arp l (body_of f) ≡ is_sound_arp s.link (body_of f)
-        sound_is = ap (λ (x : Link). is_sound_arp x (body_of f)) (sym good.link)
+        sound_is = ap (λ (x : Link). is_sound_arp x (body_of f)) (sym good.link_is)
 
         from_host : is_sound_arp l (body_of f) ≡ true → is_host_mac a.mac ≡ true
         from_host sound =
@@ -178,8 +173,7 @@ module _ (c : Config) (l : Link) (F G : List (List ℕ)) (f : List ℕ) where
             → Good (f ∷ F) (cond b (queues_reply (arp_of (body_of f)) (counts_conflict s))
             (queues_reply (arp_of (body_of f)) (learns (arp_of (body_of f)) s)))
         inner sound true e =
-            owes_good c l (f ∷ F) G a (counts_conflict s) (from_host sound)
-            (conflict_good c l (f ∷ F) G s (conflict_others s good e))
+            owes_good c l (f ∷ F) G a (counts_conflict s) (from_host sound) (conflict_others s good e)
         inner sound false e = owes_good c l (f ∷ F) G a (learns a s) (from_host sound) (learns_good s good sound)
 
         go : (b : Bool) → is_sound_arp s.link (body_of f) ≡ b
@@ -187,4 +181,4 @@ module _ (c : Config) (l : Link) (F G : List (List ℕ)) (f : List ℕ) where
             (queues_reply (arp_of (body_of f)) (counts_conflict s))
             (queues_reply (arp_of (body_of f)) (learns (arp_of (body_of f)) s))) (counts_bad_arp s))
         go true e = inner (sound_is ∙ e) (is_conflict s (arp_of (body_of f))) refl
-        go false e = finds_bad_good c l (f ∷ F) G s (unsound_good s good (sound_is ∙ e))
+        go false e = unsound_good s good (sound_is ∙ e)

@@ -19,7 +19,7 @@ use Rattle.flat_ether.specs.declared.error.NetFault.{NetFault}
 use Rattle.flat_model.specs.declared.counter.Counter.TheVariants.{IpNoproto}
 use Rattle.flat_model.specs.declared.errno.Errno.{Errno}
 use Rattle.flat_ether.specs.Laws.{AreSent, IsFrameSent, MakesTurns, arp_if, frame_out, frames_then, packet_if, packets_in, packets_to}
-use Rattle.flat_ether.specs.Links.{Gives, LinkState, answers_with, gives_claim, gives_own, adds_error_if, sends, ticks}
+use Rattle.flat_ether.specs.Links.{Gives, LinkState, answers_with, gives_claim, gives_own, adds_error_if, ignores, receives_arp, refuses, sends, takes_error, ticks}
 use Rattle.flat_ether.specs.declared.link.Link.{Link}
 use Rattle.flat_ether.specs.declared.link.FrameKind.{FrameKind}
 use Rattle.flat_ether.specs.declared.link.FrameKind.TheVariants.{Packet, Martian, Arp, Other}
@@ -35,16 +35,16 @@ module _ (c : Config) (l : Link) where
   more_good : (F G G' : List (List ℕ)) (s : LinkState) → Good F G s → Good F (G ++ G') s
   more_good F G G' s good = record {
     config = good.config;
-    link = good.link;
+    link_is = good.link_is;
     neighbours = each-weaker (λ n is. record { learned = is.learned; near = is.near }) s.neighbours good.neighbours;
     distinct = good.distinct;
     replies = good.replies;
     held =
         each-weaker (λ h is. record { made = Contains-append_left G G' h.packet is.made; route = is.route }) s.held
         good.held;
-    answer =
+    answered =
         each-weaker (λ p is. record { made = Sent.more_made c l F G G' p is.made; route = is.route }) s.answer
-        good.answer;
+        good.answered;
   }
 
   -- An act on a machine and its link, after these frames arrived and these packets were given: `then'` are the frames
@@ -199,7 +199,7 @@ module _ (c : Config) (l : Link) where
       kinds : kind_of old.link.config old.link.link.mac f ≡ kind_of c l.mac f
       kinds =
           ap (λ (x : Config). kind_of x old.link.link.mac f) good.config
-          ∙ ap (λ (x : Link). kind_of c x.mac f) good.link
+          ∙ ap (λ (x : Link). kind_of c x.mac f) good.link_is
 
       here : Contains (f ∷ F) f
       here = contains_last [] f F
@@ -213,7 +213,8 @@ module _ (c : Config) (l : Link) where
           (answers_with (answer_to old.link.config (body_of f) old.machine new.machine) (body_of f)
           old.link)) old.link)
       taken wide true =
-          Sent.adds_error_if_good c l (f ∷ F) (G ++ []) (counted_more IpNoproto old.machine new.machine) (body_of f) _
+          Sent.adds_error_if_good c l (f ∷ F) (G ++ []) (counted_more IpNoproto old.machine new.machine) (body_of f)
+          (answers_with (answer_to old.link.config (body_of f) old.machine new.machine) (body_of f) old.link)
           (Sent.answers_good c l (f ∷ F) (G ++ []) f (answer_to old.link.config (body_of f) old.machine new.machine)
           old.link wide here)
       taken wide false = wide
@@ -246,14 +247,12 @@ module _ (c : Config) (l : Link) where
             sent = tt;
           }
           by Martian k h =
-              still _ h (Sent.refuses_good c l (f ∷ F) (G ++ []) old.link
-              (wider (ap (λ (x : FrameKind). arp_if x f) k)))
+              still (refuses old.link) h (wider (ap (λ (x : FrameKind). arp_if x f) k))
           by Arp k h =
-              still _ h (same (f ∷ F) G _
+              still (receives_arp (body_of f) old.link) h (same (f ∷ F) G (receives_arp (body_of f) old.link)
               (Arrived.receives_good c l F G f (ap (λ (x : FrameKind). arp_if x f) k) old.link good))
           by Other k h =
-              still _ h (Sent.ignores_good c l (f ∷ F) (G ++ []) old.link
-              (wider (ap (λ (x : FrameKind). arp_if x f) k)))
+              still (ignores old.link) h (wider (ap (λ (x : FrameKind). arp_if x f) k))
   act_makes F G old new (Goes_out f) good is =
       subst (λ (x : Option (List ℕ) × Host). Makes F G F old.machine x.1.machine x.1.link [] (option_to_list x.0))
       (sym is) (gives_makes F G old good)
@@ -261,7 +260,7 @@ module _ (c : Config) (l : Link) where
     turns = record { event = Tick; reply = Done } ∷ [];
     leads = (tt, new.machine, is.machine, refl);
     in' = refl;
-    good = subst (Good F (G ++ [])) (sym is.link) (same F G _ (Sent.ticks_good c l F G old.link good));
+    good = subst (Good F (G ++ [])) (sym is.link) (same F G (ticks old.link) (Sent.ticks_good c l F G old.link good));
     sent = tt;
   }
   act_makes F G old new (Calls turn) good is = record {
@@ -278,7 +277,9 @@ module _ (c : Config) (l : Link) where
       go : (me : Option Socket) → Makes F G F old.machine (error_of_socket me old).1.machine
           (error_of_socket me old).1.link [] []
       go None = quiet F G old.machine old.machine old.link refl good
-      go (Some me) = quiet F G old.machine old.machine _ refl (Sent.takes_good c l F G me.port me.peer old.link good)
+      go (Some me) =
+          quiet F G old.machine old.machine (takes_error me.port me.peer old.link).1 refl
+          (Sent.takes_good c l F G me.port me.peer old.link good)
   act_makes F G old new Ages good is =
       subst (λ (h : Host). Makes F G F old.machine h.machine h.link [] []) (sym is)
       (quiet F G old.machine old.machine (ticks old.link) refl (Sent.ticks_good c l F G old.link good))
@@ -332,12 +333,12 @@ module _ (c : Config) (l : Link) where
   up_good =
       record {
         config = refl;
-        link = refl;
+        link_is = refl;
         neighbours = tt;
         distinct = tt;
         replies = tt;
         held = tt;
-        answer = tt;
+        answered = tt;
       }
 
   -- the machine gave each packet that waits

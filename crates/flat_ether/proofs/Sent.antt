@@ -10,14 +10,14 @@ use Rattle.flat_model.specs.declared.config.Config.{Config}
 use Rattle.flat_model.specs.Machine.Count.{more_by}
 use Rattle.flat_model.specs.Packets.Header.{head_of}
 use Rattle.flat_model.proofs.Laws.{each-append, each-both, each-filter, each-map, each-take, each-weaker}
-use Rattle.flat_ether.specs.Claims.{claim_due, claim_sent}
+use Rattle.flat_ether.specs.Claims.{claim_due}
 use Rattle.flat_ether.specs.Errors.{error_at, error_in}
 use Rattle.flat_ether.specs.declared.error.SocketError.{SocketError}
 use Rattle.flat_model.specs.declared.address.Addr.{Addr}
 use Rattle.flat_ether.specs.Frames.{arp_bytes, arp_of, body_of, ether_broadcast, frame, is_arp, is_host_mac, kind_of, no_mac, same_mac}
 use Rattle.flat_ether.specs.Icmp.{echo_message, echo_reply, port_unreachable, reflected, unreachable_message}
 use Rattle.flat_ether.specs.Laws.{IsMade, IsReply, IsRoute, IsFrameSent, arp_if, last_given, is_arp_from, given_in}
-use Rattle.flat_ether.specs.Links.{Gives, WaitingPacket, LinkState, ages, neighbour_aged, answers_by, answers_now, answers_on, answers_with, asked_at, asks, asks_at, by_route, claim_frame, drops_first, counts_bad_arp, counts_conflict, counts_too_long, counts_icmp_dropped, counts_no_route, first_ready, gives_answer, gives_claim, gives_held, gives_own, gives_reply, gives_request, is_resolvable, has_ip, holds_packet, ignores, is_answering, is_asked, is_busy, is_request_due, is_sound_arp, limits, makes_way, mac_known, mac_in, adds_error_if, adds_error, takes_at, takes_error, mac_of, or_then, queues_reply, neighbour_place, put, puts_answer, puts_echo, puts_unreachable, ready_or, refuses, replies_to, sends, sends_answer, sends_at, sends_held, neighbour_stays, takes_place, ticks, to_hop, unknown, route_of, route_to}
+use Rattle.flat_ether.specs.Links.{Gives, WaitingPacket, LinkState, ages, neighbour_aged, answers_by, answers_now, answers_on, answers_with, asked_at, asks, asks_at, by_route, claim_frame, drops_first, counts_too_long, counts_icmp_dropped, first_ready, gives_answer, gives_claim, gives_held, gives_own, gives_reply, gives_request, is_resolvable, has_ip, holds_packet, is_answering, is_asked, is_busy, is_request_due, is_sound_arp, limits, makes_way, mac_known, mac_in, adds_error_if, adds_error, takes_at, takes_error, mac_of, or_then, queues_reply, neighbour_place, put, puts_answer, puts_echo, puts_unreachable, ready_or, replies_to, sends, sends_answer, sends_at, sends_held, neighbour_stays, takes_place, ticks, to_hop, unknown, route_of, route_to}
 use Rattle.flat_ether.specs.Routes.{is_neighbour, route}
 use Rattle.flat_ether.specs.declared.answer.Answer.{Answer}
 use Rattle.flat_ether.specs.declared.answer.Answer.TheVariants.{Echo, Unreachable, Silence}
@@ -112,14 +112,33 @@ module _ (c : Config) (l : Link) (F G : List (List ℕ)) where
     pub made : IsMade c F G p
     pub route : route_to c l p ≡ Hop hop
 
-  pub record IsGood (s : LinkState) : Type 0 where
-    pub config : s.config ≡ c
-    pub link : s.link ≡ l
-    pub neighbours : Each IsKnown s.neighbours
-    pub distinct : AreDistinct s.neighbours
-    pub replies : Each IsFromHost s.replies
-    pub held : Each IsWaiting s.held
-    pub answer : Each (IsAnswer s.answer_hop) s.answer
+  pub record Parts (own : Config) (link : Link) (ns : List Neighbour) (rs : List PendingReply) (hs : List WaitingPacket)
+      (hop : ℕ) (answer : List (List ℕ)) : Type 0 where
+    pub config : own ≡ c
+    pub link_is : link ≡ l
+    pub neighbours : Each IsKnown ns
+    pub distinct : AreDistinct ns
+    pub replies : Each IsFromHost rs
+    pub held : Each IsWaiting hs
+    pub answered : Each (IsAnswer hop) answer
+
+  -- by parts, so that a change of anything else needs no proof
+  abbrev pub IsGood : LinkState → Type 0
+  IsGood s = Parts s.config s.link s.neighbours s.replies s.held s.answer_hop s.answer
+
+  with_parts : {own : Config} {link : Link} {ns ns' : List Neighbour} {rs rs' : List PendingReply}
+      {hs hs' : List WaitingPacket} {hop hop' : ℕ} {answer answer' : List (List ℕ)}
+      → Parts own link ns rs hs hop answer → Each IsKnown ns' → AreDistinct ns' → Each IsFromHost rs'
+      → Each IsWaiting hs' → Each (IsAnswer hop') answer' → Parts own link ns' rs' hs' hop' answer'
+  with_parts good neighbours distinct replies held answered = record {
+    config = good.config;
+    link_is = good.link_is;
+    neighbours = neighbours;
+    distinct = distinct;
+    replies = replies;
+    held = held;
+    answered = answered;
+  }
 
   pub record IsGiven (g : Gives) : Type 0 where
     pub good : IsGood g.1
@@ -162,7 +181,7 @@ module _ (c : Config) (l : Link) (F G : List (List ℕ)) where
   route_is : (s : LinkState) (packet : List ℕ) (w : Route) → IsGood s → route_of s packet ≡ w → route_to c l packet ≡ w
   route_is s packet w good e =
       ap (λ (x : Config). route_to x l packet) (sym good.config)
-      ∙ ap (λ (x : Link). route_to s.config x packet) (sym good.link) ∙ e
+      ∙ ap (λ (x : Link). route_to s.config x packet) (sym good.link_is) ∙ e
 
   carried : (s : LinkState) (packet : List ℕ) (mac : Mac) → IsGood s → IsMade c F G packet → IsRoute c l F packet mac
       → (f : List ℕ)
@@ -170,7 +189,7 @@ module _ (c : Config) (l : Link) (F G : List (List ℕ)) where
   carried s packet mac good made route f e = inr (record {
     packet = packet;
     mac = mac;
-    frame_is = sym (same_Some _ f e) ∙ ap (λ (x : Link). frame mac x.mac 0x0800 packet) good.link;
+    frame_is = sym (same_Some _ f e) ∙ ap (λ (x : Link). frame mac x.mac 0x0800 packet) good.link_is;
     made = made;
     route = route;
   })
@@ -179,42 +198,18 @@ module _ (c : Config) (l : Link) (F G : List (List ℕ)) where
       → IsWaiting (record { hop = hop; packet = packet }) → IsGood (holds_packet hop packet s)
   holds_good hop packet s good is =
       by_test IsGood (nat_lt 1500 (length packet)) (counts_too_long s)
-      (takes_place hop packet (cond (nat_lt (length s.held) 8) s (drops_first s)))
-      (record {
-        config = good.config;
-        link = good.link;
-        neighbours = good.neighbours;
-        distinct = good.distinct;
-        held = good.held;
-        answer = good.answer;
-        replies = good.replies;
-      })
+      (takes_place hop packet (cond (nat_lt (length s.held) 8) s (drops_first s))) good
       (takes (cond (nat_lt (length s.held) 8) s (drops_first s)) room)
     where
       room : IsGood (cond (nat_lt (length s.held) 8) s (drops_first s))
       room = by_test IsGood (nat_lt (length s.held) 8) s (drops_first s) good
-          (record {
-            config = good.config;
-            link = good.link;
-            neighbours = good.neighbours;
-            distinct = good.distinct;
-            held = each-drop IsWaiting 1 s.held good.held;
-            answer = good.answer;
-            replies = good.replies;
-          })
+          (with_parts good good.neighbours good.distinct good.replies (each-drop IsWaiting 1 s.held good.held)
+          good.answered)
 
       takes : (t : LinkState) → IsGood t → IsGood (takes_place hop packet t)
       takes t g =
-          record {
-            config = g.config;
-            link = g.link;
-            neighbours = g.neighbours;
-            distinct = g.distinct;
-            held =
-                each-append IsWaiting t.held (record { hop = hop; packet = packet } ∷ []) g.held (is, tt);
-            answer = g.answer;
-            replies = g.replies;
-          }
+          with_parts g g.neighbours g.distinct g.replies
+          (each-append IsWaiting t.held (record { hop = hop; packet = packet } ∷ []) g.held (is, tt)) g.answered
 
   no_mac_known : (ip : ℕ) → IsKnown (unknown ip)
   no_mac_known ip = record { learned = λ mac e. absurd (none-some mac e); near = λ mac e. absurd (none-some mac e) }
@@ -224,17 +219,8 @@ module _ (c : Config) (l : Link) (F G : List (List ℕ)) where
       by_test IsGood (is_some (neighbour_place hop s.neighbours)) s
       (record s { neighbours = put (unknown hop) s.neighbours })
       good
-      (record {
-        config = good.config;
-        link = good.link;
-        neighbours =
-            put_good (unknown hop) s.neighbours (no_mac_known hop) good.distinct good.neighbours;
-        distinct =
-            put_distinct (unknown hop) s.neighbours good.distinct;
-        held = good.held;
-        answer = good.answer;
-        replies = good.replies;
-      })
+      (with_parts good (put_good (unknown hop) s.neighbours (no_mac_known hop) good.distinct good.neighbours)
+      (put_distinct (unknown hop) s.neighbours good.distinct) good.replies good.held good.answered)
 
   pub sends_given : (packet : List ℕ) (s : LinkState) → IsGood s → Contains G packet → IsGiven (sends packet s)
   sends_given packet s good made = by (route_of s packet) refl
@@ -242,7 +228,7 @@ module _ (c : Config) (l : Link) (F G : List (List ℕ)) where
       to : (hop : ℕ) (mac : Option Mac) → route_of s packet ≡ Hop hop → mac_of hop s.neighbours ≡ mac
           → IsGiven (to_hop hop packet s mac)
       to hop None w e =
-          nothing _ (asks_good hop (holds_packet hop packet s)
+          nothing (asks hop (holds_packet hop packet s)) (asks_good hop (holds_packet hop packet s)
           (holds_good hop packet s good (record { made = made; route = route_is s packet (Hop hop) good w })))
       to hop (Some mac) w e = record {
         good = good;
@@ -259,16 +245,7 @@ module _ (c : Config) (l : Link) (F G : List (List ℕ)) where
                 (inl (route_is s packet All good e, refl));
           }
       by (Hop hop) e = to hop (mac_of hop s.neighbours) e refl
-      by NoRoute e =
-          nothing _ (record {
-            config = good.config;
-            link = good.link;
-            neighbours = good.neighbours;
-            distinct = good.distinct;
-            held = good.held;
-            answer = good.answer;
-            replies = good.replies;
-          })
+      by NoRoute e = record { good = good; sent = λ f e. absurd (none-some f e) }
 
   -- ---- the link's own frames
 
@@ -286,7 +263,7 @@ module _ (c : Config) (l : Link) (F G : List (List ℕ)) where
     target = target;
     frame_is =
         sym (same_Some _ f e) ∙ ap (λ (x : Link). frame to x.mac 0x0806 (arp_bytes op x.mac sender target_mac target))
-        good.link;
+        good.link_is;
   })
     where
       go : (sender ≡ s.config.addr) ⊎ (sender ≡ 0) → (sender ≡ c.addr) ⊎ (sender ≡ 0)
@@ -296,28 +273,16 @@ module _ (c : Config) (l : Link) (F G : List (List ℕ)) where
   pub claim_given : (s : LinkState) → IsGood s → IsGiven (gives_claim s)
   claim_given s good = go (claim_due s.claim)
     where
-      sent : IsGood (record s { claim = claim_sent s.claim })
-      sent =
-          record {
-            config = good.config;
-            link = good.link;
-            neighbours = good.neighbours;
-            distinct = good.distinct;
-            held = good.held;
-            answer = good.answer;
-            replies = good.replies;
-          }
-
       go : (due : ClaimFrame) → IsGiven (claim_frame due s)
       go Nothing = nothing s good
       go Probe =
           record {
-            good = sent;
+            good = good;
             sent = arp_sent s 1 0 ether_broadcast no_mac s.config.addr good (inr refl) (inl refl);
           }
       go Announcement =
           record {
-            good = sent;
+            good = good;
             sent = arp_sent s 1 s.config.addr ether_broadcast no_mac s.config.addr good (inl refl) (inl refl);
           }
 
@@ -327,16 +292,7 @@ module _ (c : Config) (l : Link) (F G : List (List ℕ)) where
       go : (replies : List PendingReply) → Each IsFromHost replies → IsGiven (replies_to replies s)
       go [] h = nothing s good
       go (o ∷ later) h = record {
-        good =
-            record {
-              config = good.config;
-              link = good.link;
-              neighbours = good.neighbours;
-              distinct = good.distinct;
-              replies = h.1;
-              held = good.held;
-              answer = good.answer;
-            };
+        good = with_parts good good.neighbours good.distinct h.1 good.held good.answered;
         sent = arp_sent s 2 s.config.addr o.mac o.mac o.ip good (inl refl) (inr h.0);
       }
 
@@ -354,18 +310,11 @@ module _ (c : Config) (l : Link) (F G : List (List ℕ)) where
       go (Some at) =
           let n : Neighbour = get_or s.neighbours at (unknown 0) in
           record {
-            good = record {
-              config = good.config;
-              link = good.link;
-              neighbours =
-                  each_again IsKnown (λ m is. record { learned = is.learned; near = is.near }) s.neighbours at
-                  (unknown 0)
-                  good.neighbours;
-              distinct = distinct_again s.neighbours at (unknown 0) good.distinct;
-              held = good.held;
-              answer = good.answer;
-              replies = good.replies;
-            };
+            good =
+                with_parts good
+                (each_again IsKnown (λ m is. record { learned = is.learned; near = is.near }) s.neighbours at (unknown 0)
+                good.neighbours) (distinct_again s.neighbours at (unknown 0) good.distinct) good.replies good.held
+                good.answered;
             sent =
                 arp_sent s 1 s.config.addr (asked_at n.mac) no_mac n.ip good (inl refl)
                 (asked_host n (each-or IsKnown s.neighbours at (unknown 0) good.neighbours (no_mac_known 0)) n.mac
@@ -407,16 +356,8 @@ module _ (c : Config) (l : Link) (F G : List (List ℕ)) where
           let same : is.h ≡ h = same_Some is.h h (sym is.at ∙ e) in
           let waits : IsWaiting h = each-get IsWaiting s.held at h good.held e in
           record {
-            good =
-                record {
-                  config = good.config;
-                  link = good.link;
-                  neighbours = good.neighbours;
-                  distinct = good.distinct;
-                  held = each-remove IsWaiting s.held at good.held;
-                  answer = good.answer;
-                  replies = good.replies;
-                };
+            good = with_parts good good.neighbours good.distinct good.replies (each-remove IsWaiting s.held at good.held)
+                good.answered;
             sent =
                 carried s h.packet mac good (inl waits.made)
                 (inr (
@@ -442,17 +383,10 @@ module _ (c : Config) (l : Link) (F G : List (List ℕ)) where
       go (Some packet) None e m = nothing s good
       go (Some packet) (Some mac) e m =
           let is : IsAnswer s.answer_hop packet =
-          each-get (IsAnswer s.answer_hop) s.answer 0 packet good.answer e in
+          each-get (IsAnswer s.answer_hop) s.answer 0 packet good.answered e in
           record {
-            good = record {
-              config = good.config;
-              link = good.link;
-              neighbours = good.neighbours;
-              distinct = good.distinct;
-              replies = good.replies;
-              held = good.held;
-              answer = each-drop (IsAnswer s.answer_hop) 1 s.answer good.answer;
-            };
+            good = with_parts good good.neighbours good.distinct good.replies good.held
+                (each-drop (IsAnswer s.answer_hop) 1 s.answer good.answered);
             sent =
                 carried s packet mac good is.made
                 (inr (s.answer_hop, is.route, known_mac s.answer_hop mac s.neighbours good.neighbours m));
@@ -477,48 +411,16 @@ module _ (c : Config) (l : Link) (F G : List (List ℕ)) where
 
   -- ---- frames that arrive, and the clock
 
-  -- a change that no packet and no address depends on
-  same_good : (s t : LinkState) → IsGood s → t.config ≡ s.config → t.link ≡ s.link → t.neighbours ≡ s.neighbours
-      → t.replies ≡ s.replies → t.held ≡ s.held → t.answer ≡ s.answer → t.answer_hop ≡ s.answer_hop → IsGood t
-  same_good s t good a b n r h w o = record {
-    config = a ∙ good.config;
-    link = b ∙ good.link;
-    neighbours = subst (Each IsKnown) (sym n) good.neighbours;
-    distinct = subst AreDistinct (sym n) good.distinct;
-    replies = subst (Each IsFromHost) (sym r) good.replies;
-    held = subst (Each IsWaiting) (sym h) good.held;
-    answer =
-        subst (λ hop. Each (IsAnswer hop) t.answer) (sym o) (subst (Each (IsAnswer s.answer_hop)) (sym w) good.answer);
-  }
-
-  pub ignores_good : (s : LinkState) → IsGood s → IsGood (ignores s)
-  ignores_good s good = same_good s _ good refl refl refl refl refl refl refl
-
-  pub refuses_good : (s : LinkState) → IsGood s → IsGood (refuses s)
-  refuses_good s good = same_good s _ good refl refl refl refl refl refl refl
-
-  pub finds_bad_good : (s : LinkState) → IsGood s → IsGood (counts_bad_arp s)
-  finds_bad_good s good = same_good s _ good refl refl refl refl refl refl refl
-
-  pub conflict_good : (s : LinkState) → IsGood s → IsGood (counts_conflict s)
-  conflict_good s good = same_good s _ good refl refl refl refl refl refl refl
-
   pub owes_good : (a : Arp) (s : LinkState) → is_host_mac a.mac ≡ true → IsGood s → IsGood (queues_reply a s)
   owes_good a s host good = go (is_asked s a)
     where
       inner : (b : Bool) → IsGood (cond b (record s { replies = s.replies ++ record { mac = a.mac; ip = a.ip } ∷ [] })
           (record s { tallies = record s.tallies { replies_dropped = more_by 1 s.tallies.replies_dropped } }))
-      inner true = record {
-        config = good.config;
-        link = good.link;
-        neighbours = good.neighbours;
-        distinct = good.distinct;
-        replies =
-            each-append IsFromHost s.replies (record { mac = a.mac; ip = a.ip } ∷ []) good.replies (host, tt);
-        held = good.held;
-        answer = good.answer;
-      }
-      inner false = same_good s _ good refl refl refl refl refl refl refl
+      inner true =
+          with_parts good good.neighbours good.distinct
+          (each-append IsFromHost s.replies (record { mac = a.mac; ip = a.ip } ∷ []) good.replies (host, tt)) good.held
+          good.answered
+      inner false = good
 
       go : (b : Bool) → IsGood (cond b
           (cond (nat_lt (length s.replies) 8)
@@ -529,7 +431,7 @@ module _ (c : Config) (l : Link) (F G : List (List ℕ)) where
 
   adds_error_good : (e : Option SocketError) (s : LinkState) → IsGood s → IsGood (adds_error e s)
   adds_error_good None s good = good
-  adds_error_good (Some e) s good = same_good s _ good refl refl refl refl refl refl refl
+  adds_error_good (Some e) s good = good
 
   pub adds_error_if_good : (b : Bool) (came : List ℕ) (s : LinkState) → IsGood s → IsGood (adds_error_if b came s)
   adds_error_if_good true came s good = adds_error_good (error_in s.config came) s good
@@ -537,7 +439,7 @@ module _ (c : Config) (l : Link) (F G : List (List ℕ)) where
 
   takes_at_good : (at : Option ℕ) (s : LinkState) → IsGood s → IsGood (takes_at at s).1
   takes_at_good None s good = good
-  takes_at_good (Some at) s good = same_good s _ good refl refl refl refl refl refl refl
+  takes_at_good (Some at) s good = good
 
   pub takes_good : (port : Option ℕ) (peer : Option Addr) (s : LinkState) → IsGood s
       → IsGood (takes_error port peer s).1
@@ -549,51 +451,29 @@ module _ (c : Config) (l : Link) (F G : List (List ℕ)) where
   ticks_good s good =
       by_test IsGood (is_answering (ages s) && not (is_some (neighbour_place s.answer_hop (ages s).neighbours)))
       (counts_icmp_dropped (record (ages s) { answer = [] })) (ages s)
-      (record {
-        config = aged.config;
-        link = aged.link;
-        neighbours = aged.neighbours;
-        distinct = aged.distinct;
-        replies = aged.replies;
-        held = aged.held;
-        answer = tt;
-      }) aged
+      (with_parts aged aged.neighbours aged.distinct aged.replies aged.held tt) aged
     where
       aged : IsGood (ages s)
-      aged = record {
-        config = good.config;
-        link = good.link;
-        neighbours =
-            each-filter IsKnown neighbour_stays (map neighbour_aged s.neighbours)
-            (each-map IsKnown neighbour_aged (λ n is. record { learned = is.learned; near = is.near }) s.neighbours
-            good.neighbours);
-        distinct = distinct_stays s.neighbours good.distinct;
-        replies = good.replies;
-        held =
-            each-filter IsWaiting (is_resolvable (filter neighbour_stays (map neighbour_aged s.neighbours))) s.held
-            good.held;
-        answer = good.answer;
-      }
+      aged =
+          with_parts good
+          (each-filter IsKnown neighbour_stays (map neighbour_aged s.neighbours)
+          (each-map IsKnown neighbour_aged (λ n is. record { learned = is.learned; near = is.near }) s.neighbours
+          good.neighbours))
+          (distinct_stays s.neighbours good.distinct) good.replies
+          (each-filter IsWaiting (is_resolvable (filter neighbour_stays (map neighbour_aged s.neighbours))) s.held
+          good.held)
+          good.answered
 
   -- ---- a reply is put in its place
 
   way_good : (s : LinkState) → IsGood s → IsGood (makes_way s)
-  way_good s good =
-      by_test IsGood (is_answering s) (counts_icmp_dropped s) s
-      (same_good s (counts_icmp_dropped s) good refl refl refl refl refl refl refl) good
+  way_good s good = by_test IsGood (is_answering s) (counts_icmp_dropped s) s good good
 
   puts_good : (hop : ℕ) (packets : List (List ℕ)) (s : LinkState) → IsGood s → Each (IsAnswer hop) packets
       → IsGood (puts_answer hop packets s)
   puts_good hop packets s good is =
-      asks_good hop (record s { answer = packets; answer_hop = hop; answer_id = (s.answer_id + 1) % 65536 }) (record {
-        config = good.config;
-        link = good.link;
-        neighbours = good.neighbours;
-        distinct = good.distinct;
-        replies = good.replies;
-        held = good.held;
-        answer = is;
-      })
+      asks_good hop (record s { answer = packets; answer_hop = hop; answer_id = (s.answer_id + 1) % 65536 })
+      (with_parts good good.neighbours good.distinct good.replies good.held is)
 
   answered : (hop id : ℕ) (f body : List ℕ) → IsReply c F (reflected c id (body_of f) body)
       → route c l (head_of (body_of f)).source ≡ Hop hop
@@ -606,24 +486,17 @@ module _ (c : Config) (l : Link) (F G : List (List ℕ)) where
   echo_good : (hop : ℕ) (f : List ℕ) (s : LinkState) → IsGood s → Contains F f
       → route c l (head_of (body_of f)).source ≡ Hop hop → IsGood (puts_echo hop (body_of f) s)
   echo_good hop f s good came e =
-      same_good (puts_answer hop (echo_reply s.config s.answer_id (body_of f)) s) _
-      (puts_good hop (echo_reply s.config s.answer_id (body_of f)) s good
+      puts_good hop (echo_reply s.config s.answer_id (body_of f)) s good
       (subst (λ (x : Config). Each (IsAnswer hop) (echo_reply x s.answer_id (body_of f))) (sym good.config)
-      (answered hop s.answer_id f (echo_message (body_of f)) (f, came, s.answer_id, inl refl) e)))
-      refl refl refl refl refl refl refl
+      (answered hop s.answer_id f (echo_message (body_of f)) (f, came, s.answer_id, inl refl) e))
 
   unreachable_good : (hop : ℕ) (f : List ℕ) (s : LinkState) → IsGood s → Contains F f
       → route c l (head_of (body_of f)).source ≡ Hop hop → IsGood (puts_unreachable hop (body_of f) s)
   unreachable_good hop f s good came e =
-      same_good (puts_answer hop (port_unreachable s.config s.answer_id (body_of f)) less) _
-      (puts_good hop (port_unreachable s.config s.answer_id (body_of f)) less
-      (same_good s less good refl refl refl refl refl refl refl)
+      puts_good hop (port_unreachable s.config s.answer_id (body_of f)) (record s { unreachables = s.unreachables - 1 })
+      good
       (subst (λ (x : Config). Each (IsAnswer hop) (port_unreachable x s.answer_id (body_of f))) (sym good.config)
-      (answered hop s.answer_id f (unreachable_message (body_of f)) (f, came, s.answer_id, inr refl) e)))
-      refl refl refl refl refl refl refl
-    where
-      less : LinkState
-      less = record s { unreachables = s.unreachables - 1 }
+      (answered hop s.answer_id f (unreachable_message (body_of f)) (f, came, s.answer_id, inr refl) e))
 
   by_good : (hop : ℕ) (f : List ℕ) (a : Answer) (s : LinkState) → IsGood s → Contains F f
       → route c l (head_of (body_of f)).source ≡ Hop hop → IsGood (answers_by hop a (body_of f) s)
@@ -631,14 +504,12 @@ module _ (c : Config) (l : Link) (F G : List (List ℕ)) where
   by_good hop f Echo s good came e = echo_good hop f (makes_way s) (way_good s good) came e
   by_good hop f Unreachable s good came e =
       by_test IsGood (nat_lt 0 s.unreachables) (puts_unreachable hop (body_of f) (makes_way s)) (limits s)
-      (unreachable_good hop f (makes_way s) (way_good s good) came e)
-      (same_good s (limits s) good refl refl refl refl refl refl refl)
+      (unreachable_good hop f (makes_way s) (way_good s good) came e) good
 
   now_good : (f : List ℕ) (a : Answer) (s : LinkState) → IsGood s → Contains F f
       → IsGood (answers_now a (body_of f) s)
   now_good f a s good came =
-      by_test IsGood (is_busy s) (counts_icmp_dropped s) (answers_on way a (body_of f) s)
-      (same_good s (counts_icmp_dropped s) good refl refl refl refl refl refl refl) (on way refl)
+      by_test IsGood (is_busy s) (counts_icmp_dropped s) (answers_on way a (body_of f) s) good (on way refl)
     where
       way : Route
       way = route s.config s.link (head_of (body_of f)).source
@@ -648,8 +519,8 @@ module _ (c : Config) (l : Link) (F G : List (List ℕ)) where
       on (Hop hop) e =
           by_good hop f a s good came
           (ap (λ (x : Config). route x l (head_of (body_of f)).source) (sym good.config)
-          ∙ ap (λ (x : Link). route s.config x (head_of (body_of f)).source) (sym good.link) ∙ e)
-      on NoRoute e = same_good s (counts_no_route s) good refl refl refl refl refl refl refl
+          ∙ ap (λ (x : Link). route s.config x (head_of (body_of f)).source) (sym good.link_is) ∙ e)
+      on NoRoute e = good
 
   pub answers_good : (f : List ℕ) (a : Answer) (s : LinkState) → IsGood s → Contains F f
       → IsGood (answers_with a (body_of f) s)
