@@ -34,13 +34,22 @@ pub record IsSound (socket : Socket) : Type 0 where
   pub port : (p : ℕ) → socket.port ≡ Some p → p < 65536
   pub peer : (a : Addr) → socket.peer ≡ Some a → IsTarget a
 
--- what an arrival keeps
-pub record IsKept (c : Config) (out : List Item) (next count : ℕ) (s : State) : Type 0 where
-  pub config : s.config ≡ c
-  pub output : s.output ≡ out
-  pub id : s.next_id ≡ next
-  pub sends : value_of IpLocalout s.counters ≡ count
-  pub sockets : Each IsSound s.sockets
+-- what an arrival keeps, by parts, so that a step says only those that it changes
+pub record Parts (c own : Config) (out queue : List Item) (next number count sent : ℕ) (ss : List Socket) : Type 0 where
+  pub config : own ≡ c
+  pub output : queue ≡ out
+  pub id : number ≡ next
+  pub sends : sent ≡ count
+  pub sockets : Each IsSound ss
+
+abbrev pub IsKept : Config → List Item → ℕ → ℕ → State → Type 0
+IsKept c out next count s = Parts c s.config out s.output next s.next_id count (value_of IpLocalout s.counters) s.sockets
+
+with_sockets : {c own : Config} {out queue : List Item} {next number count sent : ℕ} {ss ss' : List Socket}
+    → Parts c own out queue next number count sent ss → Each IsSound ss'
+    → Parts c own out queue next number count sent ss'
+with_sockets k sockets =
+    record { config = k.config; output = k.output; id = k.id; sends = k.sends; sockets = sockets }
 
 module _ (M : Ledger) (c : Config) (out : List Item) (next count : ℕ) (boots : IsConfig c) where
   abbrev pub K : State → Type 0
@@ -56,29 +65,15 @@ module _ (M : Ledger) (c : Config) (out : List Item) (next count : ℕ) (boots :
           sends = counted-localout why s.counters ∙ k.sends;
           sockets = k.sockets;
         };
-    dropped = λ s k. record { config = k.config; output = k.output; id = k.id; sends = k.sends; sockets = k.sockets };
+    dropped = λ s k. k;
     queued =
-        λ fd d s k. record {
-          config = k.config;
-          output = k.output;
-          id = k.id;
-          sends = k.sends;
-          sockets = each-map IsSound _ (λ socket g. go fd d socket g (socket.fd == fd)) s.sockets k.sockets;
-        };
-    begins =
-        λ key s k. record { config = k.config; output = k.output; id = k.id; sends = k.sends; sockets = k.sockets };
-    sets =
-        λ key bytes s k. record {
-          config = k.config;
-          output = k.output;
-          id = k.id;
-          sends = k.sends;
-          sockets = k.sockets;
-        };
-    finishes =
-        λ key s k. record { config = k.config; output = k.output; id = k.id; sends = k.sends; sockets = k.sockets };
-    fragment = λ s k. record { config = k.config; output = k.output; id = k.id; sends = k.sends; sockets = k.sockets };
-    packet = λ s k. record { config = k.config; output = k.output; id = k.id; sends = k.sends; sockets = k.sockets };
+        λ fd d s k. with_sockets k
+        (each-map IsSound _ (λ socket g. go fd d socket g (socket.fd == fd)) s.sockets k.sockets);
+    begins = λ key s k. k;
+    sets = λ key bytes s k. k;
+    finishes = λ key s k. k;
+    fragment = λ s k. k;
+    packet = λ s k. k;
   }
     where
       go : (fd : ℕ) (d : Datagram) (socket : Socket) → IsSound socket → (b : Bool)
@@ -92,13 +87,7 @@ module _ (M : Ledger) (c : Config) (out : List Item) (next count : ℕ) (boots :
   pub changes : (fd : ℕ) (change : Socket → Socket) (s : State) → K s
       → ((socket : Socket) → IsSound socket → IsSound (change socket)) → K (change_socket fd change s)
   changes fd change s k sound =
-      record {
-        config = k.config;
-        output = k.output;
-        id = k.id;
-        sends = k.sends;
-        sockets = each-map IsSound _ (λ socket g. go socket g (socket.fd == fd)) s.sockets k.sockets;
-      }
+      with_sockets k (each-map IsSound _ (λ socket g. go socket g (socket.fd == fd)) s.sockets k.sockets)
     where
       go : (socket : Socket) → IsSound socket → (b : Bool) → IsSound (cond b (change socket) socket)
       go socket g true = sound socket g
@@ -115,13 +104,7 @@ module _ (M : Ledger) (c : Config) (out : List Item) (next count : ℕ) (boots :
       → GetsPort old local asked port new → K new × (port < 65536)
   gets old new local (Some q) port k small h = (subst K (sym h.1) k, subst (λ p. p < 65536) (sym h.0) (small q refl))
   gets old new local None port k small h = (
-    subst K (sym h.1) (record {
-      config = k.config;
-      output = k.output;
-      id = k.id;
-      sends = k.sends;
-      sockets = k.sockets;
-    }),
+    subst K (sym h.1) k,
     subst (λ p. p < 65536) (sym h.0.here) (port_small old.last_port h.0.turns),
   )
 
@@ -174,20 +157,14 @@ module _ (M : Ledger) (c : Config) (out : List Item) (next count : ℕ) (boots :
   pub opens : (old new : State) (reply : Reply) → K old → Calls.Opens 64 old reply new → K new
   opens old new reply k h = by_choice h
       (λ e (fd, least, answer, is). subst K (sym is)
-      (record {
-        config = k.config;
-        output = k.output;
-        id = k.id;
-        sends = k.sends;
-        sockets = (
-          record {
-            local = λ ip e. absurd (none-some ip e);
-            port = λ ip e. absurd (none-some ip e);
-            peer = λ a e. absurd (none-some a e);
-          },
-          k.sockets,
-        );
-      }))
+      (with_sockets k (
+        record {
+          local = λ ip e. absurd (none-some ip e);
+          port = λ ip e. absurd (none-some ip e);
+          peer = λ a e. absurd (none-some a e);
+        },
+        k.sockets,
+      )))
       (λ e r. refused old new _ reply k r)
 
   pub binds : (fd : ℕ) (a : Addr) (me : Socket) (old new : State) (reply : Reply) → K old → IsAddr a
@@ -247,13 +224,8 @@ module _ (M : Ledger) (c : Config) (out : List Item) (next count : ℕ) (boots :
 
   pub closes : (fd : ℕ) (old new : State) (reply : Reply) → K old → Calls.Closes fd old reply new → K new
   closes fd old new reply k h =
-      subst K (sym h.1) (record {
-        config = k.config;
-        output = k.output;
-        id = k.id;
-        sends = k.sends;
-        sockets = each-filter IsSound (λ socket. not (socket.fd == fd)) old.sockets k.sockets;
-      })
+      subst K (sym h.1)
+      (with_sockets k (each-filter IsSound (λ socket. not (socket.fd == fd)) old.sockets k.sockets))
 
   pub comes_in : (packet : List ℕ) (old new : State) → K old → ComesIn M packet old new → K new
   comes_in packet old new k (answer, mid, a, h) =
