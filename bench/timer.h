@@ -1,8 +1,8 @@
 /*
  * Shared by the benchmarks: a table of rows and columns, its times, and the commands that bench/lib.sh uses.
  *
- *   bench                     checks the results, and prints nanoseconds. ROUNDS sets another number of rounds than 100;
- *                             with 0 it prints none
+ *   bench                     checks the results, and prints nanoseconds: the best of 100 rounds, or of ROUNDS; with
+ *                             ROUNDS=0 it prints none
  *   bench rows                prints the rows' names, one on each line
  *   bench columns             prints the columns' names, one on each line
  *   bench turns ROW COLUMN N  works N turns of a row and column, for a counter of instructions

@@ -1,6 +1,6 @@
 /*
- * A datagram from one stack to another: sendto, tx of each packet, rx into the second stack, recvfrom; and one that comes back
- * to the stack that sent it. Both checksums are made and checked.
+ * A datagram from one stack to another: sendto, tx of each packet, rx into the second stack, recvfrom. And one that
+ * comes back to the stack that sent it. Both checksums are made and checked.
  */
 #include "timer.h"
 
