@@ -10,7 +10,7 @@ from typing import Iterator, NamedTuple
 
 TOP = pathlib.Path(__file__).resolve().parent.parent
 PLAY = TOP / "examples/play"
-# Command lines with a golden file: NAME.args has one argument on each line, NAME.status the status if it isn't 0.
+# Command lines with a golden file NAME.stdout: a row of the file `table` has the name, the status and the arguments.
 LINES = TOP / "tests/bsdplay/goldens"
 # The differences that a failure shows, and the characters of a line.
 SHOWN, WIDEST = 6, 160
@@ -43,21 +43,16 @@ def each() -> Iterator[Golden]:
     for script in scripts():
         path = str(script.relative_to(TOP))
         yield Golden(str(script.relative_to(PLAY)), [path], script.with_name(f"{script.name}.stdout"), 0)
-    for args in sorted(LINES.glob("*.args")):
-        status = args.with_suffix(".status")
-        yield Golden(
-            args.stem,
-            args.read_text(encoding="utf-8").splitlines(),
-            args.with_suffix(".stdout"),
-            int(status.read_text(encoding="utf-8")) if status.exists() else 0,
-        )
+    for row in (LINES / "table").read_text(encoding="utf-8").splitlines():
+        name, status, *words = row.split()
+        yield Golden(name, words, LINES / f"{name}.stdout", int(status))
 
 
 def left_over() -> list[str]:
     """Returns the golden files without a command line."""
     known = {it.file for it in each()}
-    found = [*PLAY.rglob("*.stdout"), *LINES.glob("*.stdout"), *LINES.glob("*.status")]
-    return [str(it.relative_to(TOP)) for it in found if it.with_suffix(".stdout") not in known]
+    found = [*PLAY.rglob("*.stdout"), *LINES.glob("*.stdout")]
+    return [str(it.relative_to(TOP)) for it in found if it not in known]
 
 
 def played(program: pathlib.Path, golden: Golden) -> Output:
