@@ -5,7 +5,7 @@ import re
 from typing import TYPE_CHECKING, Union
 
 from ._buffers import octets
-from ._packet import LayeredPacket, Packet
+from ._packet import LayeredPacket, Packet, layer_bytes
 
 if TYPE_CHECKING:
     from _typeshed import ReadableBuffer
@@ -77,17 +77,5 @@ class Frame(bytes):
 
 def frame_bytes(frame: AnyFrame) -> bytes:
     """Returns the bytes of a frame: a bytes-like object, or a scapy packet from its Ethernet layer on."""
-    if isinstance(frame, bytes):  # first, because the test for a scapy packet is slow
-        found = frame
-    elif isinstance(frame, LayeredPacket):
-        if not frame.haslayer("Ethernet"):
-            raise ValueError("the scapy packet has no Ethernet layer: put Ether() / in front")
-        found = bytes(frame["Ethernet"])
-    else:
-        try:
-            found = octets(frame)
-        except TypeError:
-            raise TypeError(f"a frame is bytes or a scapy packet, and not {type(frame).__name__}") from None
-    if len(found) > MAX_FRAME:
-        raise ValueError(f"a frame has at most {MAX_FRAME} bytes, and not {len(found)}")
-    return found
+    lacks = "the scapy packet has no Ethernet layer: put Ether() / in front"
+    return layer_bytes(frame, "Ethernet", lacks, "frame", MAX_FRAME)

@@ -114,19 +114,26 @@ class Packet(bytes):
         return f'<table aria-label="IPv4 header">{body}</table>'
 
 
-def bytes_of(packet: AnyPacket) -> bytes:
-    """Returns the bytes of an IPv4 packet: a bytes-like object, or a scapy packet from its IP layer on."""
-    if isinstance(packet, bytes):  # first, because the test for a scapy packet is slow
-        found = packet
-    elif isinstance(packet, LayeredPacket):
-        if not packet.haslayer("IP"):
-            raise ValueError("the scapy packet has no IP layer; if its bytes are meant as they are, give bytes(packet)")
-        found = bytes(packet["IP"])
+def layer_bytes(it: AnyPacket, layer: str, lacks: str, kind: str, most: int) -> bytes:
+    """Returns the bytes of a packet or frame: a bytes-like object, or a scapy packet from a layer on. `lacks` says what
+    to do if it lacks the layer."""
+    if isinstance(it, bytes):  # first, because the test for a scapy packet is slow
+        found = it
+    elif isinstance(it, LayeredPacket):
+        if not it.haslayer(layer):
+            raise ValueError(lacks)
+        found = bytes(it[layer])
     else:
         try:
-            found = octets(packet)
+            found = octets(it)
         except TypeError:
-            raise TypeError(f"a packet is bytes or a scapy packet, and not {type(packet).__name__}") from None
-    if len(found) > MAX_PACKET:
-        raise ValueError(f"a packet has at most {MAX_PACKET} bytes, and not {len(found)}")
+            raise TypeError(f"a {kind} is bytes or a scapy packet, and not {type(it).__name__}") from None
+    if len(found) > most:
+        raise ValueError(f"a {kind} has at most {most} bytes, and not {len(found)}")
     return found
+
+
+def bytes_of(packet: AnyPacket) -> bytes:
+    """Returns the bytes of an IPv4 packet: a bytes-like object, or a scapy packet from its IP layer on."""
+    lacks = "the scapy packet has no IP layer; if its bytes are meant as they are, give bytes(packet)"
+    return layer_bytes(packet, "IP", lacks, "packet", MAX_PACKET)
