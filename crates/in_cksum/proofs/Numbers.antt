@@ -1,10 +1,10 @@
 -- Sums of numbers of 64 bits, whose carry is added at the low end: 65,536 counts as 1, and so does 2^64.
-use Rattle.std.proofs.Common.{◌≡◌, ℕ, ◌+◌, ◌*◌, ◌/◌, ◌%◌, List, [], ◌∷◌, length, slice_index_or, w64, sym, ap, ◌∙◌, arith}
+use Rattle.std.proofs.Common.{◌≡◌, ℕ, ◌+◌, ◌*◌, ◌/◌, ◌%◌, List, [], ◌∷◌, length, slice_index_or, w64, refl, sym, ap, ◌∙◌, arith}
 use Rattle.std.specs.Int.{from_le_bytes}
 use Rattle.flat_model.specs.Packets.Checksum.{fold16}
 use Rattle.flat_model.proofs.Laws.{fold16-high, fold16-add_first, fold16-add_second}
 use Rattle.in_cksum.specs.Inside.{swapped_sum}
-use Rattle.in_cksum.proofs.Words.{swapped_part_added}
+use Rattle.in_cksum.proofs.Words.{swapped_part_added, swapped_sum_none}
 
 -- four words of one number
 words_folded : (n w0 w1 w2 w3 : ℕ)
@@ -75,24 +75,29 @@ half_folded s low is =
 
 -- a turn: `lanes` and `sum` before it, `lanes'` and `sum'` after it
 pub turn_folded : (lanes sum lanes' sum' first second after rest : ℕ) → lanes' ≡ lanes + first
-    → fold16 sum' ≡ fold16 (sum + 0 + second) → first + second + after ≡ rest
+    → fold16 sum' ≡ fold16 (sum + second) → first + second + after ≡ rest
     → fold16 (lanes' + sum' + after) ≡ fold16 (lanes + sum + rest)
 turn_folded lanes sum lanes' sum' first second after rest more added cut =
     let apart : lanes' + sum' + after ≡ lanes' + after + sum' = omega arith in
-    let back : lanes' + after + (sum + 0 + second) ≡ lanes + sum + rest = omega (arith, more, cut) in
-    ap fold16 apart ∙ replaced (lanes' + after) sum' (sum + 0 + second) added ∙ ap fold16 back
+    let back : lanes' + after + (sum + second) ≡ lanes + sum + rest = omega (arith, more, cut) in
+    ap fold16 apart ∙ replaced (lanes' + after) sum' (sum + second) added ∙ ap fold16 back
 
-pub block_folded : (sum sum' block after rest : ℕ) → fold16 sum' ≡ fold16 (sum + 0 + block) → block + after ≡ rest
-    → fold16 (sum' + after) ≡ fold16 (sum + rest)
-block_folded sum sum' block after rest added cut =
-    let back : sum + 0 + block + after ≡ sum + rest = omega (arith, cut) in
-    replaced_first after sum' (sum + 0 + block) added ∙ ap fold16 back
+-- a part that was added, and the bytes after it
+pub next_folded : (x r : ℕ) (part after whole : List ℕ) → fold16 r ≡ fold16 (x + swapped_sum part)
+    → swapped_sum part + swapped_sum after ≡ swapped_sum whole
+    → fold16 (r + swapped_sum after) ≡ fold16 (x + swapped_sum whole)
+next_folded x r part after whole same cut =
+    part_folded x r (r + swapped_sum after) part after whole same refl cut
+
+-- no bytes are left
+pub none_left : (n : ℕ) (s : List ℕ) → length s ≡ 0 → fold16 n ≡ fold16 (n + swapped_sum s)
+none_left n s none = let same : n ≡ n + swapped_sum s = omega (arith, swapped_sum_none s none) in ap fold16 same
 
 -- a turn's own sum, added with its carry to the one before
 pub own_sum_folded : (sum own carry low more second : ℕ) → low + 18446744073709551616 * more ≡ own + sum + carry
-    → fold16 (own + carry) ≡ fold16 (0 + 0 + second) → fold16 (low + more) ≡ fold16 (sum + 0 + second)
+    → fold16 (own + carry) ≡ fold16 (0 + second) → fold16 (low + more) ≡ fold16 (sum + second)
 own_sum_folded sum own carry low more second whole same =
     let apart : own + sum + carry ≡ sum + (own + carry) = omega arith in
-    let back : sum + (0 + 0 + second) ≡ sum + 0 + second = omega arith in
+    let back : sum + (0 + second) ≡ sum + second = omega arith in
     sym (carry_folded low more) ∙ ap fold16 whole ∙ ap fold16 apart
-    ∙ replaced sum (own + carry) (0 + 0 + second) same ∙ ap fold16 back
+    ∙ replaced sum (own + carry) (0 + second) same ∙ ap fold16 back

@@ -4,19 +4,23 @@ use Rattle.std.proofs.lemmas.Nat.{and_mask}
 use Rattle.std.specs.Int.{from_le_bytes}
 use Rattle.flat_model.specs.Packets.Checksum.{fold16}
 use Rattle.flat_model.proofs.Laws.{fold16-high}
-use Rattle.in_cksum.specs.Inside.{CountsAs, IsAdded, IsLeft, swapped_sum}
+use Rattle.in_cksum.specs.Inside.{CountsAs, IsAdded, IsLeft, TakesUpTo, swapped_sum}
 
 -- ---- 8 and 4 bytes
 
-pub eight_added : (sum r : ℕ) (s : List ℕ) → 8 ≤ length s → ((k : ℕ) → Fits w8 (get_or s k 0))
+pub eight_taken : (sum r : ℕ) (s : List ℕ) → 8 ≤ length s → ((k : ℕ) → Fits w8 (get_or s k 0))
     → r ≡ from_le_bytes w64 (slice_index_or s 0 0 ∷ slice_index_or s 1 0 ∷ slice_index_or s 2 0 ∷ slice_index_or s 3 0
     ∷ slice_index_or s 4 0 ∷ slice_index_or s 5 0 ∷ slice_index_or s 6 0 ∷ slice_index_or s 7 0 ∷ [])
-    → IsAdded sum s (sum + bit_and r 4294967295 + r / 4294967296) (take (length s - 8) (drop 8 s))
-eight_added sum r (a ∷ b ∷ c ∷ d ∷ e ∷ f ∷ g ∷ h ∷ s) long fits is =
+    → TakesUpTo 8 sum s (sum + bit_and r 4294967295 + r / 4294967296) (take (length s - 8) (drop 8 s))
+eight_taken sum r (a ∷ b ∷ c ∷ d ∷ e ∷ f ∷ g ∷ h ∷ s) long fits is =
     let ba : a < 256 = (fits 0).fits in
     let bb : b < 256 = (fits 1).fits in
     let bc : c < 256 = (fits 2).fits in
     let bd : d < 256 = (fits 3).fits in
+    let be : e < 256 = (fits 4).fits in
+    let bf : f < 256 = (fits 5).fits in
+    let bg : g < 256 = (fits 6).fits in
+    let bh : h < 256 = (fits 7).fits in
     let whole : r ≡ a + 256 * b + 65536 * (c + 256 * d) + 4294967296 * (e + 256 * f + 65536 * (g + 256 * h)) =
     omega arith in
     let low : bit_and r 4294967295 ≡ a + 256 * b + 65536 * (c + 256 * d) = omega (arith, and_mask r 32) in
@@ -24,33 +28,50 @@ eight_added sum r (a ∷ b ∷ c ∷ d ∷ e ∷ f ∷ g ∷ h ∷ s) long fits 
     let rest : take (length (a ∷ b ∷ c ∷ d ∷ e ∷ f ∷ g ∷ h ∷ s) - 8) s ≡ s =
     take_all (length (a ∷ b ∷ c ∷ d ∷ e ∷ f ∷ g ∷ h ∷ s) - 8) s (omega arith) in
     record {
-      once = a + 256 * b + (e + 256 * f);
-      often = c + 256 * d + (g + 256 * h);
-      new_is = omega (arith, low, high);
-      taken = omega (arith, ap swapped_sum rest);
+      added = record {
+        once = a + 256 * b + (e + 256 * f);
+        often = c + 256 * d + (g + 256 * h);
+        new_is = omega (arith, low, high);
+        taken = omega (arith, ap swapped_sum rest);
+      };
+      left = inr (omega (arith, ap length rest));
+      small = omega (arith, low, high);
     }
-eight_added sum r [] long fits is = absurd (omega arith)
-eight_added sum r (a ∷ []) long fits is = absurd (omega arith)
-eight_added sum r (a ∷ b ∷ []) long fits is = absurd (omega arith)
-eight_added sum r (a ∷ b ∷ c ∷ []) long fits is = absurd (omega arith)
-eight_added sum r (a ∷ b ∷ c ∷ d ∷ []) long fits is = absurd (omega arith)
-eight_added sum r (a ∷ b ∷ c ∷ d ∷ e ∷ []) long fits is = absurd (omega arith)
-eight_added sum r (a ∷ b ∷ c ∷ d ∷ e ∷ f ∷ []) long fits is = absurd (omega arith)
-eight_added sum r (a ∷ b ∷ c ∷ d ∷ e ∷ f ∷ g ∷ []) long fits is = absurd (omega arith)
+eight_taken sum r [] long fits is = absurd (omega arith)
+eight_taken sum r (a ∷ []) long fits is = absurd (omega arith)
+eight_taken sum r (a ∷ b ∷ []) long fits is = absurd (omega arith)
+eight_taken sum r (a ∷ b ∷ c ∷ []) long fits is = absurd (omega arith)
+eight_taken sum r (a ∷ b ∷ c ∷ d ∷ []) long fits is = absurd (omega arith)
+eight_taken sum r (a ∷ b ∷ c ∷ d ∷ e ∷ []) long fits is = absurd (omega arith)
+eight_taken sum r (a ∷ b ∷ c ∷ d ∷ e ∷ f ∷ []) long fits is = absurd (omega arith)
+eight_taken sum r (a ∷ b ∷ c ∷ d ∷ e ∷ f ∷ g ∷ []) long fits is = absurd (omega arith)
 
-pub four_added : (sum r : ℕ) (s : List ℕ) → 4 ≤ length s
+pub four_taken : (sum r : ℕ) (s : List ℕ) → 4 ≤ length s → ((k : ℕ) → Fits w8 (get_or s k 0))
     → r ≡ from_le_bytes w32 (slice_index_or s 0 0 ∷ slice_index_or s 1 0 ∷ slice_index_or s 2 0 ∷ slice_index_or s 3 0
     ∷ [])
-    → IsAdded sum s (sum + r) (take (length s - 4) (drop 4 s))
-four_added sum r (a ∷ b ∷ c ∷ d ∷ s) long is =
+    → TakesUpTo 4 sum s (sum + r) (take (length s - 4) (drop 4 s))
+four_taken sum r (a ∷ b ∷ c ∷ d ∷ s) long fits is =
+    let ba : a < 256 = (fits 0).fits in
+    let bb : b < 256 = (fits 1).fits in
+    let bc : c < 256 = (fits 2).fits in
+    let bd : d < 256 = (fits 3).fits in
     let whole : r ≡ a + 256 * b + 65536 * (c + 256 * d) = omega arith in
     let rest : take (length (a ∷ b ∷ c ∷ d ∷ s) - 4) s ≡ s =
     take_all (length (a ∷ b ∷ c ∷ d ∷ s) - 4) s (omega arith) in
-    record { once = a + 256 * b; often = c + 256 * d; new_is = omega arith; taken = omega (arith, ap swapped_sum rest) }
-four_added sum r [] long is = absurd (omega arith)
-four_added sum r (a ∷ []) long is = absurd (omega arith)
-four_added sum r (a ∷ b ∷ []) long is = absurd (omega arith)
-four_added sum r (a ∷ b ∷ c ∷ []) long is = absurd (omega arith)
+    record {
+      added = record {
+        once = a + 256 * b;
+        often = c + 256 * d;
+        new_is = omega arith;
+        taken = omega (arith, ap swapped_sum rest);
+      };
+      left = inr (omega (arith, ap length rest));
+      small = omega arith;
+    }
+four_taken sum r [] long fits is = absurd (omega arith)
+four_taken sum r (a ∷ []) long fits is = absurd (omega arith)
+four_taken sum r (a ∷ b ∷ []) long fits is = absurd (omega arith)
+four_taken sum r (a ∷ b ∷ c ∷ []) long fits is = absurd (omega arith)
 
 -- ---- the last bytes
 

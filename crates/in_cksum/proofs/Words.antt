@@ -79,6 +79,10 @@ swapped_sum_bound (a ∷ []) fits = omega (arith, (fits 0).fits)
 swapped_sum_bound (a ∷ b ∷ s) fits =
     omega (arith, (fits 0).fits, (fits 1).fits, swapped_sum_bound s (λ k. fits (suc (suc k))))
 
+pub swapped_sum_none : (s : List ℕ) → length s ≡ 0 → swapped_sum s ≡ 0
+swapped_sum_none [] none = refl
+swapped_sum_none (a ∷ s) none = absurd (omega (arith, none))
+
 -- a cut after an even number of bytes
 pub swapped_sum_cut : (s t whole : List ℕ) → whole ≡ s ++ t → length s % 2 ≡ 0
     → swapped_sum s + swapped_sum t ≡ swapped_sum whole

@@ -1,8 +1,10 @@
 -- Sums of words in memory order, low half first (this project's own; RFC 1071 section 2 gives the reason why they can
 -- be used: if the bytes of each word are swapped, the bytes of the folded sum are swapped).
-use Rattle.std.specs.Prelude.{◌≡◌, ℕ, ◌+◌, ◌-◌, ◌*◌, ◌%◌, ◌^◌, ◌<◌, ◌≤◌, ◌⊎◌, List, [], ◌∷◌, length}
+use Rattle.std.specs.Prelude.{◌≡◌, ℕ, ◌+◌, ◌-◌, ◌*◌, ◌%◌, ◌^◌, ◌<◌, ◌≤◌, ◌⊎◌, List, [], ◌∷◌, ◌++◌, length, take, drop}
 use Rattle.std.specs.Simd.Lanes.{zip2, sum_l}
-use Rattle.flat_model.specs.Packets.Checksum.{fold16}
+use Rattle.flat_model.specs.Packets.Checksum.{checksum, fold16}
+use Rattle.mbuf_chain.specs.Chain.{PoolView, IsLive, chain_of, string}
+use Rattle.in_cksum.specs.Partial.{Partial, sum_of}
 
 -- the sum of the little-endian words of 16 bits; an odd last byte is the low half of a word
 abbrev pub swapped_sum : List ℕ → ℕ
@@ -46,3 +48,25 @@ pub record IsAdded (sum : ℕ) (bytes : List ℕ) (new : ℕ) (after : List ℕ)
 -- this many fewer are left, or there weren't that many
 abbrev pub IsLeft : ℕ → List ℕ → List ℕ → Type 0
 IsLeft n bytes after = (length after < n) ⊎ (length after + n ≡ length bytes)
+
+-- the next n bytes, if that many were left, are added to the sum
+pub record TakesUpTo (n sum : ℕ) (bytes : List ℕ) (new : ℕ) (after : List ℕ) : Type 0 where
+  pub added : IsAdded sum bytes new after
+  pub left : IsLeft n bytes after
+  pub small : new < sum + 2 ^ 33
+
+-- the words of the next n bytes were added to the sum, up to what the fold makes equal, if that many were left
+pub record AddsNext (n sum : ℕ) (bytes : List ℕ) (new : ℕ) (after : List ℕ) : Type 0 where
+  pub folded : fold16 (new + swapped_sum after) ≡ fold16 (sum + swapped_sum bytes)
+  pub left : IsLeft n bytes after
+
+-- these bytes are in the chain
+pub record HasBytes (p : PoolView) (c off len : ℕ) : Type 0 where
+  pub live : IsLive p c
+  pub within : off + len ≤ length (string (chain_of p c))
+
+-- the checksum of the bytes that were added to the sum, and then these of the chain
+abbrev pub IsChecksum : PoolView → ℕ → ℕ → ℕ → Partial → ℕ → Type 0
+IsChecksum p c off len start result =
+    (before : List ℕ) → start ≡ sum_of before
+    → result ≡ checksum (before ++ take len (drop off (string (chain_of p c))))

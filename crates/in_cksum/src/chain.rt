@@ -2,6 +2,7 @@
 ghost use Rattle.std.specs.Prelude.{◌≡◌, ℕ, ◌+◌, ◌≤◌, ◌++◌, List, length, take, drop};
 ghost use Rattle.flat_model.specs.Packets.Checksum.{checksum};
 ghost use Rattle.mbuf_chain.specs.Chain.{IsLive, chain_of, string};
+ghost use Rattle.in_cksum.specs.Inside.{HasBytes, IsChecksum};
 ghost use Rattle.in_cksum.specs.Partial.{sum_of};
 
 use crate::Sum;
@@ -33,10 +34,8 @@ pub fn cksum_chain(pool: &Pool, chain: &Chain, off: u32, len: u32, mut start: Su
 /// Does the same, wherever the bytes are.
 #[tactic(auto, using(mbuf_chain::proofs::Laws::Iterators::concat_pieces))]
 fn cksum_pieces(pool: &Pool, chain: &Chain, off: u32, len: u32, start: Sum) -> u16
-    requires live { IsLive pool.now chain.now }
-    requires within { off + len ≤ length (string (chain_of pool.now chain.now)) }
-    ensures { (before : List ℕ) → start ≡ sum_of before
-        → result ≡ checksum (before ++ take len (drop off (string (chain_of pool.now chain.now)))) }
+    requires { HasBytes pool.now chain.now off len }
+    ensures { IsChecksum pool.now chain.now off len start result }
 {
     let mut sum = start;
     let mut skip = off as usize;

@@ -1,13 +1,16 @@
 //! The sum of one part of the bytes, as words in memory order: whole blocks by SIMD lanes.
-ghost use Rattle.std.specs.Prelude.{◌≡◌, ◌+◌, ◌*◌, ◌<◌, ◌≤◌, ◌^◌, length};
+ghost use Rattle.std.specs.Prelude.{◌≡◌, ◌+◌, ◌*◌, ◌%◌, ◌<◌, ◌≤◌, ◌^◌, length};
 ghost use Rattle.flat_model.specs.Packets.Checksum.{fold16};
-ghost use Rattle.in_cksum.specs.Inside.{AddsWords, CanCarry, lanes_total, swapped_sum};
+ghost use Rattle.in_cksum.specs.Inside.{AddsNext, AddsWords, CanCarry, lanes_total, swapped_sum};
 
 use crate::sum_rest;
 use std::simd::prelude::*;
 
 /// The number of bytes added at a time.
 pub(crate) const BLOCK_LEN: usize = 32;
+
+/// The number of bytes of a number of 64 bits.
+const NUMBER_LEN: usize = 8;
 
 /// The number of bytes of a turn: eight blocks.
 const TURN_LEN: usize = 8 * BLOCK_LEN;
@@ -32,28 +35,22 @@ fn add_block(all: u32x8, high: u32x8, block: &[u8]) -> (u32x8, u32x8)
     (all + words, high.strict_add(halves))
 }
 
-/// Adds the words of two blocks.
+/// Adds the words of whole blocks.
+// Inlined, so that the compiler unrolls the loop, as in `add_numbers`.
 #[inline(always)]
-fn add_two_blocks(all: u32x8, high: u32x8, blocks: &[u8]) -> (u32x8, u32x8)
-    requires long { length blocks.now ≡ 2 * BLOCK_LEN }
-    requires fits { lanes_total all high + swapped_sum blocks.now < 2 ^ 32 }
-    ensures { lanes_total result.0 result.1 ≡ lanes_total all high + swapped_sum blocks.now }
+fn add_blocks(start: (u32x8, u32x8), bytes: &[u8]) -> (u32x8, u32x8)
+    requires whole { length bytes.now % BLOCK_LEN ≡ 0 }
+    requires fits { lanes_total start.0 start.1 + swapped_sum bytes.now < 2 ^ 32 }
+    ensures { lanes_total result.0 result.1 ≡ lanes_total start.0 start.1 + swapped_sum bytes.now }
 {
-    let (first, second) = blocks.split_at(BLOCK_LEN);
-    let (all, high) = add_block(all, high, first);
-    add_block(all, high, second)
-}
-
-/// Adds the words of four blocks.
-#[inline(always)]
-fn add_four_blocks(all: u32x8, high: u32x8, blocks: &[u8]) -> (u32x8, u32x8)
-    requires long { length blocks.now ≡ 4 * BLOCK_LEN }
-    requires fits { lanes_total all high + swapped_sum blocks.now < 2 ^ 32 }
-    ensures { lanes_total result.0 result.1 ≡ lanes_total all high + swapped_sum blocks.now }
-{
-    let (first, second) = blocks.split_at(2 * BLOCK_LEN);
-    let (all, high) = add_two_blocks(all, high, first);
-    add_two_blocks(all, high, second)
+    let (mut all, mut high) = start;
+    let mut rest = bytes;
+    'lanes: while rest.len() >= BLOCK_LEN {
+        let (block, after) = rest.split_at(BLOCK_LEN);
+        (all, high) = add_block(all, high, block);
+        rest = after;
+    }
+    (all, high)
 }
 
 #[inline(always)]
@@ -81,7 +78,7 @@ fn add_carrying(a: u64, b: u64, carry: u64) -> (u64, u64)
 /// Adds the words of 8 bytes as one number.
 #[inline(always)]
 fn add_number(sum: u64, carry: u64, bytes: &[u8]) -> (u64, u64)
-    requires long { length bytes.now ≡ 8 }
+    requires long { length bytes.now ≡ NUMBER_LEN }
     requires fits { CanCarry sum carry }
     ensures { AddsWords (sum + carry) bytes.now result.0 result.1 }
 {
@@ -94,52 +91,35 @@ fn add_number(sum: u64, carry: u64, bytes: &[u8]) -> (u64, u64)
     }
 }
 
-/// Adds the words of 16 bytes.
+/// Adds the words of whole numbers.
 #[inline(always)]
-fn add_two_numbers(sum: u64, carry: u64, bytes: &[u8]) -> (u64, u64)
-    requires long { length bytes.now ≡ 16 }
-    requires fits { CanCarry sum carry }
-    ensures { AddsWords (sum + carry) bytes.now result.0 result.1 }
+fn add_numbers(start: u64, bytes: &[u8]) -> (u64, u64)
+    requires { length bytes.now % NUMBER_LEN ≡ 0 }
+    ensures { AddsWords start bytes.now result.0 result.1 }
 {
-    let (first, second) = bytes.split_at(8);
-    let (sum, carry) = add_number(sum, carry, first);
-    add_number(sum, carry, second)
+    let mut sum = start;
+    let mut carry = 0;
+    let mut rest = bytes;
+    'numbers: while rest.len() >= NUMBER_LEN {
+        let (number, after) = rest.split_at(NUMBER_LEN);
+        (sum, carry) = add_number(sum, carry, number);
+        rest = after;
+    }
+    (sum, carry)
 }
 
-/// Adds the words of 32 bytes.
+/// Adds the words of the next `n` bytes, if that many are left.
 #[inline(always)]
-fn add_four_numbers(sum: u64, carry: u64, bytes: &[u8]) -> (u64, u64)
-    requires long { length bytes.now ≡ 32 }
-    requires fits { CanCarry sum carry }
-    ensures { AddsWords (sum + carry) bytes.now result.0 result.1 }
+fn add_next(sum: u64, n: usize, bytes: &[u8]) -> (u64, &[u8])
+    requires { n % NUMBER_LEN ≡ 0 }
+    ensures { AddsNext n sum bytes.now result.0 result.1.now }
 {
-    let (first, second) = bytes.split_at(16);
-    let (sum, carry) = add_two_numbers(sum, carry, first);
-    add_two_numbers(sum, carry, second)
-}
-
-/// Adds the words of 64 bytes.
-#[inline(always)]
-fn add_eight_numbers(sum: u64, carry: u64, bytes: &[u8]) -> (u64, u64)
-    requires long { length bytes.now ≡ 64 }
-    requires fits { CanCarry sum carry }
-    ensures { AddsWords (sum + carry) bytes.now result.0 result.1 }
-{
-    let (first, second) = bytes.split_at(32);
-    let (sum, carry) = add_four_numbers(sum, carry, first);
-    add_four_numbers(sum, carry, second)
-}
-
-/// Adds the words of 128 bytes.
-#[inline(always)]
-fn add_sixteen_numbers(sum: u64, carry: u64, bytes: &[u8]) -> (u64, u64)
-    requires long { length bytes.now ≡ 128 }
-    requires fits { CanCarry sum carry }
-    ensures { AddsWords (sum + carry) bytes.now result.0 result.1 }
-{
-    let (first, second) = bytes.split_at(64);
-    let (sum, carry) = add_eight_numbers(sum, carry, first);
-    add_eight_numbers(sum, carry, second)
+    if bytes.len() < n {
+        return (sum, bytes);
+    }
+    let (numbers, after) = bytes.split_at(n);
+    let (low, carry) = add_numbers(sum, numbers);
+    (low + carry, after)
 }
 
 /// Adds both halves of a number: the high one counts 2^32 times, which the fold reduces to 1.
@@ -165,7 +145,8 @@ struct Turns<'a> {
 #[inline(always)]
 fn sum_turns(bytes: &[u8]) -> Turns<'_>
     requires { length bytes.now ≤ PART_LEN }
-    ensures { fold16 (result.lanes + result.sum + swapped_sum result.rest.now) ≡ fold16 (swapped_sum bytes.now) }
+    ensures folded { fold16 (result.lanes + result.sum + swapped_sum result.rest.now) ≡ fold16 (swapped_sum bytes.now) }
+    ensures left { length result.rest.now < TURN_LEN }
 {
     let mut all = u32x8::splat(0);
     let mut high = u32x8::splat(0);
@@ -174,8 +155,8 @@ fn sum_turns(bytes: &[u8]) -> Turns<'_>
     'turns: while rest.len() >= TURN_LEN {
         let (turn, after) = rest.split_at(TURN_LEN);
         let (first, second) = turn.split_at(LANES_LEN);
-        (all, high) = add_four_blocks(all, high, first);
-        let (numbers, carry) = add_sixteen_numbers(0, 0, second);
+        (all, high) = add_blocks((all, high), first);
+        let (numbers, carry) = add_numbers(0, second);
         let (low, more) = add_carrying(numbers, sum, carry);
         sum = low + more;
         rest = after;
@@ -187,20 +168,16 @@ fn sum_turns(bytes: &[u8]) -> Turns<'_>
     }
 }
 
-/// Adds the words of all bytes to a sum.
+/// Adds the words of fewer bytes than a turn to a sum. It has no loop, which would test the length more often.
 #[inline(always)]
 fn sum_numbers(start: u64, bytes: &[u8]) -> u64
+    requires { length bytes.now < TURN_LEN }
     ensures folded { fold16 result ≡ fold16 (start + swapped_sum bytes.now) }
     ensures small { result < 2 ^ 50 + 2 ^ 33 }
 {
-    let mut sum = start;
-    let mut rest = bytes;
-    'blocks: while rest.len() >= BLOCK_LEN {
-        let (block, after) = rest.split_at(BLOCK_LEN);
-        let (low, carry) = add_four_numbers(sum, 0, block);
-        sum = low + carry;
-        rest = after;
-    }
+    let (sum, rest) = add_next(start, 4 * BLOCK_LEN, bytes);
+    let (sum, rest) = add_next(sum, 2 * BLOCK_LEN, rest);
+    let (sum, rest) = add_next(sum, BLOCK_LEN, rest);
     halves(sum) + sum_rest(rest)
 }
 

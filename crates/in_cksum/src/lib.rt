@@ -7,7 +7,7 @@
 
 ghost use Rattle.std.specs.Prelude.{◌≡◌, ℕ, ◌+◌, ◌*◌, ◌^◌, ◌<◌, ◌++◌, if◌then◌else◌, false, List, [], length};
 ghost use Rattle.flat_model.specs.Packets.Checksum.{checksum, fold16, folded_sum};
-ghost use Rattle.in_cksum.specs.Inside.{CountsAs, IsAdded, IsLeft, swapped_sum};
+ghost use Rattle.in_cksum.specs.Inside.{CountsAs, TakesUpTo, swapped_sum};
 ghost use Rattle.in_cksum.specs.Partial.{Partial, sum_of};
 
 use std::marker::Model;
@@ -45,9 +45,7 @@ pub fn sum_slice(bytes: &[u8]) -> u16
 #[inline(always)]
 fn add_eight(sum: u64, bytes: &[u8]) -> (u64, &[u8])
     requires { sum < 2 ^ 40 }
-    ensures added { IsAdded sum bytes.now result.0 result.1.now }
-    ensures left { IsLeft 8 bytes.now result.1.now }
-    ensures small { result.0 < sum + 2 ^ 33 }
+    ensures { TakesUpTo 8 sum bytes.now result.0 result.1.now }
 {
     match bytes {
         [a, b, c, d, e, f, g, h, after @ ..] => {
@@ -61,9 +59,7 @@ fn add_eight(sum: u64, bytes: &[u8]) -> (u64, &[u8])
 #[inline(always)]
 fn add_four(sum: u64, bytes: &[u8]) -> (u64, &[u8])
     requires { sum < 2 ^ 40 }
-    ensures added { IsAdded sum bytes.now result.0 result.1.now }
-    ensures left { IsLeft 4 bytes.now result.1.now }
-    ensures small { result.0 < sum + 2 ^ 33 }
+    ensures { TakesUpTo 4 sum bytes.now result.0 result.1.now }
 {
     match bytes {
         [a, b, c, d, after @ ..] => {

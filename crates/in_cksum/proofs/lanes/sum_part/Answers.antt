@@ -8,4 +8,4 @@ pub returns-clause-folded : goal.returns-clause-folded
 returns-clause-folded c =
     replaced c.from.result c.sum_numbers-2.result
     (c.sum_turns-turns.result.sum + swapped_sum c.sum_turns-turns.result.rest.now) c.sum_numbers-2.ensures.folded
-    ∙ ap fold16 (omega (arith, c.from.ensures)) ∙ c.sum_turns-turns.ensures
+    ∙ ap fold16 (omega (arith, c.from.ensures)) ∙ c.sum_turns-turns.ensures.folded

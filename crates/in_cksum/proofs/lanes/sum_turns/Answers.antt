@@ -4,8 +4,8 @@ use Rattle.in_cksum.proofs.Numbers.{turn_folded, own_sum_folded}
 use Rattle.in_cksum.proofs.Words.{swapped_sum_bound, swapped_sum_cut}
 use Rattle.in_cksum.proofs.lanes.sum_turns.Goals as goal
 
-pub add_four_blocks-requires-clause-fits : goal.add_four_blocks-requires-clause-fits
-add_four_blocks-requires-clause-fits c =
+pub add_blocks-requires-clause-fits : goal.add_blocks-requires-clause-fits
+add_blocks-requires-clause-fits c =
     omega (
       arith,
       c.turns.invariant.fits,
@@ -29,13 +29,13 @@ turns-preserved c =
       folded =
           turn_folded _ _ _ _ (swapped_sum c.split_at-in-turns.result.0.now)
           (swapped_sum c.split_at-in-turns.result.1.now) (swapped_sum c.split_at.result.1.now) _
-          c.add_four_blocks.ensures
-          (own_sum_folded c.turns.sum c.add_sixteen_numbers-numbers.result.0 c.add_sixteen_numbers-numbers.result.1
+          c.add_blocks.ensures
+          (own_sum_folded c.turns.sum c.add_numbers-numbers.result.0 c.add_numbers-numbers.result.1
           c.add_carrying-low.result.0 c.add_carrying-low.result.1 (swapped_sum c.split_at-in-turns.result.1.now)
-          c.add_carrying-low.ensures.sum c.add_sixteen_numbers-numbers.ensures.folded)
+          c.add_carrying-low.ensures.sum c.add_numbers-numbers.ensures.folded)
           (omega (arith, cut, halves))
           ∙ c.turns.invariant.folded;
-      fits = omega (arith, c.turns.invariant.fits, c.add_four_blocks.ensures, cut, halves);
+      fits = omega (arith, c.turns.invariant.fits, c.add_blocks.ensures, cut, halves);
       small = omega (arith, c.add_carrying-low.ensures.fits.room);
     }
 
