@@ -24,7 +24,16 @@ static uint32_t word_at(const uint8_t *at)
     return *(const word *)(const void *)at;
 }
 
-#ifndef __riscv
+#ifdef __riscv /* has no carry flag */
+/* The sum of the words up to the last 16 bytes of which some are missing. Moves to these. */
+static uint64_t sum_words(const uint8_t **bytes, uint32_t *n)
+{
+    uint64_t sum = 0;
+    for (; *n >= 16; *n -= 16, *bytes += 16)
+        sum += (uint64_t)word_at(*bytes) + word_at(*bytes + 4) + word_at(*bytes + 8) + word_at(*bytes + 12);
+    return sum;
+}
+#else
 /* A sum with a carry in and out: one instruction, if the processor has a carry flag. */
 static uint32_t add_carrying(uint32_t a, uint32_t b, uint32_t *carry)
 {
@@ -33,25 +42,31 @@ static uint32_t add_carrying(uint32_t a, uint32_t b, uint32_t *carry)
     *carry = first | __builtin_add_overflow(sum, *carry, &sum);
     return sum;
 }
-#endif
 
-/* Adds the four words at `bytes` to a sum of 64 bits. */
-static void add_words(uint32_t *low, uint32_t *high, const uint8_t *bytes)
+/* Adds four words and a carry to a sum. Returns the carry out of it. */
+static uint32_t add_words(uint32_t *sum, const uint8_t *bytes, uint32_t carry)
 {
-#ifdef __riscv /* has no carry flag */
-    uint64_t sum = (uint64_t)*high << 32 | *low;
-    sum += (uint64_t)word_at(bytes) + word_at(bytes + 4) + word_at(bytes + 8) + word_at(bytes + 12);
-    *low = (uint32_t)sum;
-    *high = (uint32_t)(sum >> 32);
-#else
-    uint32_t carry = 0;
-    *low = add_carrying(*low, word_at(bytes), &carry);
-    *low = add_carrying(*low, word_at(bytes + 4), &carry);
-    *low = add_carrying(*low, word_at(bytes + 8), &carry);
-    *low = add_carrying(*low, word_at(bytes + 12), &carry);
-    *high += carry;
-#endif
+    *sum = add_carrying(*sum, word_at(bytes), &carry);
+    *sum = add_carrying(*sum, word_at(bytes + 4), &carry);
+    *sum = add_carrying(*sum, word_at(bytes + 8), &carry);
+    *sum = add_carrying(*sum, word_at(bytes + 12), &carry);
+    return carry;
 }
+
+/* The sum of the words up to the last 16 bytes of which some are missing. Moves to these. */
+static uint64_t sum_words(const uint8_t **bytes, uint32_t *n)
+{
+    uint32_t low = 0, high = 0;
+    for (; *n >= 32; *n -= 32, *bytes += 32)
+        high += add_words(&low, *bytes + 16, add_words(&low, *bytes, 0));
+    if (*n >= 16) {
+        high += add_words(&low, *bytes, 0);
+        *n -= 16;
+        *bytes += 16;
+    }
+    return (uint64_t)high << 32 | low;
+}
+#endif
 
 /* The sum of the 16-bit words in memory order, with an odd last byte as the low half of a word. The high half of each
    32 bits counts 65,536 times, which a fold reduces to 1. So does a carry out of 32 bits: the next word takes it. */
@@ -60,10 +75,7 @@ uint64_t bsdudp_plain_sum(const uint8_t *bytes, uint64_t len)
     uint32_t n = (uint32_t)len;
     uint64_t sum = 0;
     if ((uintptr_t)bytes % 4 == 0) {
-        uint32_t low = 0, high = 0;
-        for (; n >= 16; n -= 16, bytes += 16)
-            add_words(&low, &high, bytes);
-        sum = (uint64_t)high << 32 | low;
+        sum = sum_words(&bytes, &n);
         for (; n >= 4; n -= 4, bytes += 4)
             sum += word_at(bytes);
     }
