@@ -96,6 +96,21 @@ def test_sentences_have_the_numbers_of_the_tables():
     )
 
 
+def test_each_sentence_is_there():
+    """Each sentence is on its page, also one whose numbers are only in a run."""
+    module = tables()
+    for it in module.SENTENCES:
+        assert module.with_numbers(read(it.page), it, []) == read(it.page)
+
+
+def test_fewer_than_each_build_of_lwip():
+    """What README and the page say of 2 and 1,472 bytes and of seven fragments, and the page of 9,000 bytes."""
+    module = tables()
+    rows = module.costs(read(PAGE), module.TABLES["peers"])
+    fewer = [all(rows["ours"][at] < them[at] for name, them in rows.items() if name != "ours") for at in range(4)]
+    assert fewer == [True, True, False, True], "write the sentences about lwIP again: the first that has 'fewer'"
+
+
 def test_each_row_is_of_a_benchmark():
     """Each row that bench/tables takes from a run is named in its subject's sources, and so is its head."""
     module, faults = tables(), []
