@@ -6,63 +6,26 @@ use Rattle.std.specs.Ordering.{nat_cmp}
 use Rattle.std.proofs.lemmas.Bool.{cases_eq}
 use Rattle.std.proofs.lemmas.Option.{none-some, same_Some}
 use Rattle.mbuf_pool.specs.Cells.{Head, PacketHeader, over}
-use Rattle.mbuf_pool.specs.Store.{StoreView, SetsHead, IsStore, mbuf_of, mbuf_head, free_mbufs, mbufs_out, is_out}
-use Rattle.mbuf_pool.proofs.Laws.{free_or_out}
-use Rattle.mbuf_chain.specs.Chain.{Adds, Entry, ChainView, PoolView, IsLive, IsPlace, alone, chain_of, entry_of, held_mbufs, string, with_chain, without}
-use Rattle.mbuf_chain.specs.Steps.{headless, joined, one_mbuf, with_entry}
+use Rattle.mbuf_pool.specs.Store.{StoreView, IsStore, mbuf_of, mbuf_head, is_out}
+use Rattle.mbuf_chain.specs.Chain.{Adds, Entry, ChainView, PoolView, IsLive, IsPlace, alone, chain_of, entry_of, string, with_chain, without}
+use Rattle.mbuf_chain.specs.Steps.{joined, one_mbuf, with_entry}
 use Rattle.mbuf_chain.specs.Inside.Access.{CanWrite, HasChain}
 use Rattle.mbuf_chain.specs.Inside.Cells.{IsFit, IsPool, IsLinked, AllFollow, Taken, WritesPlace, cells_from, entry_at, entry_from, entry_over, first_of, front_of, head_before, head_room_low, is_at, is_pointed, out_at, place_bytes, pool_of, read_chain, room_high, view_of, weigh, weigh_all}
-use Rattle.mbuf_chain.proofs.Maps.{get_left, insert-insert, remove-insert, remove-insert_any}
+use Rattle.mbuf_chain.proofs.Maps.{get_left, insert-insert, remove-insert}
 use Rattle.mbuf_chain.proofs.Lists.{chains_of, is_at_other, is_at_same, off, on, out_below}
-use Rattle.mbuf_chain.proofs.Changes.{SameCell, follow_kept, get-view_of, held_is, links_kept, list_kept, step, view_is}
+use Rattle.mbuf_chain.proofs.Changes.{SameCell, follow_kept, get-view_of, links_kept, list_kept, step, view_is}
 use Rattle.mbuf_chain.proofs.Focused.{first_out, open_on, whole_of}
 use Rattle.mbuf_chain.proofs.Along.{all_bytes}
 use Rattle.mbuf_chain.proofs.Bytes.{run_written}
-use Rattle.mbuf_chain.proofs.Heads.{head_set}
-use Rattle.mbuf_chain.proofs.Joins.{all_follow, bare, bare_first, bared_twice, bytes_are, stripped, sum_is}
+use Rattle.mbuf_chain.proofs.Joins.{all_follow, bare_first, bytes_are, sum_is}
 use Rattle.mbuf_chain.proofs.Made.{NewMbuf, counted_in, new_plain}
 use Rattle.mbuf_chain.proofs.Filled.{only}
-use Rattle.mbuf_chain.proofs.Laws.Owners.{chain_here, shown_with}
+use Rattle.mbuf_chain.proofs.Laws.Owners.{shown_with}
 use Rattle.mbuf_chain.proofs.Laws.Steps.{live_shown}
-
--- ---- the chain without its packet header, and in no train
-pub record Bare (s t : StoreView) (b : ℕ) : Type 0 where
-  pub pool : IsPool t
-  pub live : IsLive (pool_of t) b
-  pub front : (chain_of (pool_of t) b).front ≡ alone false
-  pub map_is : pool_of t ≡ with_chain (pool_of s) b (headless (chain_of (pool_of s) b))
-  pub outs : mbufs_out t ≡ mbufs_out s
-  pub mbufs : length t.mbufs ≡ length s.mbufs
-
-pub bare_now : (s t u : StoreView) (b : ℕ) → HasChain s b → SetsHead s t b (record (mbuf_head s b) { packet = None })
-    → SetsHead t u b (record (mbuf_head t b) { next_packet = None }) → IsStore u → Bare s u b
-bare_now s t u b has first later store =
-    let o = open_on s b has.pool has.live in
-    let sets = bared_twice s t u b has.pool has.live first later in
-    let done = stripped s u b has.pool has.live sets store in
-    let h : ChainView = headless (chain_of (pool_of s) b) in
-    let set = head_set s u b (bare (mbuf_head s b)) (first_out s b o.at) o.at.sound.store sets in
-    record {
-      pool = done.pool;
-      live = live_shown (pool_of s) (pool_of u) b h done.map_is;
-      front = ap (λ (v : ChainView). v.front) (shown_with (pool_of s) (pool_of u) b h done.map_is);
-      map_is = done.map_is;
-      outs = set.outs.total;
-      mbufs = set.outs.mbufs;
-    }
 
 -- the chain of an mbuf before it
 abbrev pub IsPut : PoolView → ℕ → PoolView → ℕ → ChainView → Type 0
 IsPut p b r i v = Adds (without p b) r i (joined v (chain_of p b))
-
-unbare : (p q r : PoolView) (b i : ℕ) (v : ChainView) → q ≡ with_chain p b (headless (chain_of p b)) → IsPut q b r i v
-    → IsPut p b r i v
-unbare p q r b i v is =
-    let h : ChainView = headless (chain_of p b) in
-    subst (λ (s : PoolView). IsPut s b r i v → IsPut p b r i v) (sym is) (λ a.
-    subst (λ (w : ChainView). Adds (without p b) r i (joined v w)) (chain_here p b h)
-    (subst (λ (s : PoolView). Adds s r i (joined v (chain_of (with_chain p b h) b)))
-    (λ j. record { mbufs = p.mbufs; clusters = p.clusters; chains = remove-insert_any p.chains b h j }) a))
 
 -- ---- the new mbuf
 pub record IsBefore (s t : StoreView) (i b : ℕ) (v : ChainView) : Type 0 where
@@ -164,25 +127,20 @@ pub record Blank (s t : StoreView) (i b start : ℕ) (ws : List ℕ) : Type 0 wh
   pub done : (u : StoreView) → WritesPlace t u i (only i) start ws
       → IsPut (pool_of s) b (pool_of u) i (one_mbuf true (record { bytes = ws; start = start; cluster = None }) i)
 
-pub blank : (s t u : StoreView) (i b start len : ℕ) (ws : List ℕ) → Bare s t b
-    → Taken t u i (head_before start (length ws) b len) → IsStore u → 28 ≤ start → start + length ws ≤ 128
-    → len ≡ length (string (chain_of (pool_of s) b)) → Blank s u i b start ws
-blank s t u i b start len ws back got store low high is_len =
+pub blank : (s u : StoreView) (i b start len : ℕ) (ws : List ℕ) → HasChain s b
+    → (chain_of (pool_of s) b).front ≡ alone false → Taken s u i (head_before start (length ws) b len) → IsStore u
+    → 28 ≤ start → start + length ws ≤ 128 → len ≡ length (string (chain_of (pool_of s) b)) → Blank s u i b start ws
+blank s u i b start len ws back bare_b got store low high is_len =
     let h : Head = head_before start (length ws) b len in
-    let n = new_plain t u i h got refl store in
+    let n = new_plain s u i h got refl store in
     let old : Entry =
     record { bytes = take (length ws) (drop start (mbuf_of u i).bytes); start = start; cluster = None } in
     let new : Entry = record { bytes = ws; start = start; cluster = None } in
-    let same : length (string (chain_of (pool_of t) b)) ≡ length (string (chain_of (pool_of s) b)) =
-    ap (λ (v : ChainView). length (string v))
-    (shown_with (pool_of s) (pool_of t) b (headless (chain_of (pool_of s) b)) back.map_is) in
-    let m = before t u i b h (record { pool = back.pool; live = back.live }) back.front n refl
-    (record { low = low; high = high; kind = refl })
-    (λ packet is. omega (arith, ap (λ (p : PacketHeader). p.len) (same_Some _ _ is), same, is_len)) in
+    let m = before s u i b h back bare_b n refl (record { low = low; high = high; kind = refl })
+    (λ packet is. omega (arith, ap (λ (p : PacketHeader). p.len) (same_Some _ _ is), is_len)) in
     let a : IsPut (pool_of s) b (pool_of u) i (one_mbuf true old i) =
-    unbare (pool_of s) (pool_of t) (pool_of u) b i (one_mbuf true old i) back.map_is
-    (subst (λ (e : Entry). IsPut (pool_of t) b (pool_of u) i
-    (record { front = alone true; entries = e ∷ []; cells = i ∷ [] })) (ap (entry_from u i) n.head) m.adds) in
+    subst (λ (e : Entry). IsPut (pool_of s) b (pool_of u) i
+    (record { front = alone true; entries = e ∷ []; cells = i ∷ [] })) (ap (entry_from u i) n.head) m.adds in
     let base : PoolView = without (pool_of s) b in
     let back_is : ChainView = chain_of (pool_of s) b in
     let shown : chain_of (pool_of u) i ≡ joined (one_mbuf true old i) back_is =
@@ -252,9 +210,3 @@ pub back_short : {s : StoreView} {b : ℕ} → HasChain s b → length (string (
 back_short {s} {b} has =
     let o = open_on s b has.pool has.live in
     omega (arith, sum_is s b has.pool has.live, all_bytes s b (whole_of s b o.at) o.at.sound.store)
-
--- if no mbuf is free now, none was
-pub none_was : {s t : StoreView} {b : ℕ} → IsPool s → Bare s t b → free_mbufs t ≡ 0
-    → held_mbufs (pool_of s) ≡ length s.mbufs
-none_was {s} {t} (lists, ok, totals) back none =
-    omega (arith, held_is s lists ok, free_or_out t, none, back.outs, back.mbufs)

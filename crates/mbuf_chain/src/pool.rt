@@ -1,9 +1,9 @@
 //! The pool.
-ghost use Rattle.std.specs.Prelude.{◌≡◌, ◌≢◌, ℕ, ◌+◌, ◌-◌, ◌^◌, ◌<◌, ◌≤◌, ◌⊎◌, true, None, Some, length, sum, fold, max, IfOk, OnOk, OnErr, IsSome, IfSome, MatchOption, if◌then◌else◌, take, drop};
+ghost use Rattle.std.specs.Prelude.{◌≡◌, ◌≢◌, ℕ, ◌+◌, ◌-◌, ◌^◌, ◌<◌, ◌≤◌, ◌⊎◌, true, false, None, Some, length, sum, fold, max, IfOk, OnOk, OnErr, IsSome, IfSome, MatchOption, if◌then◌else◌, take, drop};
 ghost use Rattle.std.specs.FinMap as finmap;
 ghost use Rattle.params.specs.declared.TheConstants.{MBUF_HEADER, MCLBYTES, MSIZE};
 ghost use Rattle.mbuf_pool.specs.Store.{mbufs_out, cluster_count};
-ghost use Rattle.mbuf_chain.specs.Chain.{IsLive, IsPlace, chain_of, with_chain, without, held_mbufs, references, reference_counts, free_clusters, string, layout, Adds, IsUnshared, room_start, room_end, leading_space, trailing_space, entry_in, HasLeadingSpace, HasTrailingSpace};
+ghost use Rattle.mbuf_chain.specs.Chain.{IsLive, IsPlace, alone, chain_of, with_chain, without, held_mbufs, references, reference_counts, free_clusters, string, layout, Adds, IsUnshared, room_start, room_end, leading_space, trailing_space, entry_in, HasLeadingSpace, HasTrailingSpace};
 ghost use Rattle.mbuf_chain.specs.Heads.{heads};
 ghost use Rattle.mbuf_chain.specs.Pieces.{chain_pieces};
 ghost use Rattle.mbuf_chain.specs.Steps.{one_mbuf, empty_entry, narrowed, with_front, with_back, overwritten, joined, placed, first_part, second_part, with_entry_in};
@@ -169,23 +169,22 @@ impl Pool {
         }
     }
 
-    /// Makes an mbuf with a packet header and the given bytes, like `new_plain_with`, and links a chain of `len` bytes
-    /// after it, like `link_counted`. An mbuf must be free. The result is that of these two calls, but the head is
-    /// written only once.
+    /// Makes an mbuf with a packet header and the given bytes, like `new_plain_with`, before a chain of `len` bytes
+    /// that has no packet header and is in no train. An mbuf must be free. The result is that of `new_plain_with` and
+    /// `link_counted`, but the new head is written only once, and the chain's own head isn't written.
     #[inline(always)]
     pub fn new_plain_before(&mut self, start: u32, bytes: &[u8], back: Chain, len: u32) -> Chain
         requires low { PACKET_START ≤ start }
         requires high { start + length bytes.now ≤ MSIZE }
         requires free { held_mbufs self.old < self.old.mbufs }
         requires back { IsLive self.old back }
+        requires bare { (chain_of self.old back).front ≡ alone false }
         requires len { len ≡ length (string (chain_of self.old back)) }
         ensures { Adds (without self.old back) self.new result (joined
             (one_mbuf true (record { bytes = bytes.now; start = start; cluster = None }) result)
             (chain_of self.old back)) }
     {
         let back = back.into_number();
-        self.store.change_head(back, Change::NoPacket);
-        self.store.change_head(back, Change::NextPacket(None));
         let Ok(first) = self
             .store
             .get_with(head_before(start, bytes.len() as u32, back, len))
