@@ -41,6 +41,9 @@ new_plain_before-requires-clause-high c =
 pub new_plain_before-requires-clause-back : goal.new_plain_before-requires-clause-back
 new_plain_before-requires-clause-back c = live_made (copy (goal.at.new_plain_before-requires-clause-back c).In-Ok)
 
+pub new_plain_before-requires-clause-bare : goal.new_plain_before-requires-clause-bare
+new_plain_before-requires-clause-bare c = (copy (goal.at.new_plain_before-requires-clause-bare c).In-Ok).front
+
 pub new_plain_before-requires-clause-len : goal.new_plain_before-requires-clause-len
 new_plain_before-requires-clause-len c =
     copy_long c.args.pool.now c.copy_at.new.pool c.args.chain.now c.in-Ok.back c.args.from.off c.args.size

@@ -1,7 +1,7 @@
 use Rattle.std.proofs.Common.{refl, sym, ap, arith}
-use Rattle.mbuf_chain.specs.Chain.{PoolView}
+use Rattle.mbuf_chain.specs.Chain.{ChainView, PoolView}
 use Rattle.mbuf_chain.proofs.Laws.Accounts.{held-adds}
-use Rattle.mbuf_chain.proofs.Laws.Owners.{live_adds}
+use Rattle.mbuf_chain.proofs.Laws.Owners.{live_adds, shown_adds}
 use Rattle.chain_ops.proofs.Laws.Makes.{makes_as}
 use Rattle.chain_ops.proofs.Laws.Steps.{string_one}
 use Rattle.ip_reass.proofs.ArriveBytes.{left_are, put_before}
@@ -13,6 +13,9 @@ new_plain_before-requires-clause-free c =
 
 pub new_plain_before-requires-clause-back : goal.new_plain_before-requires-clause-back
 new_plain_before-requires-clause-back c = live_adds c.in-Ok.ensures.ok
+
+pub new_plain_before-requires-clause-bare : goal.new_plain_before-requires-clause-bare
+new_plain_before-requires-clause-bare c = ap (λ (v : ChainView). v.front) (shown_adds c.in-Ok.ensures.ok)
 
 pub new_plain_before-requires-clause-len : goal.new_plain_before-requires-clause-len
 new_plain_before-requires-clause-len c = sym (string_one _ _ _ _ _ c.in-Ok.ensures.ok)

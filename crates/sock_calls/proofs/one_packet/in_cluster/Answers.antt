@@ -18,6 +18,9 @@ new_plain_before-requires-clause-free c =
 pub new_plain_before-requires-clause-back : goal.new_plain_before-requires-clause-back
 new_plain_before-requires-clause-back c = live_adds c.in-Ok.ensures.ok.3
 
+pub new_plain_before-requires-clause-bare : goal.new_plain_before-requires-clause-bare
+new_plain_before-requires-clause-bare c = ap (λ (v : ChainView). v.front) (shown_adds c.in-Ok.ensures.ok.3)
+
 pub new_plain_before-requires-clause-len : goal.new_plain_before-requires-clause-len
 new_plain_before-requires-clause-len c =
     sym (ap (λ (v : ChainView). length (string v)) (shown_adds c.in-Ok.ensures.ok.3)
