@@ -1,18 +1,22 @@
 -- How packets are counted and made, one after another (this project's own). No caller reads it.
-use Rattle.std.specs.Prelude.{◌≡◌, ℕ, ◌+◌, ◌-◌, ◌*◌, ◌/◌, ◌%◌, ◌<◌, ◌≤◌, min, max, nat_lt, if◌then◌else◌, List, [], ◌∷◌, ◌++◌, length, map, drop, sum_by, None, Result, Ok, Err}
+use Rattle.std.specs.Prelude.{◌≡◌, ℕ, ◌+◌, ◌-◌, ◌*◌, ◌/◌, ◌%◌, ◌<◌, ◌≤◌, min, max, nat_lt, if◌then◌else◌, List, [], ◌∷◌, ◌++◌, length, map, take, drop, sum_by, Bool, None, Result, Ok, Err, IfOk, OnOk, OnErr}
 use Rattle.std.specs.List.{range_with_len}
-use Rattle.params.specs.declared.TheConstants.{FRAGMENT_UNIT, IP_HEADER, IP_MAX_PACKET, IP_UDP_HEADERS, OUTPUT_QUEUE_PACKETS, PACKET_START, UDP_HEADER}
+use Rattle.params.specs.declared.TheConstants.{FRAGMENT_UNIT, IP_HEADER, IP_MAX_PACKET, IP_UDP_HEADERS, MIN_MTU, OUTPUT_QUEUE_PACKETS, PACKET_START, UDP_HEADER, UDP_MAX_DATA}
 use Rattle.flat_model.specs.Amounts.Weight.{Item}
 use Rattle.flat_model.specs.Fragments.Cuts.{Part, cuts, part}
 use Rattle.flat_model.specs.Machine.Sending.{later_weight}
 use Rattle.mbuf_chain.specs.Chain.{Entry, PoolView, ChainView, IsLive, chain_of, held_mbufs, string, without}
 use Rattle.mbuf_chain.specs.Train.{TrainView, numbers, IsHeld}
-use Rattle.mbuf_chain.specs.Owners.{Moves, IsOwned}
+use Rattle.mbuf_chain.specs.Owners.{Moves, IsOwned, times_among}
 use Rattle.chain_ops.specs.Makes.{HasMbufs, LacksMbufs}
 use Rattle.chain_ops.specs.Weights.{layout_entries}
 use Rattle.ip_out.specs.declared.head.IpHead.{IpHead}
+use Rattle.ip_out.specs.declared.ways.Packets.{Packets}
+use Rattle.ip_out.specs.declared.ways.Way.TheVariants.{Both}
 use Rattle.ip_out.specs.Headings.{head_bytes}
-use Rattle.ip_out.specs.Packets.{BeginPlain, IsDatagramChain, later_need, packets_of, part_bytes, train_packets}
+use Rattle.ip_out.specs.Packets.{BeginPlain, IsDatagramChain, chain_parts, later_need, packets_of, part_bytes, train_packets}
+use Rattle.ip_out.specs.Queues.{IsOutputQueue}
+use Rattle.ip_out.specs.Ways.{way_need}
 
 -- ---- how many mbufs of a send share a byte with its later fragments
 
@@ -23,6 +27,12 @@ here at end p = if nat_lt (max at (IP_HEADER + p.offset)) (min end (IP_HEADER + 
 -- the parts of a send of n bytes after the first
 abbrev pub later_parts : ℕ → ℕ → List Part
 later_parts n mtu = drop 1 (cuts (n + UDP_HEADER) mtu)
+
+-- a send of n bytes, and the longest packet of its link
+pub record IsSend (n mtu : ℕ) : Type 0 where
+  pub short : n ≤ UDP_MAX_DATA
+  pub least : MIN_MTU ≤ mtu
+  pub top : mtu ≤ 65535
 
 -- m is the number of the later parts, and c their length: how many of them share a byte with a range of the datagram
 pub record Counts (n mtu c m : ℕ) : Type 0 where
@@ -77,6 +87,25 @@ module _ {E : Type 0} where
   Packs p c h mtu q (Ok t) = IsPacked p c h mtu q t
   Packs p c h mtu q (Err e) = IsNotPacked p c mtu q
 
+-- chain c has a datagram, and is to be cut into packets of at most mtu bytes
+pub record CanCut (p : PoolView) (c mtu : ℕ) : Type 0 where
+  pub live : IsLive p c
+  pub datagram : IsDatagramChain (chain_of p c)
+  pub least : MIN_MTU ≤ mtu
+
+-- from p to q the packets of chain c were made, and those of its copy
+pub record IsBothWays {E : Type 0} (p : PoolView) (c : ℕ) (h : IpHead) (mtu : ℕ) (q : PoolView) (r : Result Packets E)
+    : Type 0 where
+  pub link : IfOk r (λ s. train_packets q s.link ≡ packets_of (chain_of p c) h mtu)
+  pub looped : IfOk r (λ s. train_packets q s.looped ≡ packets_of (chain_of p c) h mtu)
+  pub cut : IfOk r (λ s. s.is_cut ≡ nat_lt 1 (length (chain_parts (chain_of p c) mtu)))
+  pub held : IfOk r (λ s. IsHeld q s.link × IsHeld q s.looped)
+  pub plain : IfOk r (λ s. BeginPlain q s.link × BeginPlain q s.looped)
+  pub moves : IfOk r (λ s. Moves p (c ∷ []) q (numbers q s.link ++ numbers q s.looped))
+  pub enough : OnOk r (HasMbufs p (way_need Both (chain_of p c) mtu))
+  pub err : OnErr r (LacksMbufs p (way_need Both (chain_of p c) mtu))
+  pub freed : OnErr r (q ≡ without p c)
+
 -- n bytes are cut into parts of c, k of them
 pub record IsCutInto (n mtu c k : ℕ) : Type 0 where
   pub some : 0 < k
@@ -97,3 +126,28 @@ pub record IsMoving (p : PoolView) (t u : TrainView) (q : PoolView) (t' u' : Tra
   pub items : train_packets q t' ++ train_packets q u' ≡ train_packets p t ++ train_packets p u
   pub plain : BeginPlain p t → BeginPlain p u → BeginPlain q t' × BeginPlain q u'
   pub room : t'.len ≤ OUTPUT_QUEUE_PACKETS
+
+-- from p to q, all packets of a train went to the end of a queue, up to the 50th; if there were more, some were lost
+pub record IsEnqueued (p : PoolView) (t u : TrainView) (q : PoolView) (t' : TrainView) (lost : Bool) : Type 0 where
+  pub packets : train_packets q t' ≡ take OUTPUT_QUEUE_PACKETS (train_packets p t ++ train_packets p u)
+  pub is_lost : lost ≡ nat_lt OUTPUT_QUEUE_PACKETS (length (train_packets p t ++ train_packets p u))
+  pub plain : BeginPlain p t → BeginPlain p u → BeginPlain q t'
+  pub queue : IsOutputQueue q t'
+  pub moves : Moves p (numbers p t ++ numbers p u) q (numbers q t')
+
+-- a datagram of n bytes in chain c, which isn't in the queue
+pub record CanPush (p : PoolView) (t : TrainView) (c n : ℕ) : Type 0 where
+  pub queue : IsOutputQueue p t
+  pub has : HasDatagram p c n
+  pub apart : times_among c (numbers p t) ≡ 0
+
+-- from p to q, it went to the end of the queue as one packet, or was lost because 50 were queued
+pub record IsPushed (p : PoolView) (t : TrainView) (c : ℕ) (h : IpHead) (n : ℕ) (q : PoolView) (t' : TrainView)
+    (lost : Bool) : Type 0 where
+  pub packets : (mtu : ℕ) → n ≤ mtu → train_packets q t'
+      ≡ take OUTPUT_QUEUE_PACKETS (train_packets p t ++ packets_of (chain_of p c) h mtu)
+  pub is_lost : (mtu : ℕ) → n ≤ mtu → lost
+      ≡ nat_lt OUTPUT_QUEUE_PACKETS (length (train_packets p t ++ packets_of (chain_of p c) h mtu))
+  pub plain : BeginPlain p t → BeginPlain q t'
+  pub queue : IsOutputQueue q t'
+  pub moves : Moves p (c ∷ numbers p t) q (numbers q t')

@@ -8,7 +8,7 @@ ghost use Rattle.chain_ops.specs.Makes.{Makes, HasMbufs, LacksMbufs};
 ghost use Rattle.chain_ops.specs.Copies.{copied};
 ghost use Rattle.chain_ops.specs.Cursors.{IsCursor};
 ghost use Rattle.ip_out.specs.Packets.{BeginPlain, IsDatagramChain, part_head, later_need, train_packets, packets_of, part_need};
-ghost use Rattle.ip_out.specs.Inside.{HasDatagram, Packs, head_entry, parts_to, IsCutInto, IsLater};
+ghost use Rattle.ip_out.specs.Inside.{CanCut, HasDatagram, Packs, head_entry, parts_to, IsCutInto, IsLater};
 
 use crate::head::{IpHead, MAX_OFFSET, write_head};
 use chain_ops::theorems::copy_weight;
@@ -220,9 +220,7 @@ pub(crate) fn fragments(
     head: IpHead,
     mtu: u16,
 ) -> Result<Train, NoBufs>
-    requires live { IsLive pool.old chain }
-    requires datagram { IsDatagramChain (chain_of pool.old chain) }
-    requires least { MIN_MTU ≤ mtu }
+    requires { CanCut pool.old chain mtu }
     ensures { Packs pool.old chain head mtu pool.new result }
 {
     let len = pool.len(&chain);

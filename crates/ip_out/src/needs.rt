@@ -1,7 +1,7 @@
 //! How many free buffers a send takes.
 ghost use Rattle.std.specs.Prelude.{◌≡◌, ◌+◌, ◌-◌, ◌*◌, ◌/◌, ◌<◌, ◌≤◌};
 ghost use Rattle.flat_model.specs.Amounts.Layout.{need, need_bcast};
-ghost use Rattle.ip_out.specs.Inside.{Counts};
+ghost use Rattle.ip_out.specs.Inside.{Counts, IsSend};
 
 use crate::fragments::cut_of;
 use chain_ops::next_room;
@@ -33,9 +33,7 @@ fn later_met(chunk: u32, at: u32, end: u32) -> u32
 /// Returns how many bytes of a send of `n` bytes each fragment except the last carries, and how many fragments there
 /// are after the first.
 fn later_of(n: u32, mtu: u32) -> (u32, u32)
-    requires short { n ≤ UDP_MAX_DATA }
-    requires least { MIN_MTU ≤ mtu }
-    requires top { mtu ≤ 65535 }
+    requires { IsSend n mtu }
     ensures counts { Counts n mtu result.0 result.1 }
     ensures chunk { MIN_MTU - IP_HEADER ≤ result.0 }
     ensures most { result.1 ≤ 65536 }
@@ -49,9 +47,7 @@ fn later_of(n: u32, mtu: u32) -> (u32, u32)
 
 /// See `need`. It takes one step for each mbuf of the datagram.
 fn count(n: u32, mtu: u32) -> Need
-    requires short { n ≤ UDP_MAX_DATA }
-    requires least { MIN_MTU ≤ mtu }
-    requires top { mtu ≤ 65535 }
+    requires { IsSend n mtu }
     ensures need { result ≡ need n mtu }
     ensures most { result.mbufs ≤ 200000000 }
 {

@@ -5,7 +5,7 @@ ghost use Rattle.mbuf_chain.specs.Heads.{nth_heads};
 ghost use Rattle.mbuf_chain.specs.Owners.{Moves, IsOwned, times_among};
 ghost use Rattle.mbuf_chain.specs.Train.{IsHeld, numbers};
 ghost use Rattle.ledger.specs.Accounts.{item_at};
-ghost use Rattle.ip_out.specs.Inside.{HasDatagram};
+ghost use Rattle.ip_out.specs.Inside.{CanPush, IsPushed, IsEnqueued};
 ghost use Rattle.ip_out.specs.Packets.{BeginPlain, IsDatagramChain, train_packets, packets_of, chain_parts};
 ghost use Rattle.ip_out.specs.Questions.{nth_packet, oldest_length};
 ghost use Rattle.ip_out.specs.Queues.{IsOutputQueue};
@@ -32,14 +32,7 @@ fn take_over(pool: &Pool, train: &mut Train, more: Train)
     requires none { train.old.len ≡ 0 }
     requires few { more.len ≤ OUTPUT_QUEUE_PACKETS }
     requires more { IsHeld pool.now more }
-    ensures packets { train_packets pool.now train.new
-        ≡ take OUTPUT_QUEUE_PACKETS (train_packets pool.now train.old ++ train_packets pool.now more) }
-    ensures lost { false
-        ≡ nat_lt OUTPUT_QUEUE_PACKETS (length (train_packets pool.now train.old ++ train_packets pool.now more)) }
-    ensures plain { BeginPlain pool.now more → BeginPlain pool.now train.new }
-    ensures queue { IsOutputQueue pool.now train.new }
-    ensures moves { Moves pool.now (numbers pool.now train.old ++ numbers pool.now more)
-        pool.now (numbers pool.now train.new) }
+    ensures { IsEnqueued pool.now train.old more pool.now train.new false }
 {
     let _ = pool;
     mem::replace(train, more).end_empty();
@@ -51,14 +44,7 @@ fn move_packets(pool: &mut Pool, train: &mut Train, more: Train) -> bool
     requires more { IsHeld pool.old more }
     requires owned { IsOwned pool.old (numbers pool.old train.old ++ numbers pool.old more) }
     requires room { train.old.len ≤ OUTPUT_QUEUE_PACKETS }
-    ensures packets { train_packets pool.new train.new
-        ≡ take OUTPUT_QUEUE_PACKETS (train_packets pool.old train.old ++ train_packets pool.old more) }
-    ensures lost { result
-        ≡ nat_lt OUTPUT_QUEUE_PACKETS (length (train_packets pool.old train.old ++ train_packets pool.old more)) }
-    ensures plain { BeginPlain pool.old train.old → BeginPlain pool.old more → BeginPlain pool.new train.new }
-    ensures queue { IsOutputQueue pool.new train.new }
-    ensures moves { Moves pool.old (numbers pool.old train.old ++ numbers pool.old more)
-        pool.new (numbers pool.new train.new) }
+    ensures { IsEnqueued pool.old train.old more pool.new train.new result }
 {
     let mut rest = more;
     'packets: while train.len() < OUTPUT_QUEUE_PACKETS && rest.len() > 0 {
@@ -168,16 +154,8 @@ impl Queue {
         head: IpHead,
         len: u32,
     ) -> bool
-        requires queue { IsOutputQueue pool.old self.old }
-        requires has { HasDatagram pool.old chain len }
-        requires apart { times_among chain (numbers pool.old self.old) ≡ 0 }
-        ensures packets { (mtu : ℕ) → len ≤ mtu → train_packets pool.new self.new ≡ take OUTPUT_QUEUE_PACKETS
-            (train_packets pool.old self.old ++ packets_of (chain_of pool.old chain) head mtu) }
-        ensures lost { (mtu : ℕ) → len ≤ mtu → result ≡ nat_lt OUTPUT_QUEUE_PACKETS
-            (length (train_packets pool.old self.old ++ packets_of (chain_of pool.old chain) head mtu)) }
-        ensures plain { BeginPlain pool.old self.old → BeginPlain pool.new self.new }
-        ensures queue { IsOutputQueue pool.new self.new }
-        ensures moves { Moves pool.old (chain ∷ numbers pool.old self.old) pool.new (numbers pool.new self.new) }
+        requires { CanPush pool.old self.old chain len }
+        ensures { IsPushed pool.old self.old chain head len pool.new self.new result }
     {
         if self.len() >= OUTPUT_QUEUE_PACKETS {
             pool.free_chain(chain);

@@ -4,6 +4,7 @@ ghost use Rattle.mbuf_chain.specs.Chain.{IsLive, chain_of, without};
 ghost use Rattle.mbuf_chain.specs.Owners.{Moves};
 ghost use Rattle.mbuf_chain.specs.Train.{IsHeld, numbers};
 ghost use Rattle.chain_ops.specs.Makes.{HasMbufs, LacksMbufs};
+ghost use Rattle.ip_out.specs.Inside.{CanCut, IsBothWays};
 ghost use Rattle.ip_out.specs.Packets.{BeginPlain, IsDatagramChain, train_packets, packets_of, chain_parts};
 ghost use Rattle.ip_out.specs.Ways.{to_link_by, to_self_by, way_need};
 
@@ -37,20 +38,8 @@ pub struct Packets {
 
 /// Makes the packets of a datagram that goes both ways: see `make_packets`.
 fn both_ways(pool: &mut Pool, chain: Chain, head: IpHead, mtu: u16) -> Result<Packets, NoBufs>
-    requires live { IsLive pool.old chain }
-    requires datagram { IsDatagramChain (chain_of pool.old chain) }
-    requires least { MIN_MTU ≤ mtu }
-    ensures link { IfOk result (λ s. train_packets pool.new s.link ≡ packets_of (chain_of pool.old chain) head mtu) }
-    ensures looped { IfOk result (λ s. train_packets pool.new s.looped
-        ≡ packets_of (chain_of pool.old chain) head mtu) }
-    ensures cut { IfOk result (λ s. s.is_cut ≡ nat_lt 1 (length (chain_parts (chain_of pool.old chain) mtu))) }
-    ensures held { IfOk result (λ s. IsHeld pool.new s.link × IsHeld pool.new s.looped) }
-    ensures plain { IfOk result (λ s. BeginPlain pool.new s.link × BeginPlain pool.new s.looped) }
-    ensures moves { IfOk result (λ s. Moves pool.old (chain ∷ [])
-        pool.new (numbers pool.new s.link ++ numbers pool.new s.looped)) }
-    ensures enough { OnOk result (HasMbufs pool.old (way_need Way.Both (chain_of pool.old chain) mtu)) }
-    ensures err { OnErr result (LacksMbufs pool.old (way_need Way.Both (chain_of pool.old chain) mtu)) }
-    ensures freed { OnErr result (pool.new ≡ without pool.old chain) }
+    requires { CanCut pool.old chain mtu }
+    ensures { IsBothWays pool.old chain head mtu pool.new result }
 {
     let Ok(copy) = m_copym(pool, &chain, Extent::All) else {
         pool.free_chain(chain);

@@ -1,4 +1,4 @@
-use Rattle.std.proofs.Common.{arith, ap, sym, ◌∙◌, subst}
+use Rattle.std.proofs.Common.{rules, arith, ap, sym, ◌∙◌, subst}
 use Rattle.std.specs.Prelude.{nat_lt}
 use Rattle.mbuf_chain.specs.Chain.{ChainView, PoolView, chain_of, without}
 use Rattle.mbuf_chain.proofs.Laws.Owners.{moves_trans}
@@ -10,14 +10,24 @@ use Rattle.ip_out.proofs.Copies.{IsCopied, IsFirst, copied, length_copied, first
 use Rattle.ip_out.proofs.ways.both_ways.Goals as goal
 use Rattle.ip_out.proofs.ways.both_ways.Goals.{In-Ok, In-Ok-fragments}
 
-pub returns-in_default-clause-err : goal.returns-in_default-clause-err
-returns-in_default-clause-err c =
-    omega (
-      arith,
-      c.in_default.ensures.err,
-      length_copied (room_low (chain_of c.args.pool.now c.args.chain).front.header)
-          (chain_of c.args.pool.now c.args.chain).entries,
-    )
+pub returns-in_default : goal.returns-in_default
+returns-in_default c = record {
+  link = tt;
+  looped = tt;
+  cut = tt;
+  held = tt;
+  plain = tt;
+  moves = tt;
+  enough = tt;
+  err =
+      omega (
+        arith,
+        c.in_default.ensures.err,
+        length_copied (room_low (chain_of c.args.pool.now c.args.chain).front.header)
+            (chain_of c.args.pool.now c.args.chain).entries,
+      );
+  freed = search rules;
+}
 
 -- the copy, and what the packets of the chain and of the copy leave
 copy : (c : In-Ok)
@@ -34,44 +44,51 @@ first c k =
     first_sent c.args.chain c.in-Ok.copy c.in-Ok-fragments.link c.in-Ok-fragments.ensures.moves k.copy k.apart
     c.in-Ok-fragments.ensures.held
 
-pub fragments-requires-clause-live : goal.fragments-requires-clause-live
-fragments-requires-clause-live c =
-    let k = copy (goal.at.fragments-requires-clause-live c).In-Ok in
-    k.live
-
-pub fragments-requires-clause-datagram : goal.fragments-requires-clause-datagram
-fragments-requires-clause-datagram c =
-    let k = copy (goal.at.fragments-requires-clause-datagram c).In-Ok in
-    subst IsDatagramChain (sym k.same) c.requires.datagram
+pub fragments-requires : goal.fragments-requires
+fragments-requires c =
+    let k = copy (goal.at.fragments-requires c).In-Ok in
+    record {
+      live = k.live;
+      datagram = subst IsDatagramChain (sym k.same) c.requires.datagram;
+      least = c.requires.least;
+    }
 
 pub free_chain-requires-in_default-fragments : goal.free_chain-requires-in_default-fragments
 free_chain-requires-in_default-fragments c =
     let k = copy (goal.at.free_chain-requires-in_default-fragments c).In-Ok in
     live_without _ _ _ c.in_default-fragments.ensures.freed c.in-Ok.copy (λ e. k.apart (sym e)) k.copy
 
-pub returns-in_default-fragments-clause-err : goal.returns-in_default-fragments-clause-err
-returns-in_default-fragments-clause-err c =
-    let k = copy (goal.at.returns-in_default-fragments-clause-err c).In-Ok in
-    omega (
-      arith,
-      c.in_default-fragments.ensures.err,
-      k.held,
-      k.moves.mbufs,
-      ap (λ (v : ChainView). later_need v c.args.mtu) k.same,
-    )
+pub returns-in_default-fragments : goal.returns-in_default-fragments
+returns-in_default-fragments c =
+    let k = copy (goal.at.returns-in_default-fragments c).In-Ok in
+    record {
+      link = tt;
+      looped = tt;
+      cut = tt;
+      held = tt;
+      plain = tt;
+      moves = tt;
+      enough = tt;
+      err =
+          omega (
+            arith,
+            c.in_default-fragments.ensures.err,
+            k.held,
+            k.moves.mbufs,
+            ap (λ (v : ChainView). later_need v c.args.mtu) k.same,
+          );
+      freed =
+          c.free_chain-in_default-fragments.ensures
+          ∙ ap (λ (s : PoolView). without s c.in-Ok.copy) c.in_default-fragments.ensures.freed
+          ∙ base_new c.args.pool.now _ c.args.chain c.in-Ok.copy _ c.requires.live c.in-Ok.ensures.ok.adds;
+    }
 
-pub returns-in_default-fragments-clause-freed : goal.returns-in_default-fragments-clause-freed
-returns-in_default-fragments-clause-freed c =
-    c.free_chain-in_default-fragments.ensures
-    ∙ ap (λ (s : PoolView). without s c.in-Ok.copy) c.in_default-fragments.ensures.freed
-    ∙ base_new c.args.pool.now _ c.args.chain c.in-Ok.copy _ c.requires.live c.in-Ok.ensures.ok.adds
-
-pub fragments-requires-2-clause-datagram : goal.fragments-requires-2-clause-datagram
-fragments-requires-2-clause-datagram c =
-    let at = goal.at.fragments-requires-2-clause-datagram c in
+pub fragments-requires-2 : goal.fragments-requires-2
+fragments-requires-2 c =
+    let at = goal.at.fragments-requires-2 c in
     let k = copy at.In-Ok in
     let f = first at.In-Ok-fragments k in
-    subst IsDatagramChain (sym f.same) k.datagram
+    record { live = f.live; datagram = subst IsDatagramChain (sym f.same) k.datagram; least = c.requires.least }
 
 pub free-requires : goal.free-requires
 free-requires c =
@@ -80,105 +97,74 @@ free-requires c =
     let f = first at.In-Ok-fragments k in
     (beside_without _ _ _ _ c.in_default-fragments-2.ensures.freed f.apart c.in-Ok-fragments.ensures.held).held
 
-pub returns-in_default-fragments-2-clause-err : goal.returns-in_default-fragments-2-clause-err
-returns-in_default-fragments-2-clause-err c =
-    let at = goal.at.returns-in_default-fragments-2-clause-err c in
+pub returns-in_default-fragments-2 : goal.returns-in_default-fragments-2
+returns-in_default-fragments-2 c =
+    let at = goal.at.returns-in_default-fragments-2 c in
     let k = copy at.In-Ok in
     let f = first at.In-Ok-fragments k in
-    omega (
-      arith,
-      c.in_default-fragments-2.ensures.err,
-      c.in-Ok-fragments.ensures.count,
-      k.held,
-      k.moves.mbufs,
-      f.moves.mbufs,
-      ap (λ (v : ChainView). later_need v c.args.mtu) k.same,
-      ap (λ (v : ChainView). later_need v c.args.mtu) f.same,
-      k.same_need,
-    )
+    record {
+      link = tt;
+      looped = tt;
+      cut = tt;
+      held = tt;
+      plain = tt;
+      moves = tt;
+      enough = tt;
+      err =
+          omega (
+            arith,
+            c.in_default-fragments-2.ensures.err,
+            c.in-Ok-fragments.ensures.count,
+            k.held,
+            k.moves.mbufs,
+            f.moves.mbufs,
+            ap (λ (v : ChainView). later_need v c.args.mtu) k.same,
+            ap (λ (v : ChainView). later_need v c.args.mtu) f.same,
+            k.same_need,
+          );
+      freed =
+          gone_whole c.args.chain (moves_trans k.moves
+          (moves_trans f.moves (then_freed c.in-Ok.copy c.in-Ok-fragments.link c.in_default-fragments-2.ensures.freed
+          f.live c.in-Ok-fragments.ensures.held f.apart c.free.ensures))) c.requires.live;
+    }
 
-pub returns-in_default-fragments-2-clause-freed : goal.returns-in_default-fragments-2-clause-freed
-returns-in_default-fragments-2-clause-freed c =
-    let at = goal.at.returns-in_default-fragments-2-clause-freed c in
-    let k = copy at.In-Ok in
-    let f = first at.In-Ok-fragments k in
-    gone_whole c.args.chain (moves_trans k.moves
-    (moves_trans f.moves (then_freed c.in-Ok.copy c.in-Ok-fragments.link c.in_default-fragments-2.ensures.freed
-    f.live c.in-Ok-fragments.ensures.held f.apart c.free.ensures))) c.requires.live
-
-pub returns-clause-link : goal.returns-clause-link
-returns-clause-link c =
-    let at = goal.at.returns-clause-link c in
-    let k = copy at.In-Ok in
-    let f = first at.In-Ok-fragments k in
-    let second =
-    second_sent c.args.chain c.in-Ok.copy c.in-Ok-fragments.link c.in-Ok-fragments-2.looped k.moves f
-    c.in-Ok-fragments-2.ensures.moves c.in-Ok-fragments.ensures.held in
-    second.same_packets ∙ c.in-Ok-fragments.ensures.packets
-    ∙ ap (λ (v : ChainView). packets_of v c.args.head c.args.mtu) k.same
-
-pub returns-clause-looped : goal.returns-clause-looped
-returns-clause-looped c =
-    let at = goal.at.returns-clause-looped c in
-    let k = copy at.In-Ok in
-    let f = first at.In-Ok-fragments k in
-    c.in-Ok-fragments-2.ensures.packets ∙ ap (λ (v : ChainView). packets_of v c.args.head c.args.mtu) f.same
-    ∙ k.same_packets
-
-pub returns-clause-cut : goal.returns-clause-cut
-returns-clause-cut c =
-    let k = copy (goal.at.returns-clause-cut c).In-Ok in
-    ap (nat_lt 1) c.len-is_cut.ensures
-    ∙ is_cut _ c.in-Ok-fragments.link (chain_of c.args.pool.now c.args.chain) c.args.head c.args.mtu
-    c.in-Ok-fragments.ensures.held
-    (c.in-Ok-fragments.ensures.packets ∙ ap (λ (v : ChainView). packets_of v c.args.head c.args.mtu) k.same)
-
-pub returns-clause-held : goal.returns-clause-held
-returns-clause-held c =
-    let at = goal.at.returns-clause-held c in
+pub returns : goal.returns
+returns c =
+    let at = goal.at.returns c in
     let k = copy at.In-Ok in
     let f = first at.In-Ok-fragments k in
     let second =
     second_sent c.args.chain c.in-Ok.copy c.in-Ok-fragments.link c.in-Ok-fragments-2.looped k.moves f
     c.in-Ok-fragments-2.ensures.moves c.in-Ok-fragments.ensures.held in
-    (second.held, c.in-Ok-fragments-2.ensures.held)
-
-pub returns-clause-plain : goal.returns-clause-plain
-returns-clause-plain c =
-    let at = goal.at.returns-clause-plain c in
-    let k = copy at.In-Ok in
-    let f = first at.In-Ok-fragments k in
-    let second =
-    second_sent c.args.chain c.in-Ok.copy c.in-Ok-fragments.link c.in-Ok-fragments-2.looped k.moves f
-    c.in-Ok-fragments-2.ensures.moves c.in-Ok-fragments.ensures.held in
-    (subst AreBegunPlain (sym second.same_queued) c.in-Ok-fragments.ensures.plain, c.in-Ok-fragments-2.ensures.plain)
-
-pub returns-clause-moves : goal.returns-clause-moves
-returns-clause-moves c =
-    let at = goal.at.returns-clause-moves c in
-    let k = copy at.In-Ok in
-    let f = first at.In-Ok-fragments k in
-    let second =
-    second_sent c.args.chain c.in-Ok.copy c.in-Ok-fragments.link c.in-Ok-fragments-2.looped k.moves f
-    c.in-Ok-fragments-2.ensures.moves c.in-Ok-fragments.ensures.held in
-    second.moves
-
-pub returns-clause-enough : goal.returns-clause-enough
-returns-clause-enough c =
-    let at = goal.at.returns-clause-enough c in
-    let k = copy at.In-Ok in
-    let f = first at.In-Ok-fragments k in
-    let second =
-    second_sent c.args.chain c.in-Ok.copy c.in-Ok-fragments.link c.in-Ok-fragments-2.looped k.moves f
-    c.in-Ok-fragments-2.ensures.moves c.in-Ok-fragments.ensures.held in
-    omega (
-      arith,
-      c.laws.ensures.few,
-      c.in-Ok-fragments-2.ensures.count,
-      c.in-Ok-fragments.ensures.count,
-      k.held,
-      second.moves.mbufs,
-      ap (λ (v : ChainView). later_need v c.args.mtu) k.same,
-      ap (λ (v : ChainView). later_need v c.args.mtu) f.same,
-      k.same_need,
-    )
+    let of_link =
+    c.in-Ok-fragments.ensures.packets ∙ ap (λ (v : ChainView). packets_of v c.args.head c.args.mtu) k.same in
+    record {
+      link = second.same_packets ∙ of_link;
+      looped =
+          c.in-Ok-fragments-2.ensures.packets ∙ ap (λ (v : ChainView). packets_of v c.args.head c.args.mtu) f.same
+          ∙ k.same_packets;
+      cut =
+          ap (nat_lt 1) c.len-is_cut.ensures
+          ∙ is_cut _ c.in-Ok-fragments.link (chain_of c.args.pool.now c.args.chain) c.args.head c.args.mtu
+          c.in-Ok-fragments.ensures.held of_link;
+      held = (second.held, c.in-Ok-fragments-2.ensures.held);
+      plain = (
+        subst AreBegunPlain (sym second.same_queued) c.in-Ok-fragments.ensures.plain,
+        c.in-Ok-fragments-2.ensures.plain,
+      );
+      moves = second.moves;
+      enough =
+          omega (
+            arith,
+            c.laws.ensures.few,
+            c.in-Ok-fragments-2.ensures.count,
+            c.in-Ok-fragments.ensures.count,
+            k.held,
+            second.moves.mbufs,
+            ap (λ (v : ChainView). later_need v c.args.mtu) k.same,
+            ap (λ (v : ChainView). later_need v c.args.mtu) f.same,
+            k.same_need,
+          );
+      err = tt;
+      freed = tt;
+    }

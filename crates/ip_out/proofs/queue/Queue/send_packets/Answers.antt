@@ -4,12 +4,14 @@ use Rattle.params.specs.declared.TheConstants.{OUTPUT_QUEUE_PACKETS}
 use Rattle.flat_model.specs.Amounts.Weight.{Item}
 use Rattle.flat_model.specs.Fragments.Cuts.{Part}
 use Rattle.mbuf_chain.specs.Chain.{chain_of}
+use Rattle.mbuf_chain.specs.Train.{numbers}
 use Rattle.mbuf_chain.proofs.Laws.Owners.{moves_without}
 use Rattle.ip_out.specs.declared.ways.Way.{Way}
 use Rattle.ip_out.specs.Packets.{train_packets, packets_of, part_need, AreBegunPlain}
 use Rattle.ip_out.specs.Ways.{to_link_by, way_need}
-use Rattle.ip_out.proofs.Sends.{aside, aside_gone, link_owned, one_part, sent_out}
+use Rattle.ip_out.proofs.Sends.{IsAside, IsSentOut, aside, aside_gone, link_owned, one_part, sent_out}
 use Rattle.ip_out.proofs.queue.Queue.send_packets.Goals as goal
+use Rattle.ip_out.proofs.queue.Queue.send_packets.Goals.{After-push_all-is_lost, In_ok-link-in_default}
 
 pub returns-in_err-link-in_default-clause-queue : goal.returns-in_err-link-in_default-clause-queue
 returns-in_err-link-in_default-clause-queue c = record {
@@ -19,20 +21,42 @@ returns-in_err-link-in_default-clause-queue c = record {
   room = c.requires.queue.room;
 }
 
+-- the queue, beside the packets that were made
+beside : (c : In_ok-link-in_default) → IsAside c.args.pool.now c.make_packets.new.pool c.args.chain
+    (numbers c.make_packets.new.pool c.in_ok-link-in_default.field-0.link
+    ++ numbers c.make_packets.new.pool c.in_ok-link-in_default.field-0.looped) c.args.self.now
+beside c =
+    aside c.args.chain c.args.self.now c.in_ok-link-in_default.ensures.moves c.requires.live c.requires.queue.held
+    c.requires.apart
+
+-- the packets of the queue and those for the link
+all : (c : In_ok-link-in_default) → train_packets c.make_packets.new.pool c.args.self.now
+    ++ train_packets c.make_packets.new.pool c.in_ok-link-in_default.field-0.link
+    ≡ train_packets c.args.pool.now c.args.self.now
+    ++ to_link_by c.args.way (packets_of (chain_of c.args.pool.now c.args.chain) c.args.head c.args.mtu)
+all c = λ i. (beside c).same_packets i ++ c.in_ok-link-in_default.ensures.link i
+
 pub push_all-is_lost-requires-clause-queue : goal.push_all-is_lost-requires-clause-queue
 push_all-is_lost-requires-clause-queue c = record {
-  held =
-      (aside c.args.chain c.args.self.now c.in_ok-link-in_default.ensures.moves c.requires.live c.requires.queue.held
-      c.requires.apart).held;
+  held = (beside (goal.at.push_all-is_lost-requires-clause-queue c).In_ok-link-in_default).held;
   room = c.requires.queue.room;
 }
 
 pub push_all-is_lost-requires-clause-owned : goal.push_all-is_lost-requires-clause-owned
 push_all-is_lost-requires-clause-owned c =
-    let a =
-    aside c.args.chain c.args.self.now c.in_ok-link-in_default.ensures.moves c.requires.live c.requires.queue.held
-    c.requires.apart in
-    link_owned c.args.self.now c.in_ok-link-in_default.field-0.link c.in_ok-link-in_default.field-0.looped a
+    link_owned c.args.self.now c.in_ok-link-in_default.field-0.link c.in_ok-link-in_default.field-0.looped
+    (beside (goal.at.push_all-is_lost-requires-clause-owned c).In_ok-link-in_default)
+
+-- the packets that come back, once the others are queued
+out : (c : After-push_all-is_lost)
+    → IsAside c.args.pool.now c.make_packets.new.pool c.args.chain
+    (numbers c.make_packets.new.pool c.in_ok-link-in_default.field-0.link
+    ++ numbers c.make_packets.new.pool c.in_ok-link-in_default.field-0.looped) c.args.self.now
+    → IsSentOut c.args.pool.now c.make_packets.new.pool c.push_all-is_lost.new.pool c.args.chain c.args.self.now
+    c.in_ok-link-in_default.field-0.looped c.push_all-is_lost.new.self
+out c a =
+    sent_out c.args.self.now c.in_ok-link-in_default.field-0.link c.in_ok-link-in_default.field-0.looped
+    c.push_all-is_lost.new.self a c.in_ok-link-in_default.ensures.held.1 c.push_all-is_lost.ensures.moves
 
 pub returns-in-Link-clause-cut : goal.returns-in-Link-clause-cut
 returns-in-Link-clause-cut c =
@@ -54,59 +78,37 @@ returns-in-Link-clause-enough c =
 
 pub returns-in_ok-link-in_default-clause-link : goal.returns-in_ok-link-in_default-clause-link
 returns-in_ok-link-in_default-clause-link c =
-    let a =
-    aside c.args.chain c.args.self.now c.in_ok-link-in_default.ensures.moves c.requires.live c.requires.queue.held
-    c.requires.apart in
-    let same : train_packets c.make_packets.new.pool c.args.self.now
-    ++ train_packets c.make_packets.new.pool c.in_ok-link-in_default.field-0.link
-    ≡ train_packets c.args.pool.now c.args.self.now
-    ++ to_link_by c.args.way (packets_of (chain_of c.args.pool.now c.args.chain) c.args.head c.args.mtu) =
-    λ i. a.same_packets i ++ c.in_ok-link-in_default.ensures.link i in
-    c.push_all-is_lost.ensures.packets ∙ ap (take OUTPUT_QUEUE_PACKETS) same
+    c.push_all-is_lost.ensures.packets
+    ∙ ap (take OUTPUT_QUEUE_PACKETS)
+    (all (goal.at.returns-in_ok-link-in_default-clause-link c).In_ok-link-in_default)
 
 pub returns-in_ok-link-in_default-clause-lost : goal.returns-in_ok-link-in_default-clause-lost
 returns-in_ok-link-in_default-clause-lost c =
-    let a =
-    aside c.args.chain c.args.self.now c.in_ok-link-in_default.ensures.moves c.requires.live c.requires.queue.held
-    c.requires.apart in
-    let same : train_packets c.make_packets.new.pool c.args.self.now
-    ++ train_packets c.make_packets.new.pool c.in_ok-link-in_default.field-0.link
-    ≡ train_packets c.args.pool.now c.args.self.now
-    ++ to_link_by c.args.way (packets_of (chain_of c.args.pool.now c.args.chain) c.args.head c.args.mtu) =
-    λ i. a.same_packets i ++ c.in_ok-link-in_default.ensures.link i in
-    c.push_all-is_lost.ensures.lost ∙ ap (λ (xs : List Item). nat_lt OUTPUT_QUEUE_PACKETS (length xs)) same
+    c.push_all-is_lost.ensures.lost
+    ∙ ap (λ (xs : List Item). nat_lt OUTPUT_QUEUE_PACKETS (length xs))
+    (all (goal.at.returns-in_ok-link-in_default-clause-lost c).In_ok-link-in_default)
 
 pub returns-in_ok-link-in_default-clause-looped : goal.returns-in_ok-link-in_default-clause-looped
 returns-in_ok-link-in_default-clause-looped c =
-    let a =
-    aside c.args.chain c.args.self.now c.in_ok-link-in_default.ensures.moves c.requires.live c.requires.queue.held
-    c.requires.apart in
-    (sent_out c.args.self.now c.in_ok-link-in_default.field-0.link c.in_ok-link-in_default.field-0.looped
-    c.push_all-is_lost.new.self a c.in_ok-link-in_default.ensures.held.1
-    c.push_all-is_lost.ensures.moves).same_packets ∙ c.in_ok-link-in_default.ensures.looped
+    let at = goal.at.returns-in_ok-link-in_default-clause-looped c in
+    let o = out at.After-push_all-is_lost (beside at.In_ok-link-in_default) in
+    o.same_packets ∙ c.in_ok-link-in_default.ensures.looped
 
 pub returns-in_ok-link-in_default-clause-held : goal.returns-in_ok-link-in_default-clause-held
 returns-in_ok-link-in_default-clause-held c =
-    let a =
-    aside c.args.chain c.args.self.now c.in_ok-link-in_default.ensures.moves c.requires.live c.requires.queue.held
-    c.requires.apart in
-    (sent_out c.args.self.now c.in_ok-link-in_default.field-0.link c.in_ok-link-in_default.field-0.looped
-    c.push_all-is_lost.new.self a c.in_ok-link-in_default.ensures.held.1 c.push_all-is_lost.ensures.moves).held
+    let at = goal.at.returns-in_ok-link-in_default-clause-held c in
+    let o = out at.After-push_all-is_lost (beside at.In_ok-link-in_default) in
+    o.held
 
 pub returns-in_ok-link-in_default-clause-plain : goal.returns-in_ok-link-in_default-clause-plain
 returns-in_ok-link-in_default-clause-plain c =
-    let a =
-    aside c.args.chain c.args.self.now c.in_ok-link-in_default.ensures.moves c.requires.live c.requires.queue.held
-    c.requires.apart in
-    subst AreBegunPlain (sym (sent_out c.args.self.now c.in_ok-link-in_default.field-0.link
-    c.in_ok-link-in_default.field-0.looped c.push_all-is_lost.new.self a c.in_ok-link-in_default.ensures.held.1
-    c.push_all-is_lost.ensures.moves).same_queued) c.in_ok-link-in_default.ensures.plain.1
+    let at = goal.at.returns-in_ok-link-in_default-clause-plain c in
+    let o = out at.After-push_all-is_lost (beside at.In_ok-link-in_default) in
+    subst AreBegunPlain (sym o.same_queued) c.in_ok-link-in_default.ensures.plain.1
 
 pub returns-in_ok-link-in_default-clause-link_plain : goal.returns-in_ok-link-in_default-clause-link_plain
 returns-in_ok-link-in_default-clause-link_plain c = λ before.
-    let a =
-    aside c.args.chain c.args.self.now c.in_ok-link-in_default.ensures.moves c.requires.live c.requires.queue.held
-    c.requires.apart in
+    let a = beside (goal.at.returns-in_ok-link-in_default-clause-link_plain c).In_ok-link-in_default in
     c.push_all-is_lost.ensures.plain (subst AreBegunPlain (sym a.same_queued) before)
     c.in_ok-link-in_default.ensures.plain.0
 
@@ -120,8 +122,6 @@ returns-in_err-link-in_default-clause-link_plain c = λ before.
 
 pub returns-in_ok-link-in_default-clause-moves : goal.returns-in_ok-link-in_default-clause-moves
 returns-in_ok-link-in_default-clause-moves c =
-    let a =
-    aside c.args.chain c.args.self.now c.in_ok-link-in_default.ensures.moves c.requires.live c.requires.queue.held
-    c.requires.apart in
-    (sent_out c.args.self.now c.in_ok-link-in_default.field-0.link c.in_ok-link-in_default.field-0.looped
-    c.push_all-is_lost.new.self a c.in_ok-link-in_default.ensures.held.1 c.push_all-is_lost.ensures.moves).moves
+    let at = goal.at.returns-in_ok-link-in_default-clause-moves c in
+    let o = out at.After-push_all-is_lost (beside at.In_ok-link-in_default) in
+    o.moves
