@@ -6,7 +6,7 @@ use Rattle.std.proofs.lemmas.Option.{same_Some}
 use Rattle.mbuf_pool.specs.Cells.{Head, PacketHeader, head_size, with_arrival}
 use Rattle.mbuf_pool.proofs.Laws.{sets_head, sets_twice}
 use Rattle.mbuf_pool.specs.Store.{StoreView, mbuf_head, SetsHead, IsStore}
-use Rattle.mbuf_chain.specs.Chain.{Front, chain_of, IsLive, with_chain}
+use Rattle.mbuf_chain.specs.Chain.{Front, PoolView, chain_of, IsLive, with_chain}
 use Rattle.mbuf_chain.specs.Steps.{placed}
 use Rattle.mbuf_chain.specs.Inside.Cells.{arrival_of, entry_at, front_of, head_room_low, pool_of, IsPool}
 use Rattle.mbuf_chain.proofs.Focused.{first_out, open_on}
@@ -78,6 +78,22 @@ packet_there s c pool live headed = go (mbuf_head s c).packet refl
         → (packet : PacketHeader) × ((mbuf_head s c).packet ≡ Some packet)
     go None e = has_packet s c pool live headed e
     go (Some packet) e = (packet, e)
+
+-- the chain that a caller knows, and its packet header
+pub record HasPacket (s : StoreView) (c : ℕ) : Type 0 where
+  pub live : IsLive (pool_of s) c
+  pub headed : (chain_of (pool_of s) c).front.header ≡ true
+  pub packet : PacketHeader
+  pub is : (mbuf_head s c).packet ≡ Some packet
+
+pub has_packet_in : {s : StoreView} {p : PoolView} {c : ℕ} → IsPool s → pool_of s ≡ p → IsLive p c
+    → (chain_of p c).front.header ≡ true → HasPacket s c
+has_packet_in {s} {p} {c} pool view_is is_live is_headed =
+    let live : IsLive (pool_of s) c = subst (λ (q : PoolView). IsLive q c) (sym view_is) is_live in
+    let headed : (chain_of (pool_of s) c).front.header ≡ true =
+    subst (λ (q : PoolView). (chain_of q c).front.header ≡ true) (sym view_is) is_headed in
+    let there = packet_there s c pool live headed in
+    record { live = live; headed = headed; packet = there.0; is = there.1 }
 
 -- the link first, and then the tag
 pub trained_twice : (s t u : StoreView) (c : ℕ) (after : Option ℕ) (tag : ℕ) (packet : PacketHeader) → IsPool s

@@ -3,20 +3,22 @@ use Rattle.std.specs.Prelude.{slice_set, is_none, not}
 use Rattle.std.proofs.lemmas.Bool.{true≢false}
 use Rattle.std.proofs.lemmas.List.{take_all, take_more, drop-set-lt, length-set}
 use Rattle.mbuf_chain.specs.declared.place.Segment.{Segment}
-use Rattle.mbuf_chain.specs.Chain.{Entry, ChainView, PoolView, no_entry, alone, chain_of, entry_of, with_chain, flat_bytes}
+use Rattle.mbuf_chain.specs.Chain.{Entry, Front, ChainView, PoolView, no_entry, alone, chain_of, entry_of, with_chain, without, flat_bytes, string}
 use Rattle.mbuf_chain.specs.Steps.{narrowed, first_part}
 use Rattle.mbuf_chain.proofs.Laws.Accounts.{held-without}
 use Rattle.mbuf_chain.proofs.Laws.Owners.{live_here, live_adds, shown_adds, shown_with, kept_with, chain_here, chain_left}
 use Rattle.mbuf_chain.proofs.Laws.Steps.{live_beside, live_shown, place_after, apart}
-use Rattle.chain_ops.specs.Splits.{rest_of, split_back, split_need}
+use Rattle.chain_ops.specs.Makes.{HasMbufs, Parts}
+use Rattle.chain_ops.specs.Splits.{rest_of, split_back, split_front, split_need}
 use Rattle.chain_ops.proofs.Lists.{another_follows, none_after, flat_at}
 use Rattle.chain_ops.proofs.Laws.Makes.{makes_new, makes_as, makes_held, makes_mbufs, makes_kept}
 use Rattle.chain_ops.proofs.Laws.Strings.{split_front_bytes, split_back_bytes}
 use Rattle.chain_ops.proofs.Laws.Steps.{place_in, kept_adds}
 use Rattle.chain_ops.proofs.Trims.{entries_now, length_now}
-use Rattle.mbuf_chain.proofs.Laws.Two.{two_new, two_first, two_moved, two_parts}
+use Rattle.mbuf_chain.proofs.Laws.Two.{HasTwo, two_new, two_first, two_moved, two_parts}
 use Rattle.chain_ops.proofs.Splits.{front_done, back_done, need_done, rest-none, whole_entry, is_end}
 use Rattle.chain_ops.proofs.split.m_split.Goals as goal
+use Rattle.chain_ops.proofs.split.m_split.Goals.{After-cut-back, After-laws-2, After-narrow, In_ok-head}
 
 no_next : {A : Type 0} (o : Option A) (b : Bool) → is_some o ≡ not b → b ≡ true → is_none o ≡ true
 no_next None b e t = refl
@@ -42,14 +44,82 @@ cut-requires-clause-within c =
       ap (λ (x : Segment). x.len) c.segment-len.ensures.value,
     ))
 
+-- ---- after the first mbufs of the new chain were made, and the chain was narrowed
+kept : (c : In_ok-head) → chain_of c.new_head.new.pool c.args.chain.now ≡ chain_of c.args.pool.now c.args.chain.now
+kept c = makes_kept c.args.chain.now c.in_ok-head.ensures.ok c.requires.live
+
+two : (c : After-narrow)
+    → HasTwo (without c.args.pool.now c.args.chain.now) c.narrow.new.self c.args.chain.now c.in_ok-head.head
+two c =
+    two_first c.narrow.new.self _ (two_new c.args.chain.now c.requires.live c.in_ok-head.ensures.ok.adds)
+    c.narrow.ensures
+
+now : (c : After-narrow) → chain_of c.new_head.new.pool c.args.chain.now ≡ chain_of c.args.pool.now c.args.chain.now
+    → (chain_of c.narrow.new.self c.args.chain.now).entries
+    ≡ slice_set (chain_of c.args.pool.now c.args.chain.now).entries c.find_cut-off.result.0.index
+    (narrowed (entry_of (chain_of c.args.pool.now c.args.chain.now) c.find_cut-off.result.0.index) 0
+    c.find_cut-off.result.1)
+now c is =
+    entries_now _ _ _ _ _ c.narrow.ensures
+    ∙ ap (λ (x : ChainView). slice_set x.entries c.find_cut-off.result.0.index
+    (narrowed (entry_of x c.find_cut-off.result.0.index) 0 c.find_cut-off.result.1)) is
+
+enough : (c : After-laws-2) → HasMbufs c.args.pool.now
+    (split_need (chain_of c.args.pool.now c.args.chain.now).front.header
+    (chain_of c.args.pool.now c.args.chain.now).entries c.args.at)
+enough c =
+    let v : ChainView = chain_of c.args.pool.now c.args.chain.now in
+    omega (
+      arith,
+      makes_held c.in_ok-head.ensures.ok,
+      makes_mbufs c.in_ok-head.ensures.ok,
+      c.laws-2.ensures.few,
+      need_done v c.find_cut-off.result.0 c.find_cut-off.result.1 c.has_header-header.result
+          c.find_cut-off.ensures.place c.find_cut-off.ensures.within,
+      c.find_cut-off.ensures.need c.has_header-header.result,
+      ap (λ (h : Bool). split_need h v.entries c.args.at) c.has_header-header.ensures,
+    )
+
+-- ---- after the chain was cut
+cut : (c : After-cut-back)
+    → HasTwo (without c.args.pool.now c.args.chain.now) c.narrow.new.self c.args.chain.now c.in_ok-head.head
+    → HasTwo (without c.args.pool.now c.args.chain.now)
+    (with_chain c.narrow.new.self c.args.chain.now
+    (first_part (c.find_cut-off.result.0.index + 1) (chain_of c.narrow.new.self c.args.chain.now)))
+    c.args.chain.now c.in_ok-head.head
+cut c both = two_first _ _ both refl
+
+rest : (c : After-cut-back) → (chain_of c.narrow.new.self c.args.chain.now).entries
+    ≡ slice_set (chain_of c.args.pool.now c.args.chain.now).entries c.find_cut-off.result.0.index
+    (narrowed (entry_of (chain_of c.args.pool.now c.args.chain.now) c.find_cut-off.result.0.index) 0
+    c.find_cut-off.result.1)
+    → (chain_of c.cut-back.new.self c.cut-back.result).entries
+    ≡ drop (c.find_cut-off.result.0.index + 1) (chain_of c.args.pool.now c.args.chain.now).entries
+rest c is =
+    ap (λ (x : ChainView). x.entries) (shown_adds c.cut-back.ensures)
+    ∙ ap (λ (es : List Entry). drop (c.find_cut-off.result.0.index + 1) es) is
+    ∙ drop-set-lt (c.find_cut-off.result.0.index + 1) (chain_of c.args.pool.now c.args.chain.now).entries
+    c.find_cut-off.result.0.index _ (omega arith)
+
+-- ---- the bytes of the two parts
+front_bytes : {p q : PoolView} {k d : ℕ} {f g : Front} {fs : List Entry} (at : ℕ)
+    → Parts p q k d f (split_front (chain_of p k).entries at) g fs
+    → string (chain_of q k) ≡ take at (string (chain_of p k))
+front_bytes {p} {q} {k} at parts = ap flat_bytes parts.entries ∙ split_front_bytes (chain_of p k).entries at
+
+back_bytes : {p q : PoolView} {k d : ℕ} {f g : Front} {es : List Entry} (at : ℕ)
+    → Parts p q k d f es g (split_back (chain_of p k).front.header (chain_of p k).entries at)
+    → string (chain_of q d) ≡ drop at (string (chain_of p k))
+back_bytes {p} {q} {k} at parts =
+    ap flat_bytes parts.made.entries ∙ split_back_bytes (chain_of p k).front.header (chain_of p k).entries at
+
 pub narrow-requires-clause-live : goal.narrow-requires-clause-live
-narrow-requires-clause-live c = let two = two_new c.args.chain.now c.requires.live c.in_ok-head.ensures.ok.adds in
-    two.live_first
+narrow-requires-clause-live c = (two_new c.args.chain.now c.requires.live c.in_ok-head.ensures.ok.adds).live_first
 
 pub narrow-requires-clause-place : goal.narrow-requires-clause-place
 narrow-requires-clause-place c =
-    place_in c.args.pool.now c.new_head.new.pool _ _
-    (makes_kept c.args.chain.now c.in_ok-head.ensures.ok c.requires.live) c.find_cut-off.ensures.place
+    place_in c.args.pool.now c.new_head.new.pool _ _ (kept (goal.at.narrow-requires-clause-place c).In_ok-head)
+    c.find_cut-off.ensures.place
 
 pub narrow-requires-clause-within : goal.narrow-requires-clause-within
 narrow-requires-clause-within c =
@@ -57,7 +127,7 @@ narrow-requires-clause-within c =
       arith,
       c.find_cut-off.ensures.within,
       ap (λ (v : ChainView). length (entry_of v c.find_cut-off.result.0.index).bytes)
-          (makes_kept c.args.chain.now c.in_ok-head.ensures.ok c.requires.live),
+          (kept (goal.at.narrow-requires-clause-within c).In_ok-head),
     )
 
 pub next-requires-clause-live : goal.next-requires-clause-live
@@ -66,8 +136,8 @@ next-requires-clause-live c = live_shown _ _ _ _ c.narrow.ensures
 pub next-requires-clause-place : goal.next-requires-clause-place
 next-requires-clause-place c =
     place_after _ _ _ _ _ _ c.narrow.ensures
-    (place_in c.args.pool.now c.new_head.new.pool _ _
-    (makes_kept c.args.chain.now c.in_ok-head.ensures.ok c.requires.live) c.find_cut-off.ensures.place)
+    (place_in c.args.pool.now c.new_head.new.pool _ _ (kept (goal.at.next-requires-clause-place c).In_ok-head)
+    c.find_cut-off.ensures.place)
 
 pub returns-then-off-len-clause-ok : goal.returns-then-off-len-clause-ok
 returns-then-off-len-clause-ok c =
@@ -102,58 +172,27 @@ returns-then-off-len-clause-ok c =
     }
 
 pub returns-then-is_none-clause-enough : goal.returns-then-is_none-clause-enough
-returns-then-is_none-clause-enough c =
-    let v : ChainView = chain_of c.args.pool.now c.args.chain.now in
-    omega (
-      arith,
-      makes_held c.in_ok-head.ensures.ok,
-      makes_mbufs c.in_ok-head.ensures.ok,
-      c.laws-2.ensures.few,
-      need_done v c.find_cut-off.result.0 c.find_cut-off.result.1 c.has_header-header.result
-          c.find_cut-off.ensures.place c.find_cut-off.ensures.within,
-      c.find_cut-off.ensures.need c.has_header-header.result,
-      ap (λ (h : Bool). split_need h v.entries c.args.at) c.has_header-header.ensures,
-    )
+returns-then-is_none-clause-enough c = enough (goal.at.returns-then-is_none-clause-enough c).After-laws-2
 
 pub returns-clause-enough : goal.returns-clause-enough
-returns-clause-enough c =
-    let v : ChainView = chain_of c.args.pool.now c.args.chain.now in
-    omega (
-      arith,
-      makes_held c.in_ok-head.ensures.ok,
-      makes_mbufs c.in_ok-head.ensures.ok,
-      c.laws-2.ensures.few,
-      need_done v c.find_cut-off.result.0 c.find_cut-off.result.1 c.has_header-header.result
-          c.find_cut-off.ensures.place c.find_cut-off.ensures.within,
-      c.find_cut-off.ensures.need c.has_header-header.result,
-      ap (λ (h : Bool). split_need h v.entries c.args.at) c.has_header-header.ensures,
-    )
+returns-clause-enough c = enough (goal.at.returns-clause-enough c).After-laws-2
 
 pub last-last-requires : goal.last-last-requires
 last-last-requires c =
-    let two =
-    two_first c.narrow.new.self _ (two_new c.args.chain.now c.requires.live c.in_ok-head.ensures.ok.adds)
-    c.narrow.ensures in
-    let cut =
-    two_first _ (first_part (c.find_cut-off.result.0.index + 1) (chain_of c.narrow.new.self c.args.chain.now)) two
-    refl in
-    live_beside _ _ _ _ c.cut-back.ensures _ cut.live_second
+    let at = goal.at.last-last-requires c in
+    live_beside _ _ _ _ c.cut-back.ensures _ (cut at.After-cut-back (two at.After-narrow)).live_second
 
 pub link_rest-requires-clause-back : goal.link_rest-requires-clause-back
 link_rest-requires-clause-back c = live_adds c.cut-back.ensures
 
 pub link_rest-requires-clause-apart : goal.link_rest-requires-clause-apart
 link_rest-requires-clause-apart c =
-    let two =
-    two_first c.narrow.new.self _ (two_new c.args.chain.now c.requires.live c.in_ok-head.ensures.ok.adds)
-    c.narrow.ensures in
-    let cut =
-    two_first _ (first_part (c.find_cut-off.result.0.index + 1) (chain_of c.narrow.new.self c.args.chain.now)) two
-    refl in
-    apart _ _ _ _ c.cut-back.ensures _ cut.live_second
+    let at = goal.at.link_rest-requires-clause-apart c in
+    apart _ _ _ _ c.cut-back.ensures _ (cut at.After-cut-back (two at.After-narrow)).live_second
 
 pub returns-then-is_none-clause-ok : goal.returns-then-is_none-clause-ok
 returns-then-is_none-clause-ok c =
+    let at = goal.at.returns-then-is_none-clause-ok c in
     let p : PoolView = c.args.pool.now in
     let k : ℕ = c.args.chain.now in
     let v : ChainView = chain_of p k in
@@ -164,66 +203,46 @@ returns-then-is_none-clause-ok c =
     let off : ℕ = c.find_cut-off.result.1 in
     let h : Bool = c.has_header-header.result in
     let e : Entry = entry_of v i in
-    let place = c.find_cut-off.ensures.place in
-    let m = c.in_ok-head.ensures.ok in
-    let two = two_first r _ (two_new k c.requires.live m.adds) c.narrow.ensures in
-    let fin = makes_new (two_parts p r k d two) in
-    let kept_q = makes_kept k m c.requires.live in
-    let kept_d = kept_with q r k _ d c.narrow.ensures (λ x. two.apart (sym x)) in
-    let now =
-    entries_now q r k i _ c.narrow.ensures
-    ∙ ap (λ (x : ChainView). slice_set x.entries i (narrowed (entry_of x i) 0 off)) kept_q in
+    let both = two at.After-narrow in
+    let same = kept at.In_ok-head in
+    let kept_d = kept_with q r k _ d c.narrow.ensures (λ x. both.apart (sym x)) in
     let end =
     is_end _ _ _ c.next.ensures (no_next c.next.result c.is_none.result c.is_none.ensures c.if-is_none.true)
-    ∙ length_now q r k i _ c.narrow.ensures ∙ ap (λ (x : ChainView). length x.entries) kept_q in
+    ∙ length_now q r k i _ c.narrow.ensures ∙ ap (λ (x : ChainView). length x.entries) same in
     record {
       made =
           makes_as (with_chain p k (chain_of r k)) (alone v.front.header)
-          (split_back v.front.header v.entries c.args.at)
-          fin refl (ap (λ (x : ChainView). x.front) kept_d ∙ m.front ∙ ap alone c.has_header-header.ensures)
-          (ap (λ (x : ChainView). x.entries) kept_d ∙ m.entries ∙ sym (append-nil (rest_of h e off))
+          (split_back v.front.header v.entries c.args.at) (makes_new (two_parts p r k d both)) refl
+          (ap (λ (x : ChainView). x.front) kept_d ∙ c.in_ok-head.ensures.ok.front ∙ ap alone c.has_header-header.ensures)
+          (ap (λ (x : ChainView). x.entries) kept_d ∙ c.in_ok-head.ensures.ok.entries
+          ∙ sym (append-nil (rest_of h e off))
           ∙ ap (λ (es : List Entry). rest_of h e off ++ es) (sym (none_after v.entries i end))
-          ∙ back_done v c.find_cut-off.result.0 off h place c.find_cut-off.ensures.within
+          ∙ back_done v c.find_cut-off.result.0 off h c.find_cut-off.ensures.place c.find_cut-off.ensures.within
           ∙ sym (c.find_cut-off.ensures.back h)
           ∙ ap (λ (b : Bool). split_back b v.entries c.args.at) c.has_header-header.ensures);
       front =
           ap (λ (x : ChainView). x.front) (shown_with q r k _ c.narrow.ensures)
-          ∙ ap (λ (x : ChainView). x.front) kept_q;
+          ∙ ap (λ (x : ChainView). x.front) same;
       entries =
-          now ∙ sym (take_all (i + 1) (slice_set v.entries i (narrowed e 0 off))
+          now at.After-narrow same ∙ sym (take_all (i + 1) (slice_set v.entries i (narrowed e 0 off))
           (omega (
             arith,
             end,
             length-set v.entries i
                 (narrowed e 0 off),
-          ))) ∙ front_done v c.find_cut-off.result.0 off place c.find_cut-off.ensures.within
+          ))) ∙ front_done v c.find_cut-off.result.0 off c.find_cut-off.ensures.place c.find_cut-off.ensures.within
           ∙ sym c.find_cut-off.ensures.front;
     }
 
 pub link_rest-requires-clause-len : goal.link_rest-requires-clause-len
 link_rest-requires-clause-len c = λ counted.
-    let p : PoolView = c.args.pool.now in
-    let k : ℕ = c.args.chain.now in
-    let v : ChainView = chain_of p k in
-    let q : PoolView = c.new_head.new.pool in
-    let r : PoolView = c.narrow.new.self in
-    let i : ℕ = c.find_cut-off.result.0.index in
-    let off : ℕ = c.find_cut-off.result.1 in
-    let e : Entry = entry_of v i in
-    let place = c.find_cut-off.ensures.place in
-    let m = c.in_ok-head.ensures.ok in
-    let kept_q = makes_kept k m c.requires.live in
-    let now =
-    entries_now q r k i _ c.narrow.ensures
-    ∙ ap (λ (x : ChainView). slice_set x.entries i (narrowed (entry_of x i) 0 off)) kept_q in
-    let back =
-    ap (λ (x : ChainView). x.entries) (shown_adds c.cut-back.ensures) ∙ ap (λ (es : List Entry). drop (i + 1) es) now
-    ∙ drop-set-lt (i + 1) v.entries i (narrowed e 0 off) (omega arith) in
+    let at = goal.at.link_rest-requires-clause-len c in
     omega (
       arith,
       c.counted_len-counted.ensures counted,
-      ap (λ (es : List Entry). length (flat_bytes es)) back,
-      flat_at v c.find_cut-off.result.0 place,
+      ap (λ (es : List Entry). length (flat_bytes es))
+          (rest at.After-cut-back (now at.After-narrow (kept at.In_ok-head))),
+      flat_at (chain_of c.args.pool.now c.args.chain.now) c.find_cut-off.result.0 c.find_cut-off.ensures.place,
       c.find_cut-off.ensures.left,
       c.find_cut-off.ensures.within,
       ap (λ (x : Segment). x.len) c.segment-len.ensures.value,
@@ -234,6 +253,7 @@ link_rest-requires-clause-len c = λ counted.
 
 pub returns-clause-ok : goal.returns-clause-ok
 returns-clause-ok c =
+    let at = goal.at.returns-clause-ok c in
     let p : PoolView = c.args.pool.now in
     let k : ℕ = c.args.chain.now in
     let v : ChainView = chain_of p k in
@@ -246,78 +266,56 @@ returns-clause-ok c =
     let i : ℕ = c.find_cut-off.result.0.index in
     let off : ℕ = c.find_cut-off.result.1 in
     let h : Bool = c.has_header-header.result in
-    let e : Entry = entry_of v i in
-    let place = c.find_cut-off.ensures.place in
-    let m = c.in_ok-head.ensures.ok in
-    let kept_q = makes_kept k m c.requires.live in
-    let two = two_first r _ (two_new k c.requires.live m.adds) c.narrow.ensures in
+    let same = kept at.In_ok-head in
+    let both = two at.After-narrow in
+    let after = cut at.After-cut-back both in
     let part : ChainView = first_part (i + 1) (chain_of r k) in
-    let cut = two_first (with_chain r k part) part two refl in
-    let fin = makes_new (two_parts p t k d (two_moved s t b part _ _ two c.cut-back.ensures c.link_rest.ensures)) in
-    let now =
-    entries_now q r k i _ c.narrow.ensures
-    ∙ ap (λ (x : ChainView). slice_set x.entries i (narrowed (entry_of x i) 0 off)) kept_q in
+    let is = now at.After-narrow same in
     let here : chain_of t k ≡ part =
-    kept_with _ t d _ k c.link_rest.ensures two.apart
-    ∙ chain_left s b k (apart _ _ _ _ c.cut-back.ensures k cut.live_first)
-    ∙ kept_adds _ s b k _ c.cut-back.ensures cut.live_first ∙ chain_here r k part in
+    kept_with _ t d _ k c.link_rest.ensures both.apart
+    ∙ chain_left s b k (apart _ _ _ _ c.cut-back.ensures k after.live_first)
+    ∙ kept_adds _ s b k _ c.cut-back.ensures after.live_first ∙ chain_here r k part in
     let head : chain_of s d ≡ chain_of q d =
-    kept_adds _ s b d _ c.cut-back.ensures cut.live_second
-    ∙ kept_with r (with_chain r k part) k part d refl (λ x. two.apart (sym x))
-    ∙ kept_with q r k _ d c.narrow.ensures (λ x. two.apart (sym x)) in
+    kept_adds _ s b d _ c.cut-back.ensures after.live_second
+    ∙ kept_with r (with_chain r k part) k part d refl (λ x. both.apart (sym x))
+    ∙ kept_with q r k _ d c.narrow.ensures (λ x. both.apart (sym x)) in
     let shown = shown_with _ t d _ c.link_rest.ensures in
-    let back =
-    ap (λ (x : ChainView). x.entries) (shown_adds c.cut-back.ensures) ∙ ap (λ (es : List Entry). drop (i + 1) es) now
-    ∙ drop-set-lt (i + 1) v.entries i (narrowed e 0 off) (omega arith) in
-    let front' = ap (λ (x : ChainView). x.entries) head ∙ m.entries in
+    let back = rest at.After-cut-back is in
+    let front' = ap (λ (x : ChainView). x.entries) head ∙ c.in_ok-head.ensures.ok.entries in
     record {
       made =
           makes_as (with_chain p k (chain_of t k)) (alone v.front.header)
           (split_back v.front.header v.entries c.args.at)
-          fin refl (ap (λ (x : ChainView). x.front) shown ∙ ap (λ (x : ChainView). x.front) head ∙ m.front
-          ∙ ap alone c.has_header-header.ensures)
+          (makes_new (two_parts p t k d (two_moved s t b part _ _ both c.cut-back.ensures c.link_rest.ensures))) refl
+          (ap (λ (x : ChainView). x.front) shown ∙ ap (λ (x : ChainView). x.front) head
+          ∙ c.in_ok-head.ensures.ok.front ∙ ap alone c.has_header-header.ensures)
           (ap (λ (x : ChainView). x.entries) shown ∙ (λ j. front' j ++ back j)
-          ∙ back_done v c.find_cut-off.result.0 off h place c.find_cut-off.ensures.within
+          ∙ back_done v c.find_cut-off.result.0 off h c.find_cut-off.ensures.place c.find_cut-off.ensures.within
           ∙ sym (c.find_cut-off.ensures.back h)
           ∙ ap (λ (x : Bool). split_back x v.entries c.args.at) c.has_header-header.ensures);
       front =
           ap (λ (x : ChainView). x.front) here ∙ ap (λ (x : ChainView). x.front) (shown_with q r k _ c.narrow.ensures)
-          ∙ ap (λ (x : ChainView). x.front) kept_q;
+          ∙ ap (λ (x : ChainView). x.front) same;
       entries =
-          ap (λ (x : ChainView). x.entries) here ∙ ap (λ (es : List Entry). take (i + 1) es) now
-          ∙ front_done v c.find_cut-off.result.0 off place c.find_cut-off.ensures.within
+          ap (λ (x : ChainView). x.entries) here ∙ ap (λ (es : List Entry). take (i + 1) es) is
+          ∙ front_done v c.find_cut-off.result.0 off c.find_cut-off.ensures.place c.find_cut-off.ensures.within
           ∙ sym c.find_cut-off.ensures.front;
     }
 
 pub returns-then-off-len-clause-front : goal.returns-then-off-len-clause-front
-returns-then-off-len-clause-front c =
-    let parts = returns-then-off-len-clause-ok c in
-    ap flat_bytes parts.entries ∙ split_front_bytes (chain_of c.args.pool.now c.args.chain.now).entries c.args.at
+returns-then-off-len-clause-front c = front_bytes c.args.at (returns-then-off-len-clause-ok c)
 
 pub returns-then-off-len-clause-back : goal.returns-then-off-len-clause-back
-returns-then-off-len-clause-back c =
-    let v : ChainView = chain_of c.args.pool.now c.args.chain.now in
-    let parts = returns-then-off-len-clause-ok c in
-    ap flat_bytes parts.made.entries ∙ split_back_bytes v.front.header v.entries c.args.at
+returns-then-off-len-clause-back c = back_bytes c.args.at (returns-then-off-len-clause-ok c)
 
 pub returns-then-is_none-clause-front : goal.returns-then-is_none-clause-front
-returns-then-is_none-clause-front c =
-    let parts = returns-then-is_none-clause-ok c in
-    ap flat_bytes parts.entries ∙ split_front_bytes (chain_of c.args.pool.now c.args.chain.now).entries c.args.at
+returns-then-is_none-clause-front c = front_bytes c.args.at (returns-then-is_none-clause-ok c)
 
 pub returns-then-is_none-clause-back : goal.returns-then-is_none-clause-back
-returns-then-is_none-clause-back c =
-    let v : ChainView = chain_of c.args.pool.now c.args.chain.now in
-    let parts = returns-then-is_none-clause-ok c in
-    ap flat_bytes parts.made.entries ∙ split_back_bytes v.front.header v.entries c.args.at
+returns-then-is_none-clause-back c = back_bytes c.args.at (returns-then-is_none-clause-ok c)
 
 pub returns-clause-front : goal.returns-clause-front
-returns-clause-front c =
-    let parts = returns-clause-ok c in
-    ap flat_bytes parts.entries ∙ split_front_bytes (chain_of c.args.pool.now c.args.chain.now).entries c.args.at
+returns-clause-front c = front_bytes c.args.at (returns-clause-ok c)
 
 pub returns-clause-back : goal.returns-clause-back
-returns-clause-back c =
-    let v : ChainView = chain_of c.args.pool.now c.args.chain.now in
-    let parts = returns-clause-ok c in
-    ap flat_bytes parts.made.entries ∙ split_back_bytes v.front.header v.entries c.args.at
+returns-clause-back c = back_bytes c.args.at (returns-clause-ok c)

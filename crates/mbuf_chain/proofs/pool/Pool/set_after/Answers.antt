@@ -1,12 +1,13 @@
-use Rattle.std.proofs.Common.{◌≡◌, true, sym, subst, ap, ◌∙◌}
+use Rattle.std.proofs.Common.{sym, subst, ap, ◌∙◌}
 use Rattle.std.specs.Option.{IfSome}
 use Rattle.mbuf_pool.proofs.Laws.{sets_out}
 use Rattle.mbuf_chain.specs.Chain.{PoolView, IsLive, chain_of, with_chain}
 use Rattle.mbuf_chain.specs.Steps.{placed}
 use Rattle.mbuf_chain.proofs.Bounds.{bounded, reported}
 use Rattle.mbuf_chain.proofs.Focused.{open_on, first_out}
-use Rattle.mbuf_chain.proofs.Trained.{packet_after, packet_there, placed_made, trained_twice}
+use Rattle.mbuf_chain.proofs.Trained.{Placed, has_packet_in, packet_after, placed_made, trained_twice}
 use Rattle.mbuf_chain.proofs.pool.Pool.set_after.Goals as goal
+use Rattle.mbuf_chain.proofs.pool.Pool.set_after.Goals.{After-change_head-2}
 
 pub change_head-requires-clause-out : goal.change_head-requires-clause-out
 change_head-requires-clause-out c =
@@ -27,52 +28,29 @@ change_head-requires-2-clause-out c =
 
 pub change_head-requires-2-clause-possible : goal.change_head-requires-2-clause-possible
 change_head-requires-2-clause-possible c =
-    let live =
-    (subst (λ (p : PoolView). IsLive p c.args.number) (sym c.self.view_is) c.requires.live) in
-    let headed =
-    (subst (λ (p : PoolView). (chain_of p c.args.number).front.header ≡ true) (sym c.self.view_is) c.requires.headed) in
-    let p = packet_there c.self.inside.store c.args.number c.self.invariant live headed in
-    packet_after c.self.inside.store c.change_head.new.self c.args.number c.args.after p.0 c.self.invariant live p.1
-    c.change_head.ensures.change
+    let has = has_packet_in c.self.invariant c.self.view_is c.requires.live c.requires.headed in
+    packet_after c.self.inside.store c.change_head.new.self c.args.number c.args.after has.packet c.self.invariant
+    has.live has.is c.change_head.ensures.change
+
+made : (c : After-change_head-2)
+    → Placed c.self.inside.store c.change_head-2.new.self c.args.number c.args.after c.args.tag
+made c =
+    let has = has_packet_in c.self.invariant c.self.view_is c.requires.live c.requires.headed in
+    placed_made c.self.inside.store c.change_head-2.new.self c.args.number c.args.after c.args.tag has.packet
+    c.self.invariant has.live has.headed has.is
+    (trained_twice c.self.inside.store c.change_head.new.self c.change_head-2.new.self c.args.number c.args.after
+    c.args.tag has.packet c.self.invariant has.live has.is c.change_head.ensures.change
+    c.change_head-2.ensures.change) c.change_head-2.ensures.store
 
 pub invariant_of-self : goal.invariant_of-self
-invariant_of-self c =
-    let live =
-    (subst (λ (p : PoolView). IsLive p c.args.number) (sym c.self.view_is) c.requires.live) in
-    let headed =
-    (subst (λ (p : PoolView). (chain_of p c.args.number).front.header ≡ true) (sym c.self.view_is) c.requires.headed) in
-    let p = packet_there c.self.inside.store c.args.number c.self.invariant live headed in
-    (placed_made c.self.inside.store c.change_head-2.new.self c.args.number c.args.after c.args.tag p.0 c.self.invariant
-    live headed p.1
-    (trained_twice c.self.inside.store c.change_head.new.self c.change_head-2.new.self c.args.number c.args.after
-    c.args.tag p.0 c.self.invariant live p.1 c.change_head.ensures.change
-    c.change_head-2.ensures.change) c.change_head-2.ensures.store).pool
+invariant_of-self c = (made (goal.at.invariant_of-self c).After-change_head-2).pool
 
 pub returns-clause-placed : goal.returns-clause-placed
 returns-clause-placed c =
-    let live =
-    (subst (λ (p : PoolView). IsLive p c.args.number) (sym c.self.view_is) c.requires.live) in
-    let headed =
-    (subst (λ (p : PoolView). (chain_of p c.args.number).front.header ≡ true) (sym c.self.view_is) c.requires.headed) in
-    let p = packet_there c.self.inside.store c.args.number c.self.invariant live headed in
-    (placed_made c.self.inside.store c.change_head-2.new.self c.args.number c.args.after c.args.tag p.0 c.self.invariant
-    live headed p.1
-    (trained_twice c.self.inside.store c.change_head.new.self c.change_head-2.new.self c.args.number c.args.after
-    c.args.tag p.0 c.self.invariant live p.1 c.change_head.ensures.change
-    c.change_head-2.ensures.change) c.change_head-2.ensures.store).map_is
+    (made (goal.at.returns-clause-placed c).After-change_head-2).map_is
     ∙ ap (λ (p : PoolView). with_chain p c.args.number (placed (chain_of p c.args.number) c.args.after c.args.tag))
     c.self.view_is
 
 pub returns-clause-bounds : goal.returns-clause-bounds
 returns-clause-bounds c =
-    let live =
-    (subst (λ (p : PoolView). IsLive p c.args.number) (sym c.self.view_is) c.requires.live) in
-    let headed =
-    (subst (λ (p : PoolView). (chain_of p c.args.number).front.header ≡ true) (sym c.self.view_is) c.requires.headed) in
-    let p = packet_there c.self.inside.store c.args.number c.self.invariant live headed in
-    bounded c.change_head-2.new.self
-    (placed_made c.self.inside.store c.change_head-2.new.self c.args.number c.args.after c.args.tag p.0
-    c.self.invariant live headed p.1
-    (trained_twice c.self.inside.store c.change_head.new.self c.change_head-2.new.self c.args.number c.args.after
-    c.args.tag p.0 c.self.invariant live p.1 c.change_head.ensures.change
-    c.change_head-2.ensures.change) c.change_head-2.ensures.store).pool
+    bounded c.change_head-2.new.self (made (goal.at.returns-clause-bounds c).After-change_head-2).pool
