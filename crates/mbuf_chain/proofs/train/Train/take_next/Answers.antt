@@ -1,13 +1,24 @@
-use Rattle.std.proofs.Common.{◌+◌, suc, ◌<◌, Some, ◌∙◌, sym, ap, arith, subst}
+use Rattle.std.specs.Prelude.{slice_get}
+use Rattle.std.proofs.Common.{◌≡◌, ◌+◌, suc, ◌<◌, Some, ◌∙◌, sym, ap, arith, subst}
 use Rattle.std.specs.Option.{IfSome}
 use Rattle.mbuf_chain.specs.Chain.{ChainView, IsLive, chain_of}
 use Rattle.mbuf_chain.specs.Steps.{placed}
-use Rattle.mbuf_chain.specs.Train.{TrainView}
+use Rattle.mbuf_chain.specs.Train.{TrainView, numbers}
 use Rattle.mbuf_chain.specs.declared.train.Train.TheInside.{Inside}
 use Rattle.mbuf_chain.proofs.Laws.Owners.{live_with, kept_with}
 use Rattle.mbuf_chain.proofs.Trains.{taken_after, live_queued, headed_packet, after_queued, next_queued, next_apart, live_after, end_there}
 use Rattle.mbuf_chain.proofs.train.Train.take_next.Goals as goal
-use Rattle.mbuf_chain.proofs.train.Train.take_next.Goals.{then-self-before, else-self-before}
+use Rattle.mbuf_chain.proofs.train.Train.take_next.Goals.{In-Some, then-self-before, else-self-before}
+
+-- the chain that is taken
+taken : (c : In-Some) → slice_get (numbers c.args.pool.now c.args.self.now) (suc c.args.before.index) ≡ Some c.in-Some.number
+taken c =
+    next_queued c.args.pool.now c.args.self.now c.args.before.index c.args.before.number c.in-Some.number
+    c.requires.held c.requires.before.number (omega arith) (sym c.after.ensures ∙ c.in-Some.is)
+
+live : (c : In-Some) → IsLive c.args.pool.now c.in-Some.number
+live c =
+    live_queued c.args.pool.now c.args.self.now (suc c.args.before.index) c.in-Some.number c.requires.held (taken c)
 
 pub after-requires : goal.after-requires
 after-requires c =
@@ -22,16 +33,10 @@ unreachable-requires c =
     c.in_default.not-Some next.0 (c.after.ensures ∙ next.1)
 
 pub after-rest-requires : goal.after-rest-requires
-after-rest-requires c =
-    live_queued c.args.pool.now c.args.self.now (suc c.args.before.index) c.in-Some.number c.requires.held
-    (next_queued c.args.pool.now c.args.self.now c.args.before.index c.args.before.number c.in-Some.number
-    c.requires.held c.requires.before.number (omega arith) (sym c.after.ensures ∙ c.in-Some.is))
+after-rest-requires c = live (goal.at.after-rest-requires c).In-Some
 
 pub tag-tag-requires : goal.tag-tag-requires
-tag-tag-requires c =
-    live_queued c.args.pool.now c.args.self.now (suc c.args.before.index) c.in-Some.number c.requires.held
-    (next_queued c.args.pool.now c.args.self.now c.args.before.index c.args.before.number c.in-Some.number
-    c.requires.held c.requires.before.number (omega arith) (sym c.after.ensures ∙ c.in-Some.is))
+tag-tag-requires c = live (goal.at.tag-tag-requires c).In-Some
 
 pub set_after-requires-clause-headed : goal.set_after-requires-clause-headed
 set_after-requires-clause-headed c =
@@ -42,10 +47,7 @@ pub set_after-requires-2-clause-live : goal.set_after-requires-2-clause-live
 set_after-requires-2-clause-live c =
     live_with c.args.pool.now c.set_after.new.self c.args.before.number
     (placed (chain_of c.args.pool.now c.args.before.number) c.after-rest.result c.tag-kept.result) c.in-Some.number
-    c.set_after.ensures.placed
-    (live_queued c.args.pool.now c.args.self.now (suc c.args.before.index) c.in-Some.number c.requires.held
-    (next_queued c.args.pool.now c.args.self.now c.args.before.index c.args.before.number c.in-Some.number
-    c.requires.held c.requires.before.number (omega arith) (sym c.after.ensures ∙ c.in-Some.is)))
+    c.set_after.ensures.placed (live (goal.at.set_after-requires-2-clause-live c).In-Some)
 
 pub set_after-requires-2-clause-headed : goal.set_after-requires-2-clause-headed
 set_after-requires-2-clause-headed c =
@@ -56,8 +58,7 @@ set_after-requires-2-clause-headed c =
     (next_apart c.args.pool.now c.args.self.now c.args.before.index c.args.before.number c.in-Some.number
     c.requires.held c.requires.before.number (omega arith) (sym c.after.ensures ∙ c.in-Some.is)))
     ∙ headed_packet c.args.pool.now c.args.self.now (suc c.args.before.index) c.in-Some.number c.requires.held
-    (next_queued c.args.pool.now c.args.self.now c.args.before.index c.args.before.number c.in-Some.number
-    c.requires.held c.requires.before.number (omega arith) (sym c.after.ensures ∙ c.in-Some.is))
+    (taken (goal.at.set_after-requires-2-clause-headed c).In-Some)
 
 pub overflow_add-before : goal.overflow_add-before
 overflow_add-before c = omega (arith, c.requires.more, ap (λ (t : TrainView). t.len) c.self.view_is)
@@ -103,5 +104,4 @@ pub set_after-requires-clause-link : goal.set_after-requires-clause-link
 set_after-requires-clause-link c =
     subst (λ o. IfSome o (IsLive c.args.pool.now)) (sym c.after-rest.ensures)
     (live_after c.args.pool.now c.args.self.now (suc c.args.before.index) c.in-Some.number c.requires.held
-    (next_queued c.args.pool.now c.args.self.now c.args.before.index c.args.before.number c.in-Some.number
-    c.requires.held c.requires.before.number (omega arith) (sym c.after.ensures ∙ c.in-Some.is)))
+    (taken (goal.at.set_after-requires-clause-link c).In-Some))
