@@ -11,7 +11,7 @@ ghost use Rattle.ip_reass.specs.Arrivals.{GoesOn, HasWhole, IsPulled, flat_head,
 ghost use Rattle.ip_reass.specs.Fragments.{fragment_of};
 ghost use Rattle.ip_reass.specs.Layouts.{ChainArrives, HasCause, HasLayout, WaitOrNone, cause_among, cause_of, fragment_carried, queues, under};
 ghost use Rattle.ip_reass.specs.Table.{IsReady, held_all};
-ghost use Rattle.ip_reass.specs.Inside.Place.{HasPlace};
+ghost use Rattle.ip_reass.specs.Inside.Place.{CanJoin, HasPlace};
 ghost use Rattle.ip_reass.specs.Inside.Walks.{arrived};
 
 use crate::arrival::Arrival;
@@ -90,11 +90,7 @@ impl Reass {
         chain: Chain,
         head: IpHead,
     ) -> Arrival
-        requires ready { IsReady pool.old self.old }
-        requires owned { IsOwned pool.old (chain ∷ held_all pool.old self.old.datagrams) }
-        requires headed { (chain_of pool.old chain).front.header ≡ true }
-        requires some { 0 < length (string (chain_of pool.old chain)) }
-        requires small { head.offset + length (string (chain_of pool.old chain)) ≤ IP_MAX_DATA }
+        requires { CanJoin pool.old self.old chain head.offset }
         ensures step { (rest : State) (held : Weight) (new : State) →
             IsAccounted pool.old (with_waiting pool.old self.old.datagrams counters.old rest)
             (held ⊕ weight_at pool.old chain) →

@@ -1,13 +1,14 @@
 //! A fragment that is queued directly, from the bytes of its packet.
-ghost use Rattle.std.specs.Prelude.{◌≡◌, ℕ, ◌<◌, ◌≤◌, ◌++◌, true, length};
+ghost use Rattle.std.specs.Prelude.{◌≡◌, ℕ, ◌+◌, ◌<◌, ◌≤◌, ◌++◌, true, length};
 ghost use Rattle.flat_model.specs.Amounts.Weight.{Weight, ◌⊕◌};
 ghost use Rattle.flat_model.specs.Machine.State.{State};
-ghost use Rattle.mbuf_chain.specs.Chain.{alone, free_clusters, references};
+ghost use Rattle.mbuf_chain.specs.Chain.{alone, references};
 ghost use Rattle.mbuf_chain.specs.Owners.{Moves};
 ghost use Rattle.chain_ops.specs.Makes.{HasMbufs, Makes};
 ghost use Rattle.ledger.specs.Accounts.{IsAccounted, weight_owned};
 ghost use Rattle.ip_reass.specs.Arrivals.{HasWhole, carried_entries, in_hand, with_waiting};
 ghost use Rattle.ip_reass.specs.AtOnce.{ArrivesAtOnce, TakesFree, as_stored, fits_at_once, in_cluster, in_mbufs, is_sound};
+ghost use Rattle.ip_reass.specs.Inside.Place.{HasRoomFor};
 ghost use Rattle.ip_reass.specs.Table.{IsReady, held_all};
 
 use crate::arrival::Arrival;
@@ -52,10 +53,7 @@ pub fn fits_at_once(pool: &Pool, head: &IpHead, packet: &[u8]) -> bool
 /// pulled up and cut off: 20 bytes in a plain mbuf, and the others in the cluster. These must be free.
 #[inline(always)]
 fn store_cluster(pool: &mut Pool, packet: &[u8]) -> Chain
-    requires many { MINCLSIZE ≤ length packet.now }
-    requires few { length packet.now ≤ MCLBYTES }
-    requires mbufs { HasMbufs pool.old 2 }
-    requires cluster { 0 < free_clusters pool.old }
+    requires { HasRoomFor MINCLSIZE pool.old packet.now }
     ensures { (k : ℕ) × (k < pool.old.clusters) × (references pool.old k ≡ 0)
         × Makes pool.old pool.new result (alone true) (carried_entries (in_cluster packet.now k)) }
 {
@@ -89,10 +87,7 @@ fn store_mbufs(pool: &mut Pool, packet: &[u8]) -> Chain
 /// a cluster, and cut off. Two mbufs and a cluster must be free.
 #[inline(always)]
 fn store_carried(pool: &mut Pool, packet: &[u8]) -> Chain
-    requires many { MHLEN < length packet.now }
-    requires few { length packet.now ≤ MCLBYTES }
-    requires mbufs { HasMbufs pool.old 2 }
-    requires cluster { 0 < free_clusters pool.old }
+    requires { HasRoomFor (MHLEN + 1) pool.old packet.now }
     ensures { (k : ℕ) × TakesFree pool.old packet.now k
         × Makes pool.old pool.new result (alone true) (carried_entries (as_stored packet.now k)) }
 {

@@ -1,6 +1,6 @@
 //! The rows of the table, found by a hash of their keys.
 ghost use Rattle.std.specs.Prelude.{◌≡◌, ℕ, ◌+◌, ◌-◌, ◌<◌, ◌≤◌, ◌++◌, ◌∷◌, ◌^◌, [], length, remove, get_or, IfOk};
-ghost use Rattle.ip_reass.specs.Inside.Index.{AreLinked, bucket_of, buckets_in, buckets_of, halves_of, upto_last};
+ghost use Rattle.ip_reass.specs.Inside.Index.{AreLinked, HasRows, bucket_of, buckets_in, buckets_of, halves_of, upto_last};
 
 use crate::datagram::Datagram;
 use flat_model::FragmentKey;
@@ -164,9 +164,7 @@ impl Index {
     pub(crate) fn add(&mut self, bucket: u32)
         requires bucket { bucket < self.old.count }
         requires room { length self.old.buckets < self.old.room }
-        ensures rows { self.new.buckets ≡ self.old.buckets ++ bucket ∷ [] }
-        ensures count { self.new.count ≡ self.old.count }
-        ensures room { self.new.room ≡ self.old.room }
+        ensures { HasRows self.old self.new (self.old.buckets ++ bucket ∷ []) }
     {
         let lasts = self.lasts.as_mut_slice();
         let rows = self.rows.as_mut_slice();
@@ -179,9 +177,7 @@ impl Index {
     #[inline(never)]
     pub(crate) fn remove(&mut self, place: usize)
         requires { place < length self.old.buckets }
-        ensures rows { self.new.buckets ≡ remove self.old.buckets place }
-        ensures count { self.new.count ≡ self.old.count }
-        ensures room { self.new.room ≡ self.old.room }
+        ensures { HasRows self.old self.new (remove self.old.buckets place) }
     {
         let lasts = self.lasts.as_mut_slice();
         let rows = self.rows.as_mut_slice();
@@ -205,9 +201,7 @@ impl Index {
 
     /// Removes all rows.
     pub(crate) fn clear(&mut self)
-        ensures rows { self.new.buckets ≡ [] }
-        ensures count { self.new.count ≡ self.old.count }
-        ensures room { self.new.room ≡ self.old.room }
+        ensures { HasRows self.old self.new [] }
     {
         unlink(self.lasts.as_mut_slice(), self.rows.as_slice(), 0, self.len);
         self.len = 0;
@@ -219,9 +213,7 @@ impl Index {
         requires few { length table.now ≤ length self.old.buckets }
         requires same { length self.old.buckets ≡ length table.now
             → self.old.buckets ≡ buckets_of self.old.count table.now }
-        ensures rows { self.new.buckets ≡ buckets_of self.old.count table.now }
-        ensures count { self.new.count ≡ self.old.count }
-        ensures room { self.new.room ≡ self.old.room }
+        ensures { HasRows self.old self.new (buckets_of self.old.count table.now) }
     {
         if self.len() == table.len() {
             return;

@@ -4,7 +4,7 @@ ghost use Rattle.mbuf_chain.specs.Chain.{IsLive, chain_of, string, alone, flat_b
 ghost use Rattle.mbuf_chain.specs.Owners.{times_among, Moves};
 ghost use Rattle.mbuf_chain.specs.Train.{numbers, queued_packet_at, IsQueuedPlace, IsHeld};
 ghost use Rattle.ip_reass.specs.Fragments.{AllEnd, IsQueue, bytes_held, cut, cut_to, fragments, joined_fragments, map_of, queued, queued_end};
-ghost use Rattle.ip_reass.specs.Inside.Queue.{CanInsert, HasFront, LeavesFront};
+ghost use Rattle.ip_reass.specs.Inside.Queue.{CanClear, CanInsert, HasNext, LeavesFront};
 ghost use Rattle.ip_reass.specs.Inside.Walks.{AllAbove, AllUpto, IsFront, ReportsWhole, arrived, after, is_left, queued_at, reach};
 ghost use Rattle.ip_reass.specs.Inside.Steps.{IsInserted};
 
@@ -98,8 +98,7 @@ fn ends(pool: &Pool, train: &Train, at: QueuedPlace) -> u32
 
 /// Removes the fragment after a place and frees it.
 fn free_after(pool: &mut Pool, train: &mut Train, front: Option<QueuedPlace>)
-    requires at { HasFront pool.old train.old front }
-    requires more { after front < train.old.len }
+    requires { HasNext pool.old train.old front }
     ensures queue { queued pool.new train.new ≡ remove (queued pool.old train.old) (after front) }
     ensures left { LeavesFront pool.old (numbers pool.old train.old) pool.new train.new front }
     ensures len { train.new.len + 1 ≡ train.old.len }
@@ -110,8 +109,7 @@ fn free_after(pool: &mut Pool, train: &mut Train, front: Option<QueuedPlace>)
 
 /// Cuts the first n bytes off the fragment after a place, like `m_adj`.
 fn trim_after(pool: &mut Pool, train: &mut Train, front: Option<QueuedPlace>, n: u32)
-    requires at { HasFront pool.old train.old front }
-    requires more { after front < train.old.len }
+    requires next { HasNext pool.old train.old front }
     requires small { AllEnd IP_MAX_DATA (fragments pool.old train.old) }
     requires within { n ≤ length (flat_bytes (queued_at (queued pool.old train.old) (after front)).entries) }
     ensures queue { queued pool.new train.new ≡
@@ -129,9 +127,7 @@ fn trim_after(pool: &mut Pool, train: &mut Train, front: Option<QueuedPlace>, n:
 /// Removes the bytes below an offset from the fragments after a place: whole fragments, and the front of one. Returns
 /// how many bytes that are.
 fn clear(pool: &mut Pool, train: &mut Train, front: Option<QueuedPlace>, end: u32) -> u32
-    requires at { HasFront pool.old train.old front }
-    requires small { AllEnd IP_MAX_DATA (fragments pool.old train.old) }
-    requires few { bytes_held (fragments pool.old train.old) ≤ IP_MAX_DATA }
+    requires { CanClear pool.old train.old front }
     ensures queue { queued pool.new train.new ≡
         take (after front) (queued pool.old train.old) ++ cut_to end (drop (after front) (queued pool.old train.old)) }
     ensures left { LeavesFront pool.old (numbers pool.old train.old) pool.new train.new front }
@@ -164,9 +160,7 @@ fn insert_trimmed(
     before: Before,
     span: Span,
 ) -> u32
-    requires at { HasFront pool.old train.old before.front }
-    requires small { AllEnd IP_MAX_DATA (fragments pool.old train.old) }
-    requires few { bytes_held (fragments pool.old train.old) ≤ IP_MAX_DATA }
+    requires clear { CanClear pool.old train.old before.front }
     requires live { IsLive pool.old chain }
     requires headed { (chain_of pool.old chain).front.header ≡ true }
     requires apart { times_among chain (numbers pool.old train.old) ≡ 0 }

@@ -9,7 +9,7 @@ ghost use Rattle.mbuf_chain.specs.Chain.{PoolView};
 ghost use Rattle.mbuf_chain.specs.Owners.{Moves};
 ghost use Rattle.mbuf_chain.specs.Frames.{SameAt};
 ghost use Rattle.ip_reass.specs.Arrivals.{with_waiting};
-ghost use Rattle.ip_reass.specs.Inside.Index.{buckets_of};
+ghost use Rattle.ip_reass.specs.Inside.Index.{CanFind, IsFound};
 ghost use Rattle.ip_reass.specs.Table.{aged, unfinished, has_key, new_datagram, holds, held_all, AllUnfinished, IsTable, IsReady};
 
 use crate::datagram::{Datagram, free_datagram};
@@ -159,12 +159,8 @@ fn age(table: &mut [Datagram]) -> usize
 // Not inlined: usually the newest datagram is the one.
 #[inline(never)]
 fn find_by_bucket(table: &[Datagram], index: &Index, key: FragmentKey) -> Option<usize>
-    requires some { 0 < index.now.count }
-    requires indexed { index.now.buckets ≡ buckets_of index.now.count table.now }
-    requires once { count_by (has_key key) table.now ≤ 1 }
-    ensures { MatchOption result (find (has_key key) table.now ≡ None)
-        (λ i. (i < length table.now) × (find (has_key key) table.now ≡ slice_get table.now i)
-        × (find (has_key key) (take i table.now) ≡ None)) }
+    requires { CanFind index.now table.now key }
+    ensures { IsFound key table.now result }
 {
     let bucket = index.bucket(&key);
     let mut rows = index.last(bucket);
@@ -182,12 +178,8 @@ fn find_by_bucket(table: &[Datagram], index: &Index, key: FragmentKey) -> Option
 /// datagram mostly follow one another.
 #[inline(always)]
 pub(crate) fn find(table: &[Datagram], index: &Index, key: FragmentKey) -> Option<usize>
-    requires some { 0 < index.now.count }
-    requires indexed { index.now.buckets ≡ buckets_of index.now.count table.now }
-    requires once { count_by (has_key key) table.now ≤ 1 }
-    ensures { MatchOption result (find (has_key key) table.now ≡ None)
-        (λ i. (i < length table.now) × (find (has_key key) table.now ≡ slice_get table.now i)
-        × (find (has_key key) (take i table.now) ≡ None)) }
+    requires { CanFind index.now table.now key }
+    ensures { IsFound key table.now result }
 {
     let len = table.len();
     if len > 0 && table[len - 1].key == key {

@@ -1,6 +1,7 @@
 -- The rows of the table, found by the buckets of their keys (this project's own).
-use Rattle.std.specs.Prelude.{◌≡◌, ℕ, zero, suc, ◌+◌, ◌*◌, ◌/◌, ◌%◌, ◌<◌, ◌≤◌, ◌==◌, if◌then◌else◌, List, map, take, length, get_or}
+use Rattle.std.specs.Prelude.{◌≡◌, ℕ, zero, suc, ◌+◌, ◌*◌, ◌/◌, ◌%◌, ◌<◌, ◌≤◌, ◌==◌, if◌then◌else◌, List, map, take, length, get_or, count_by, find, slice_get, Option, None, MatchOption}
 use Rattle.flat_model.specs.Machine.State.{Key}
+use Rattle.ip_reass.specs.Table.{has_key}
 use Rattle.ip_reass.specs.declared.datagram.Datagram.{Datagram}
 use Rattle.ip_reass.specs.declared.index.Row.{Row}
 
@@ -28,6 +29,12 @@ pub record IndexView : Type 0 where
   pub count : ℕ
   pub room : ℕ
 
+-- the index has these rows now, and as many buckets and as much room as before
+pub record HasRows (x y : IndexView) (bs : List ℕ) : Type 0 where
+  pub rows : y.buckets ≡ bs
+  pub count : y.count ≡ x.count
+  pub room : y.room ≡ x.room
+
 abbrev pub buckets_in : List Row → ℕ → List ℕ
 buckets_in rows n = map (λ (r : Row). r.bucket) (take n rows)
 
@@ -43,3 +50,15 @@ pub record AreLinked (ends : List ℕ) (rows : List Row) (n : ℕ) : Type 0 wher
 pub record Indexes (x : IndexView) (ds : List Datagram) : Type 0 where
   pub some : 0 < x.count
   pub rows : x.buckets ≡ buckets_of x.count ds
+
+-- the index finds each row of the table, and at most one has this key
+pub record CanFind (x : IndexView) (ds : List Datagram) (k : Key) : Type 0 where
+  pub some : 0 < x.count
+  pub indexed : x.buckets ≡ buckets_of x.count ds
+  pub once : count_by (has_key k) ds ≤ 1
+
+-- the place of the first row with this key, if there is one
+abbrev pub IsFound : Key → List Datagram → Option ℕ → Type 0
+IsFound k ds r =
+    MatchOption r (find (has_key k) ds ≡ None)
+    (λ i. (i < length ds) × (find (has_key k) ds ≡ slice_get ds i) × (find (has_key k) (take i ds) ≡ None))

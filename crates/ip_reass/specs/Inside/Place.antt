@@ -1,18 +1,34 @@
 -- The place in the table of the datagram with a key, to which a fragment is added (this project's own).
-use Rattle.std.specs.Prelude.{◌≡◌, ◌⊎◌, ℕ, ◌<◌, Bool, true, false, List, [], ◌∷◌, ◌++◌, take, find, length, slice_get, Option, None, Some}
-use Rattle.params.specs.declared.TheConstants.{PACKET_START}
+use Rattle.std.specs.Prelude.{◌≡◌, ◌⊎◌, ℕ, ◌+◌, ◌<◌, ◌≤◌, Bool, true, false, List, [], ◌∷◌, ◌++◌, take, find, length, slice_get, Option, None, Some}
+use Rattle.params.specs.declared.TheConstants.{IP_MAX_DATA, MCLBYTES, PACKET_START}
 use Rattle.flat_model.specs.Amounts.Weight.{Weight}
 use Rattle.flat_model.specs.Machine.State.{State, Key}
 use Rattle.flat_model.specs.Machine.Ledger.{exact_ledger, HasBuffers, need_mbufs}
 use Rattle.flat_model.specs.declared.counters.Counters.{Counters}
-use Rattle.mbuf_chain.specs.Chain.{PoolView, Adds}
-use Rattle.mbuf_chain.specs.Owners.{Moves}
+use Rattle.mbuf_chain.specs.Chain.{PoolView, Adds, chain_of, free_clusters, string}
+use Rattle.mbuf_chain.specs.Owners.{IsOwned, Moves}
 use Rattle.mbuf_chain.specs.Steps.{one_mbuf, empty_entry}
+use Rattle.chain_ops.specs.Makes.{HasMbufs}
 use Rattle.ledger.specs.Accounts.{IsAccounted}
 use Rattle.ip_reass.specs.Arrivals.{with_waiting}
 use Rattle.ip_reass.specs.Layouts.{WaitOrNone, queues}
 use Rattle.ip_reass.specs.Table.{TableView, IsReady, has_key, held_all, new_datagram}
 use Rattle.ip_reass.specs.declared.datagram.Datagram.{Datagram}
+
+-- the packet has at least this many bytes, and what it carries fits in an mbuf and a cluster that are free
+pub record HasRoomFor (least : ℕ) (p : PoolView) (packet : List ℕ) : Type 0 where
+  pub many : least ≤ length packet
+  pub few : length packet ≤ MCLBYTES
+  pub mbufs : HasMbufs p 2
+  pub cluster : 0 < free_clusters p
+
+-- chain c, which is in hand, can become a fragment of a datagram of the table, at this offset
+pub record CanJoin (p : PoolView) (r : TableView) (c offset : ℕ) : Type 0 where
+  pub ready : IsReady p r
+  pub owned : IsOwned p (c ∷ held_all p r.datagrams)
+  pub headed : (chain_of p c).front.header ≡ true
+  pub some : 0 < length (string (chain_of p c))
+  pub small : offset + length (string (chain_of p c)) ≤ IP_MAX_DATA
 
 -- an mbuf was requested, from p, r and counters c to q, s and d: if none was free, no datagram waits any more
 pub record RequestsMbuf (p : PoolView) (r : TableView) (c : Counters) (answer : Bool) (q : PoolView) (s : TableView)

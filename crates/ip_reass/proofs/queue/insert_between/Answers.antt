@@ -30,9 +30,14 @@ returns-then-len-lost-clause-inserted c = record {
   moves = (none c).moves;
 }
 
-pub insert_trimmed-gone-requires-clause-few : goal.insert_trimmed-gone-requires-clause-few
-insert_trimmed-gone-requires-clause-few c =
-    held_within (fragments c.args.pool.now c.args.datagram.now.fragments) c.requires.queue.apart c.requires.queue.small
+pub insert_trimmed-gone-requires-clause-clear : goal.insert_trimmed-gone-requires-clause-clear
+insert_trimmed-gone-requires-clause-clear c =
+    let q = c.requires.queue in
+    record {
+      at = record { front = c.walk_to-before.ensures.front; held = q.held };
+      small = q.small;
+      few = held_within (fragments c.args.pool.now c.args.datagram.now.fragments) q.apart q.small;
+    }
 
 done : (c : After-insert_trimmed-gone)
     → Settled c.args.pool.now c.args.datagram.now.fragments (after c.walk_to-before.result.front)

@@ -18,18 +18,7 @@ change : (c : goal.After-clear-arg-2-1)
     }) c.trim_front.new.pool
 change c =
     changed c.args.pool.now c.trim_front.new.pool c.args.train.now c.args.chain _ c.requires.live c.requires.apart
-    c.requires.at.held c.trim_front.ensures
-
-pub clear-gone-requires-clause-at : goal.clear-gone-requires-clause-at
-clear-gone-requires-clause-at c = record {
-  front = front_beside c.args.pool.now c.trim_front.new.pool c.args.train.now c.args.before.front
-      ((change c).queued_packets_are) c.requires.at.front;
-  held = (change c).held;
-}
-
-pub clear-gone-requires-clause-small : goal.clear-gone-requires-clause-small
-clear-gone-requires-clause-small c =
-    subst (AllEnd 65515) (sym (ap (map fragment_in) (change c).queued_packets_are)) c.requires.small
+    c.requires.clear.at.held c.trim_front.ensures
 
 wait : (c : goal.After-insert_after-arg-2-1)
     → Waits c.args.chain (record (chain_of c.args.pool.now c.args.chain) {
@@ -41,7 +30,7 @@ wait c =
     { entries = without_first c.saturating_sub-skip.result (chain_of c.args.pool.now c.args.chain).entries } in
     let change =
     changed c.args.pool.now c.trim_front.new.pool c.args.train.now c.args.chain v c.requires.live c.requires.apart
-    c.requires.at.held c.trim_front.ensures in
+    c.requires.clear.at.held c.trim_front.ensures in
     waits c.trim_front.new.pool c.clear-gone.new.pool c.args.train.now c.clear-gone.new.train c.args.chain v change.live
     change.shown change.apart c.clear-gone.ensures.left.moves
 
@@ -67,9 +56,9 @@ all c =
     c.clear-gone.new.train c.insert_after.new.train c.args.chain (after c.args.before.front)
     c.saturating_sub-skip.result c.args.span.offset (c.args.span.offset + c.len.result) c.new-tag.result.bits
     c.args.span.more
-    (front_within c.args.pool.now c.args.train.now c.args.before.front c.requires.at.front) c.requires.at.held
+    (front_within c.args.pool.now c.args.train.now c.args.before.front c.requires.clear.at.front) c.requires.clear.at.held
     (changed c.args.pool.now c.trim_front.new.pool c.args.train.now c.args.chain _ c.requires.live c.requires.apart
-    c.requires.at.held c.trim_front.ensures)
+    c.requires.clear.at.held c.trim_front.ensures)
     c.clear-gone.ensures.queue c.clear-gone.ensures.left.moves (ap (λ (n : ℕ). c.args.span.offset + n) c.len.ensures)
     c.new-tag.ensures.half c.new-tag.ensures.odd c.insert_after.ensures.queued_packets c.insert_after.ensures.left.moves
 
@@ -98,7 +87,7 @@ counted c =
     let were = queued c.args.pool.now c.args.train.now in
     let is : queued c.trim_front.new.pool c.args.train.now ≡ queued c.args.pool.now c.args.train.now =
     ap (map queued_of) (changed c.args.pool.now c.trim_front.new.pool c.args.train.now c.args.chain _ c.requires.live
-    c.requires.apart c.requires.at.held c.trim_front.ensures).queued_packets_are in
+    c.requires.apart c.requires.clear.at.held c.trim_front.ensures).queued_packets_are in
     held_between c.clear-gone.new.pool c.insert_after.new.pool c.clear-gone.new.train c.insert_after.new.train
     c.saturating_sub-skip.result (take i were) (cut_to (c.args.span.offset + c.len.result) (drop i were))
     here (c.clear-gone.ensures.queue ∙ λ j. take i (is j) ++ cut_to (c.args.span.offset + c.len.result) (drop i (is j)))
@@ -111,8 +100,17 @@ kept : (c : goal.After-clear-arg-2-1)
     ≡ bytes_held (fragments c.args.pool.now c.args.train.now)
 kept c = ap (λ (cs : List QueuedPacket). bytes_held (map fragment_in cs)) (change c).queued_packets_are
 
-pub clear-gone-requires-clause-few : goal.clear-gone-requires-clause-few
-clear-gone-requires-clause-few c = omega (arith, kept c, c.requires.few)
+pub clear-gone-requires : goal.clear-gone-requires
+clear-gone-requires c = record {
+  at = record {
+    front =
+        front_beside c.args.pool.now c.trim_front.new.pool c.args.train.now c.args.before.front
+        ((change c).queued_packets_are) c.requires.clear.at.front;
+    held = (change c).held;
+  };
+  small = subst (AllEnd 65515) (sym (ap (map fragment_in) (change c).queued_packets_are)) c.requires.clear.small;
+  few = omega (arith, kept c, c.requires.clear.few);
+}
 
 pub returns-clause-gone : goal.returns-clause-gone
 returns-clause-gone c =
@@ -123,7 +121,7 @@ returns-clause-gone c =
       ap (λ (cs : List QueuedPacket). bytes_held (map fragment_in cs))
           (changed c.args.pool.now c.trim_front.new.pool c.args.train.now c.args.chain _ c.requires.live
           c.requires.apart
-          c.requires.at.held c.trim_front.ensures).queued_packets_are,
+          c.requires.clear.at.held c.trim_front.ensures).queued_packets_are,
       c.len.ensures,
       c.saturating_sub-skip.ensures,
     )

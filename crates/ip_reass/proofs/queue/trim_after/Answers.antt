@@ -13,12 +13,12 @@ use Rattle.ip_reass.proofs.queue.trim_after.Goals as goal
 pub moved-moved-requires : goal.moved-moved-requires
 moved-moved-requires c =
     let was =
-    queued_is c.args.pool.now c.args.train.now (after c.args.front) c.requires.at.held c.requires.more
+    queued_is c.args.pool.now c.args.train.now (after c.args.front) c.requires.next.at.held c.requires.next.more
     ∙ ap queued_of c.take_after-chain.ensures.taken in
     let ends =
     end_at 65515 (queued c.args.pool.now c.args.train.now) (after c.args.front)
     (within_of 65515 c.args.pool.now c.args.train.now c.requires.small)
-    (omega (arith, length-queued c.args.pool.now c.args.train.now c.requires.at.held)) in
+    (omega (arith, length-queued c.args.pool.now c.args.train.now c.requires.next.at.held)) in
     omega (arith, ends, ap (λ (p : QueuedFragment). p.offset) was, c.requires.within)
 
 change : (c : goal.After-insert_after-arg-2-1)
@@ -29,7 +29,7 @@ change : (c : goal.After-insert_after-arg-2-1)
 change c =
     let o : IsOwned c.take_after-chain.new.pool
     (c.take_after-chain.result.0 ∷ numbers c.take_after-chain.new.pool c.take_after-chain.new.train) =
-    owned_after c.take_after-chain.ensures.moves c.requires.at.held.owned in
+    owned_after c.take_after-chain.ensures.moves c.requires.next.at.held.owned in
     changed c.take_after-chain.new.pool c.trim_front.new.pool c.take_after-chain.new.train c.take_after-chain.result.0 _
     (live_first c.take_after-chain.new.pool c.take_after-chain.result.0
     (numbers c.take_after-chain.new.pool c.take_after-chain.new.train) o)
@@ -53,11 +53,11 @@ all : (c : goal.After-insert_after)
 all c =
     let o : IsOwned c.take_after-chain.new.pool
     (c.take_after-chain.result.0 ∷ numbers c.take_after-chain.new.pool c.take_after-chain.new.train) =
-    owned_after c.take_after-chain.ensures.moves c.requires.at.held.owned in
+    owned_after c.take_after-chain.ensures.moves c.requires.next.at.held.owned in
     trimmed_at c.args.pool.now c.take_after-chain.new.pool c.trim_front.new.pool c.insert_after.new.pool
     c.args.train.now c.take_after-chain.new.train c.insert_after.new.train c.take_after-chain.result.0
     (after c.args.front) c.args.n c.take_after-chain.result.1
-    c.requires.more c.requires.at.held c.take_after-chain.ensures.queued_packets c.take_after-chain.ensures.taken
+    c.requires.next.more c.requires.next.at.held c.take_after-chain.ensures.queued_packets c.take_after-chain.ensures.taken
     c.take_after-chain.ensures.moves
     (changed c.take_after-chain.new.pool c.trim_front.new.pool c.take_after-chain.new.train c.take_after-chain.result.0
     _ (live_first c.take_after-chain.new.pool c.take_after-chain.result.0

@@ -17,7 +17,7 @@ use Rattle.ip_reass.proofs.Queues.{arrived_layout, arrived_cause, cause_lacking}
 use Rattle.ip_reass.proofs.Reserve.{Freed, stays, freed}
 use Rattle.ip_reass.proofs.ArriveLemmas.{Trimmed, accounts, one_weighs, same_weight, trimmed_off, arrives_bad, none_cluster, some_plain, some_cluster, carried_len, carried_size, good_some, good_small, accounted_counters}
 use Rattle.ip_reass.proofs.table.Reass.arrive.Goals as goal
-use Rattle.ip_reass.proofs.table.Reass.arrive.Goals.{After-free_chain, After-trim_front, In-Some}
+use Rattle.ip_reass.proofs.table.Reass.arrive.Goals.{After-free_chain, After-pull_up, After-trim_front}
 
 -- a malformed fragment was freed
 bad : (c : After-free_chain) → Freed c.args.pool.now c.args.self.now.datagrams c.args.chain c.args.pool.now
@@ -58,11 +58,15 @@ pub returns-then-is_bad-clause-moves : goal.returns-then-is_bad-clause-moves
 returns-then-is_bad-clause-moves c =
     (bad (goal.at.returns-then-is_bad-clause-moves c).After-free_chain).moves
 
+-- it isn't malformed
+sound : (c : After-pull_up) → is_bad_fragment (flat_head c.args.head) (c.args.head.total - 20) ≡ false
+sound c =
+    ap (λ (n : ℕ). is_bad_fragment (flat_head c.args.head) (n - 20)) (sym c.requires.total ∙ sym c.len-len.ensures)
+    ∙ (sym c.is_bad.ensures ∙ c.if-is_bad.false)
+
 pub returns-in_default-clause-step : goal.returns-in_default-clause-step
 returns-in_default-clause-step c = λ rest held new acc is.
-    let good : is_bad_fragment (flat_head c.args.head) (c.args.head.total - 20) ≡ false =
-    ap (λ (n : ℕ). is_bad_fragment (flat_head c.args.head) (n - 20)) (sym c.requires.total ∙ sym c.len-len.ensures)
-    ∙ (sym c.is_bad.ensures ∙ c.if-is_bad.false) in
+    let good = sound (goal.at.returns-in_default-clause-step c).After-pull_up in
     elim (cases_Bool (is_some (entry_of (chain_of c.args.pool.now c.args.chain) 0).cluster)) [
       | inr plain ↦ absurd (none-some c.args.chain (sym c.in_default.is ∙ (c.pull_up.ensures.plain plain).3))
       | inl cluster ↦
@@ -86,94 +90,56 @@ returns-in_default-clause-accounts c = λ rest held acc.
     c.args.counters.now c.pull_up.new.counters acc m c.requires.owned c.requires.ready.table
     c.pull_up.ensures.ready.table (one_weighs c.args.pool.now c.args.chain) (same_weight nothing)
 
--- the fragment was pulled up, and lost its header
-pulled : (c : In-Some) → Moves c.args.pool.now (c.args.chain ∷ held_all c.args.pool.now c.args.self.now.datagrams)
+-- the fragment was pulled up
+moved : (c : After-trim_front) → Moves c.args.pool.now
+    (c.args.chain ∷ held_all c.args.pool.now c.args.self.now.datagrams)
     c.pull_up.new.pool (c.in-Some.chain ∷ held_all c.pull_up.new.pool c.pull_up.new.self.datagrams)
-pulled c =
+moved c =
     subst (λ (o : Option ℕ). Moves c.args.pool.now (c.args.chain ∷ held_all c.args.pool.now c.args.self.now.datagrams)
     c.pull_up.new.pool (option_to_list o
     ++ held_all c.pull_up.new.pool c.pull_up.new.self.datagrams)) c.in-Some.is c.pull_up.ensures.moves
 
-trimmed : (c : After-trim_front) → Moves c.args.pool.now
-    (c.args.chain ∷ held_all c.args.pool.now c.args.self.now.datagrams)
-    c.pull_up.new.pool (c.in-Some.chain ∷ held_all c.pull_up.new.pool c.pull_up.new.self.datagrams)
+-- and lost its header
+trimmed : (c : After-trim_front)
     → Trimmed c.pull_up.new.pool c.pull_up.new.self.datagrams c.in-Some.chain c.trim_front.new.pool
-trimmed c m =
+trimmed c =
     trimmed_off c.pull_up.new.pool c.trim_front.new.pool c.pull_up.new.self.datagrams c.in-Some.chain
-    c.pull_up.ensures.ready.table (owned_after m c.requires.owned) c.trim_front.ensures
+    c.pull_up.ensures.ready.table (owned_after (moved c) c.requires.owned) c.trim_front.ensures
 
-pub insert_or_begin-requires-clause-ready : goal.insert_or_begin-requires-clause-ready
-insert_or_begin-requires-clause-ready c =
-    let at = goal.at.insert_or_begin-requires-clause-ready c in
-    let m = pulled at.In-Some in
-    let t = trimmed at.After-trim_front m in
+pub insert_or_begin-requires : goal.insert_or_begin-requires
+insert_or_begin-requires c =
+    let at = (goal.at.insert_or_begin-requires c).After-trim_front in
+    let long : length (string (chain_of c.args.pool.now c.args.chain)) ≡ 20 + (c.len-len.result - 20) =
+    omega (arith, c.len-len.ensures, c.requires.total, c.requires.header) in
+    let good : is_bad_fragment (flat_head c.args.head) (c.len-len.result - 20) ≡ false =
+    sym c.is_bad.ensures ∙ c.if-is_bad.false in
+    let size =
+    carried_len c.args.pool.now c.trim_front.new.pool c.args.chain c.in-Some.chain (c.len-len.result - 20) long
+    (ap (λ (v : ChainView). v.entries) (trimmed at).chain ∙ ap (without_first 20) c.in-Some.ensures.entries) in
     record {
-      table = t.table;
-      fragments = c.pull_up.ensures.ready.fragments;
-      room = omega (arith, c.pull_up.ensures.ready.room, t.moves.mbufs);
-      distinct =
-          distinct_same c.pull_up.new.pool c.trim_front.new.pool c.pull_up.new.self.datagrams
-          c.pull_up.new.self.datagrams
-          t.shows c.pull_up.ensures.ready.distinct;
+      ready = record {
+        table = (trimmed at).table;
+        fragments = c.pull_up.ensures.ready.fragments;
+        room = omega (arith, c.pull_up.ensures.ready.room, (trimmed at).moves.mbufs);
+        distinct =
+            distinct_same c.pull_up.new.pool c.trim_front.new.pool c.pull_up.new.self.datagrams
+            c.pull_up.new.self.datagrams (trimmed at).shows c.pull_up.ensures.ready.distinct;
+      };
+      owned = (trimmed at).owned;
+      headed = ap (λ (v : ChainView). v.front.header) (trimmed at).chain ∙ c.in-Some.ensures.headed;
+      some = omega (arith, size, good_some c.args.head (c.len-len.result - 20) good);
+      small = omega (arith, size, good_small c.args.head (c.len-len.result - 20) good);
     }
-
-pub insert_or_begin-requires-clause-owned : goal.insert_or_begin-requires-clause-owned
-insert_or_begin-requires-clause-owned c =
-    let at = goal.at.insert_or_begin-requires-clause-owned c in
-    let m = pulled at.In-Some in
-    let t = trimmed at.After-trim_front m in
-    t.owned
-
-pub insert_or_begin-requires-clause-headed : goal.insert_or_begin-requires-clause-headed
-insert_or_begin-requires-clause-headed c =
-    let at = goal.at.insert_or_begin-requires-clause-headed c in
-    let m = pulled at.In-Some in
-    let t = trimmed at.After-trim_front m in
-    ap (λ (v : ChainView). v.front.header) t.chain ∙ c.in-Some.ensures.headed
-
-pub insert_or_begin-requires-clause-some : goal.insert_or_begin-requires-clause-some
-insert_or_begin-requires-clause-some c =
-    let at = goal.at.insert_or_begin-requires-clause-some c in
-    let m = pulled at.In-Some in
-    let t = trimmed at.After-trim_front m in
-    let long : length (string (chain_of c.args.pool.now c.args.chain)) ≡ 20 + (c.len-len.result - 20) =
-    omega (arith, c.len-len.ensures, c.requires.total, c.requires.header) in
-    let good : is_bad_fragment (flat_head c.args.head) (c.len-len.result - 20) ≡ false =
-    sym c.is_bad.ensures ∙ c.if-is_bad.false in
-    let size =
-    carried_len c.args.pool.now c.trim_front.new.pool c.args.chain c.in-Some.chain (c.len-len.result - 20) long
-    (ap (λ (v : ChainView). v.entries) t.chain ∙ ap (without_first 20) c.in-Some.ensures.entries) in
-    let some = good_some c.args.head (c.len-len.result - 20) good in
-    omega (arith, size, some)
-
-pub insert_or_begin-requires-clause-small : goal.insert_or_begin-requires-clause-small
-insert_or_begin-requires-clause-small c =
-    let at = goal.at.insert_or_begin-requires-clause-small c in
-    let m = pulled at.In-Some in
-    let t = trimmed at.After-trim_front m in
-    let long : length (string (chain_of c.args.pool.now c.args.chain)) ≡ 20 + (c.len-len.result - 20) =
-    omega (arith, c.len-len.ensures, c.requires.total, c.requires.header) in
-    let good : is_bad_fragment (flat_head c.args.head) (c.len-len.result - 20) ≡ false =
-    sym c.is_bad.ensures ∙ c.if-is_bad.false in
-    let size =
-    carried_len c.args.pool.now c.trim_front.new.pool c.args.chain c.in-Some.chain (c.len-len.result - 20) long
-    (ap (λ (v : ChainView). v.entries) t.chain ∙ ap (without_first 20) c.in-Some.ensures.entries) in
-    let small = good_small c.args.head (c.len-len.result - 20) good in
-    omega (arith, size, small)
 
 pub returns-clause-step : goal.returns-clause-step
 returns-clause-step c = λ rest held new acc goes.
-    let at = goal.at.returns-clause-step c in
-    let m = pulled at.In-Some in
-    let t = trimmed at.After-trim_front m in
-    let good : is_bad_fragment (flat_head c.args.head) (c.args.head.total - 20) ≡ false =
-    ap (λ (n : ℕ). is_bad_fragment (flat_head c.args.head) (n - 20)) (sym c.requires.total ∙ sym c.len-len.ensures)
-    ∙ (sym c.is_bad.ensures ∙ c.if-is_bad.false) in
+    let at = (goal.at.returns-clause-step c).After-trim_front in
+    let good = sound (goal.at.returns-clause-step c).After-pull_up in
     let acc' =
     accounts c.args.pool.now c.trim_front.new.pool (c.args.chain ∷ []) (c.in-Some.chain ∷ []) rest held
     (weight_at c.args.pool.now c.args.chain) (weight_at c.trim_front.new.pool c.in-Some.chain)
     c.args.self.now.datagrams c.pull_up.new.self.datagrams c.args.counters.now c.pull_up.new.counters acc
-    (moves_trans m t.moves) c.requires.owned c.requires.ready.table t.table (one_weighs c.args.pool.now c.args.chain)
+    (moves_trans (moved at) (trimmed at).moves) c.requires.owned c.requires.ready.table (trimmed at).table (one_weighs c.args.pool.now c.args.chain)
     (one_weighs c.trim_front.new.pool c.in-Some.chain) in
     let joins = c.insert_or_begin.ensures.step rest held new acc' goes in
     elim (cases_Bool (is_some (entry_of (chain_of c.args.pool.now c.args.chain) 0).cluster)) [
@@ -181,7 +147,7 @@ returns-clause-step c = λ rest held new acc goes.
           let same = c.pull_up.ensures.plain plain in
           some_plain rest held new c.args.head c.args.pool.now c.pull_up.new.pool c.trim_front.new.pool
           c.args.self.now.datagrams c.pull_up.new.self.datagrams c.args.counters.now c.count.new.self
-          c.pull_up.new.counters c.args.chain c.in-Some.chain good c.count.ensures c.in-Some.ensures.entries t joins
+          c.pull_up.new.counters c.args.chain c.in-Some.chain good c.count.ensures c.in-Some.ensures.entries (trimmed at) joins
           plain
           same.0 (ap (λ (r : TableView). r.datagrams) same.1) same.2
       | inl cluster ↦
@@ -194,29 +160,25 @@ returns-clause-step c = λ rest held new acc goes.
           (held ⊕ weight_at c.args.pool.now c.args.chain) acc)) in
           some_cluster rest held new c.args.head c.args.pool.now c.pull_up.new.pool c.trim_front.new.pool
           c.args.self.now.datagrams c.pull_up.new.self.datagrams c.args.counters.now c.count.new.self
-          c.pull_up.new.counters c.args.chain c.in-Some.chain good c.count.ensures c.in-Some.ensures.entries t joins
+          c.pull_up.new.counters c.args.chain c.in-Some.chain good c.count.ensures c.in-Some.ensures.entries (trimmed at) joins
           cluster
           tested
     ]
 
 pub returns-clause-moves : goal.returns-clause-moves
 returns-clause-moves c =
-    let at = goal.at.returns-clause-moves c in
-    let m = pulled at.In-Some in
-    let t = trimmed at.After-trim_front m in
-    moves_trans m (moves_trans t.moves c.insert_or_begin.ensures.moves)
+    let at = (goal.at.returns-clause-moves c).After-trim_front in
+    moves_trans (moved at) (moves_trans (trimmed at).moves c.insert_or_begin.ensures.moves)
 
 pub returns-clause-accounts : goal.returns-clause-accounts
 returns-clause-accounts c = λ rest held acc.
-    let at = goal.at.returns-clause-accounts c in
-    let m = pulled at.In-Some in
-    let t = trimmed at.After-trim_front m in
+    let at = (goal.at.returns-clause-accounts c).After-trim_front in
     accounts c.args.pool.now c.insert_or_begin.new.pool (c.args.chain ∷ []) (in_hand c.insert_or_begin.result) rest held
     (weight_at c.args.pool.now c.args.chain) (weight_owned c.insert_or_begin.new.pool
     (in_hand c.insert_or_begin.result))
     c.args.self.now.datagrams c.insert_or_begin.new.self.datagrams c.args.counters.now c.insert_or_begin.new.counters
     acc
-    (moves_trans m (moves_trans t.moves c.insert_or_begin.ensures.moves)) c.requires.owned c.requires.ready.table
+    (moves_trans (moved at) (moves_trans (trimmed at).moves c.insert_or_begin.ensures.moves)) c.requires.owned c.requires.ready.table
     c.insert_or_begin.ensures.ready.table (one_weighs c.args.pool.now c.args.chain) (same_weight _)
 
 pub returns-clause-whole : goal.returns-clause-whole
@@ -232,14 +194,12 @@ returns-then-is_bad-clause-layout c = record {
 
 pub returns-clause-layout : goal.returns-clause-layout
 returns-clause-layout c =
-    let at = goal.at.returns-clause-layout c in
-    let m = pulled at.In-Some in
-    let t = trimmed at.After-trim_front m in
+    let at = (goal.at.returns-clause-layout c).After-trim_front in
     arrived_layout c.args.pool.now c.pull_up.new.pool c.trim_front.new.pool c.insert_or_begin.new.pool
     c.args.self.now.datagrams c.pull_up.new.self.datagrams c.insert_or_begin.new.self.datagrams c.args.chain
     c.in-Some.chain c.args.head c.insert_or_begin.result
-    c.pull_up.ensures.waits t.rows
-    (ap (λ (v : ChainView). v.entries) t.chain ∙ ap (without_first 20) c.in-Some.ensures.entries)
+    c.pull_up.ensures.waits (trimmed at).rows
+    (ap (λ (v : ChainView). v.entries) (trimmed at).chain ∙ ap (without_first 20) c.in-Some.ensures.entries)
     c.insert_or_begin.ensures.layout
 
 pub returns-then-is_bad-clause-cause : goal.returns-then-is_bad-clause-cause
@@ -267,13 +227,10 @@ returns-in_default-clause-cause c =
 
 pub returns-clause-cause : goal.returns-clause-cause
 returns-clause-cause c =
-    let at = goal.at.returns-clause-cause c in
-    let m = pulled at.In-Some in
-    let t = trimmed at.After-trim_front m in
+    let at = (goal.at.returns-clause-cause c).After-trim_front in
     arrived_cause c.args.pool.now c.trim_front.new.pool c.args.chain c.in-Some.chain c.args.head
     (under (key_in c.args.head) (queues c.insert_or_begin.new.pool c.insert_or_begin.new.self.datagrams))
     c.insert_or_begin.result
-    (ap (λ (n : ℕ). is_bad_fragment (flat_head c.args.head) (n - 20)) (sym c.requires.total ∙ sym c.len-len.ensures)
-    ∙ (sym c.is_bad.ensures ∙ c.if-is_bad.false))
-    (ap (λ (v : ChainView). v.entries) t.chain ∙ ap (without_first 20) c.in-Some.ensures.entries)
+    (sound (goal.at.returns-clause-cause c).After-pull_up)
+    (ap (λ (v : ChainView). v.entries) (trimmed at).chain ∙ ap (without_first 20) c.in-Some.ensures.entries)
     c.insert_or_begin.ensures.cause

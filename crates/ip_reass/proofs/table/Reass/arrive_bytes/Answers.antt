@@ -1,37 +1,25 @@
-use Rattle.std.proofs.Common.{◌-◌, arith}
+use Rattle.std.proofs.Common.{◌-◌, ap, arith}
+use Rattle.mbuf_chain.specs.Chain.{Front}
 use Rattle.mbuf_chain.proofs.Laws.Owners.{moves_trans}
 use Rattle.ip_reass.proofs.ArriveLemmas.{good_small}
 use Rattle.ip_reass.proofs.ArriveBytes.{Fits, at_once, end_accounts, fits_is, inserted_len, stored}
 use Rattle.ip_reass.proofs.table.Reass.arrive_bytes.Goals as goal
 
-pub insert_or_begin-requires-clause-ready : goal.insert_or_begin-requires-clause-ready
-insert_or_begin-requires-clause-ready c =
-    (stored c.args.self.now c.requires.ready c.store_carried-chain.ensures.2.adds).ready
-
-pub insert_or_begin-requires-clause-owned : goal.insert_or_begin-requires-clause-owned
-insert_or_begin-requires-clause-owned c =
-    (stored c.args.self.now c.requires.ready c.store_carried-chain.ensures.2.adds).owned
-
-pub insert_or_begin-requires-clause-some : goal.insert_or_begin-requires-clause-some
-insert_or_begin-requires-clause-some c =
+pub insert_or_begin-requires : goal.insert_or_begin-requires
+insert_or_begin-requires c =
+    let s = stored c.args.self.now c.requires.ready c.store_carried-chain.ensures.2.adds in
     let fits : Fits c.args.pool.now c.args.head c.args.packet.now =
     fits_is c.args.pool.now c.args.head c.args.packet.now c.requires.fits in
-    omega (
-      arith,
-      inserted_len c.args.packet.now c.store_carried-chain.ensures.0 fits.many c.store_carried-chain.ensures.2,
-      fits.many,
-    )
-
-pub insert_or_begin-requires-clause-small : goal.insert_or_begin-requires-clause-small
-insert_or_begin-requires-clause-small c =
-    let fits : Fits c.args.pool.now c.args.head c.args.packet.now =
-    fits_is c.args.pool.now c.args.head c.args.packet.now c.requires.fits in
-    omega (
-      arith,
-      inserted_len c.args.packet.now c.store_carried-chain.ensures.0 fits.many c.store_carried-chain.ensures.2,
-      fits.total,
-      good_small c.args.head (c.args.head.total - 20) fits.good,
-    )
+    let len =
+    inserted_len c.args.packet.now c.store_carried-chain.ensures.0 fits.many c.store_carried-chain.ensures.2 in
+    record {
+      ready = s.ready;
+      owned = s.owned;
+      headed = ap (λ (f : Front). f.header) c.store_carried-chain.ensures.2.front;
+      some = omega (arith, len, fits.many);
+      small =
+          omega (arith, len, fits.total, good_small c.args.head (c.args.head.total - 20) fits.good);
+    }
 
 pub returns-clause-arrives : goal.returns-clause-arrives
 returns-clause-arrives c =

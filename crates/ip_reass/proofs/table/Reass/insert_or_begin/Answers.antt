@@ -17,6 +17,7 @@ use Rattle.ip_reass.proofs.PlaceOf.{Lacks, Placed, lacks_in, placed_in}
 use Rattle.ip_reass.proofs.Queues.{cause_lacking}
 use Rattle.ip_reass.proofs.Reserve.{room}
 use Rattle.ip_reass.proofs.table.Reass.insert_or_begin.Goals as goal
+use Rattle.ip_reass.proofs.table.Reass.insert_or_begin.Goals.{After-insert_and_count-arg-3-1}
 
 pub place_of-requires-clause-few : goal.place_of-requires-clause-few
 place_of-requires-clause-few c =
@@ -54,7 +55,7 @@ pub returns-in_default-clause-moves : goal.returns-in_default-clause-moves
 returns-in_default-clause-moves c = (lacks c).moves
 
 -- ---- it's put at its place
-there : (c : goal.After-insert_and_count-arg-3-1)
+there : (c : After-insert_and_count-arg-3-1)
     → Placed c.args.pool.now c.args.self.now c.args.counters.now (key_in c.args.head) c.args.chain c.in-Some.i
     c.place_of.new.pool (record { datagrams = c.self.inside.datagrams.items; room = c.self.inside.index.room })
     c.place_of.new.counters
@@ -87,59 +88,55 @@ insert_and_count-arrival-requires-clause-small c =
     c.requires.small
 
 -- ---- it's kept
-before : (c : goal.In-Kept)
-    → Placed c.args.pool.now c.args.self.now c.args.counters.now (key_in c.args.head) c.args.chain c.in-Some.i
-    c.place_of.new.pool (record { datagrams = c.self.inside.datagrams.items; room = c.self.inside.index.room })
-    c.place_of.new.counters
-before c =
-    placed_in c.args.pool.now c.args.self.now c.args.counters.now (key_in c.args.head) c.key_of.result c.args.chain
-    c.in-Some.i c.requires.ready c.requires.owned c.requires.some c.place_of.new.pool c.place_of.new.self
-    (record { datagrams = c.self.inside.datagrams.items; room = c.self.inside.index.room })
-    c.place_of.new.counters c.place_of.result c.key_of.ensures c.self.view_is c.in-Some.is c.place_of.ensures
-
 pub returns-in-Kept-clause-layout : goal.returns-in-Kept-clause-layout
 returns-in-Kept-clause-layout c =
+    let s = there (goal.at.returns-in-Kept-clause-layout c).After-insert_and_count-arg-3-1 in
     subst (λ (r : Arrival). HasLayout c.args.pool.now c.args.self.now.datagrams (key_in c.args.head)
     (arrived c.args.pool.now c.args.chain c.args.head.offset c.args.head.more) r c.insert_and_count-arrival.new.pool
     c.insert_and_count-arrival.new.table.items) c.in-Kept.is
-    ((before c).layout c.args.head.offset c.args.head.more c.insert_and_count-arrival.result
+    (s.layout c.args.head.offset c.args.head.more c.insert_and_count-arrival.result
     c.insert_and_count-arrival.new.pool c.insert_and_count-arrival.new.table.items
     c.insert_and_count-arrival.ensures.layout)
 
 pub returns-in-Kept-clause-step : goal.returns-in-Kept-clause-step
 returns-in-Kept-clause-step c = λ rest held new acc goes.
-    (before c).step rest held new c.args.head.offset c.args.head.more acc
+    let s = there (goal.at.returns-in-Kept-clause-step c).After-insert_and_count-arg-3-1 in
+    s.step rest held new c.args.head.offset c.args.head.more acc
     (λ here most. c.insert_and_count-arrival.ensures.step rest held new here most
     (subst (λ (r : Arrival). GoesOn held c.insert_and_count-arrival.new.pool r
     (with_waiting c.insert_and_count-arrival.new.pool c.insert_and_count-arrival.new.table.items
     c.insert_and_count-arrival.new.counters rest) new) (sym c.in-Kept.is) goes))
 
 pub returns-in-Kept-clause-ready : goal.returns-in-Kept-clause-ready
-returns-in-Kept-clause-ready c = record {
-  table = c.insert_and_count-arrival.ensures.table;
-  fragments =
-      fragments_after c.args.pool.now c.insert_and_count-arrival.new.pool c.args.self.now.datagrams
-      c.insert_and_count-arrival.new.table.items (key_in c.args.head)
-      (arrived c.args.pool.now c.args.chain c.args.head.offset c.args.head.more) Kept
-      (returns-in-Kept-clause-layout c) c.requires.ready.table c.requires.ready.fragments
-      c.insert_and_count-arrival.ensures.table;
-  room = omega (arith, c.insert_and_count-arrival.ensures.moves.mbufs, (before c).room);
-  distinct =
-      distinct_after c.args.pool.now c.insert_and_count-arrival.new.pool c.args.self.now.datagrams
-      c.insert_and_count-arrival.new.table.items (key_in c.args.head)
-      (arrived c.args.pool.now c.args.chain c.args.head.offset c.args.head.more) Kept
-      (returns-in-Kept-clause-layout c) c.requires.ready.distinct;
-}
+returns-in-Kept-clause-ready c =
+    let s = there (goal.at.returns-in-Kept-clause-ready c).After-insert_and_count-arg-3-1 in
+    record {
+      table = c.insert_and_count-arrival.ensures.table;
+      fragments =
+          fragments_after c.args.pool.now c.insert_and_count-arrival.new.pool c.args.self.now.datagrams
+          c.insert_and_count-arrival.new.table.items (key_in c.args.head)
+          (arrived c.args.pool.now c.args.chain c.args.head.offset c.args.head.more) Kept
+          (returns-in-Kept-clause-layout c) c.requires.ready.table c.requires.ready.fragments
+          c.insert_and_count-arrival.ensures.table;
+      room = omega (arith, c.insert_and_count-arrival.ensures.moves.mbufs, s.room);
+      distinct =
+          distinct_after c.args.pool.now c.insert_and_count-arrival.new.pool c.args.self.now.datagrams
+          c.insert_and_count-arrival.new.table.items (key_in c.args.head)
+          (arrived c.args.pool.now c.args.chain c.args.head.offset c.args.head.more) Kept
+          (returns-in-Kept-clause-layout c) c.requires.ready.distinct;
+    }
 
 pub returns-in-Kept-clause-moves : goal.returns-in-Kept-clause-moves
 returns-in-Kept-clause-moves c =
+    let s = there (goal.at.returns-in-Kept-clause-moves c).After-insert_and_count-arg-3-1 in
     subst (λ (r : Arrival). Moves c.args.pool.now (c.args.chain ∷ held_all c.args.pool.now c.args.self.now.datagrams)
     c.insert_and_count-arrival.new.pool
     (in_hand r ++ held_all c.insert_and_count-arrival.new.pool c.insert_and_count-arrival.new.table.items)) c.in-Kept.is
-    (moves_trans (before c).stays.moves c.insert_and_count-arrival.ensures.moves)
+    (moves_trans s.stays.moves c.insert_and_count-arrival.ensures.moves)
 
 pub invariant_of-self : goal.invariant_of-self
 invariant_of-self c =
+    let s = there (goal.at.invariant_of-self c).After-insert_and_count-arg-3-1 in
     let es = c.insert_and_count-arrival.new.table.items in
     let f = arrived c.place_of.new.pool c.args.chain c.args.head.offset c.args.head.more in (
       omega (arith, c.insert_and_count-arrival.ensures.len, c.self.invariant.0),
@@ -149,7 +146,7 @@ invariant_of-self c =
         rows =
             kept_followed c.self.inside.index.count c.in-Some.i f c.place_of.new.pool
             c.insert_and_count-arrival.new.pool c.self.inside.datagrams.items es c.self.inside.index.buckets
-            c.self.invariant.2.rows (before c).within
+            c.self.invariant.2.rows s.within
             (subst (λ (r : Arrival). LeavesAt c.in-Some.i f
             (queues c.place_of.new.pool c.self.inside.datagrams.items) c.insert_and_count-arrival.new.pool r
             (queues c.insert_and_count-arrival.new.pool es)) c.in-Kept.is c.insert_and_count-arrival.ensures.layout);
@@ -157,19 +154,10 @@ invariant_of-self c =
     )
 
 -- ---- it's whole, or dropped
-after : (c : goal.After-follow)
-    → Placed c.args.pool.now c.args.self.now c.args.counters.now (key_in c.args.head) c.args.chain c.in-Some.i
-    c.place_of.new.pool (record { datagrams = c.self.inside.datagrams.items; room = c.self.inside.index.room })
-    c.place_of.new.counters
-after c =
-    placed_in c.args.pool.now c.args.self.now c.args.counters.now (key_in c.args.head) c.key_of.result c.args.chain
-    c.in-Some.i c.requires.ready c.requires.owned c.requires.some c.place_of.new.pool c.place_of.new.self
-    (record { datagrams = c.self.inside.datagrams.items; room = c.self.inside.index.room })
-    c.place_of.new.counters c.place_of.result c.key_of.ensures c.self.view_is c.in-Some.is c.place_of.ensures
-
 inserted : goal.returns-clause-layout
 inserted c =
-    (after c).layout c.args.head.offset c.args.head.more c.insert_and_count-arrival.result
+    let s = there (goal.at.returns-clause-layout c).After-insert_and_count-arg-3-1 in
+    s.layout c.args.head.offset c.args.head.more c.insert_and_count-arrival.result
     c.insert_and_count-arrival.new.pool c.insert_and_count-arrival.new.table.items
     c.insert_and_count-arrival.ensures.layout
 
@@ -178,7 +166,8 @@ returns-clause-layout c = inserted c
 
 pub returns-clause-step : goal.returns-clause-step
 returns-clause-step c = λ rest held new acc goes.
-    (after c).step rest held new c.args.head.offset c.args.head.more acc
+    let s = there (goal.at.returns-clause-step c).After-insert_and_count-arg-3-1 in
+    s.step rest held new c.args.head.offset c.args.head.more acc
     (λ here most. c.insert_and_count-arrival.ensures.step rest held new here most goes)
 
 pub returns-clause-whole : goal.returns-clause-whole
@@ -186,33 +175,39 @@ returns-clause-whole c = c.insert_and_count-arrival.ensures.whole
 
 pub returns-clause-cause : goal.returns-clause-cause
 returns-clause-cause c =
-    (after c).cause c.args.head.offset c.args.head.more c.insert_and_count-arrival.result
+    let s = there (goal.at.returns-clause-cause c).After-insert_and_count-arg-3-1 in
+    s.cause c.args.head.offset c.args.head.more c.insert_and_count-arrival.result
     c.insert_and_count-arrival.new.pool c.insert_and_count-arrival.new.table.items
     c.insert_and_count-arrival.ensures.layout
     c.insert_and_count-arrival.ensures.cause
 
 pub returns-clause-ready : goal.returns-clause-ready
-returns-clause-ready c = record {
-  table = c.insert_and_count-arrival.ensures.table;
-  fragments =
-      fragments_after c.args.pool.now c.insert_and_count-arrival.new.pool c.args.self.now.datagrams
-      c.insert_and_count-arrival.new.table.items (key_in c.args.head)
-      (arrived c.args.pool.now c.args.chain c.args.head.offset c.args.head.more) c.insert_and_count-arrival.result
-      (inserted c) c.requires.ready.table c.requires.ready.fragments c.insert_and_count-arrival.ensures.table;
-  room =
-      omega (arith, c.insert_and_count-arrival.ensures.moves.mbufs, (after c).room, c.follow.ensures.room);
-  distinct =
-      distinct_after c.args.pool.now c.insert_and_count-arrival.new.pool c.args.self.now.datagrams
-      c.insert_and_count-arrival.new.table.items (key_in c.args.head)
-      (arrived c.args.pool.now c.args.chain c.args.head.offset c.args.head.more) c.insert_and_count-arrival.result
-      (inserted c) c.requires.ready.distinct;
-}
+returns-clause-ready c =
+    let s = there (goal.at.returns-clause-ready c).After-insert_and_count-arg-3-1 in
+    record {
+      table = c.insert_and_count-arrival.ensures.table;
+      fragments =
+          fragments_after c.args.pool.now c.insert_and_count-arrival.new.pool c.args.self.now.datagrams
+          c.insert_and_count-arrival.new.table.items (key_in c.args.head)
+          (arrived c.args.pool.now c.args.chain c.args.head.offset c.args.head.more) c.insert_and_count-arrival.result
+          (inserted c) c.requires.ready.table c.requires.ready.fragments c.insert_and_count-arrival.ensures.table;
+      room =
+          omega (arith, c.insert_and_count-arrival.ensures.moves.mbufs, s.room, c.follow.ensures.room);
+      distinct =
+          distinct_after c.args.pool.now c.insert_and_count-arrival.new.pool c.args.self.now.datagrams
+          c.insert_and_count-arrival.new.table.items (key_in c.args.head)
+          (arrived c.args.pool.now c.args.chain c.args.head.offset c.args.head.more) c.insert_and_count-arrival.result
+          (inserted c) c.requires.ready.distinct;
+    }
 
 pub returns-clause-moves : goal.returns-clause-moves
-returns-clause-moves c = moves_trans (after c).stays.moves c.insert_and_count-arrival.ensures.moves
+returns-clause-moves c =
+    let s = there (goal.at.returns-clause-moves c).After-insert_and_count-arg-3-1 in
+    moves_trans s.stays.moves c.insert_and_count-arrival.ensures.moves
 
 pub invariant_of-self-2 : goal.invariant_of-self-2
 invariant_of-self-2 c =
+    let s = there (goal.at.invariant_of-self-2 c).After-insert_and_count-arg-3-1 in
     let es = c.insert_and_count-arrival.new.table.items in
     let rest = ap (λ (ds : List Datagram). length ds) c.as_slice-rest.ensures.value in (
       omega (arith, c.insert_and_count-arrival.ensures.len, c.self.invariant.0),
@@ -223,7 +218,7 @@ invariant_of-self-2 c =
             followed c.self.inside.index.count c.in-Some.i
             (arrived c.place_of.new.pool c.args.chain c.args.head.offset c.args.head.more) c.place_of.new.pool
             c.insert_and_count-arrival.new.pool c.self.inside.datagrams.items es c.self.inside.index.buckets
-            c.follow.new.self.buckets c.insert_and_count-arrival.result c.self.invariant.2.rows (after c).within
+            c.follow.new.self.buckets c.insert_and_count-arrival.result c.self.invariant.2.rows s.within
             c.insert_and_count-arrival.ensures.layout
             (λ less. c.follow.ensures.fewer (omega (arith, less, rest)))
             (λ le. c.follow.ensures.same (omega (arith, le, rest)))

@@ -9,15 +9,21 @@ use Rattle.ip_reass.proofs.PlaceOf.{asks}
 use Rattle.ip_reass.proofs.Queues.{few_reserved}
 use Rattle.ip_reass.proofs.table.Reass.place_of.Goals as goal
 
-pub find-requires-clause-once : goal.find-requires-clause-once
-find-requires-clause-once c =
+pub find-requires : goal.find-requires
+find-requires c =
     let now = c.as_slice.ensures.value ∙ ap (λ (r : TableView). r.datagrams) c.self.view_is in
-    omega (
-      arith,
-      ap (λ (ds : List Datagram). count_by (has_key c.args.key) ds) now,
-      once_held c.args.pool.now c.args.key c.args.self.now.datagrams,
-      c.requires.ready.distinct c.args.key,
-    )
+    record {
+      some = c.self.invariant.2.some;
+      indexed =
+          c.self.invariant.2.rows ∙ ap (buckets_of c.self.inside.index.count) (sym c.as_slice.ensures.value);
+      once =
+          omega (
+            arith,
+            ap (λ (ds : List Datagram). count_by (has_key c.args.key) ds) now,
+            once_held c.args.pool.now c.args.key c.args.self.now.datagrams,
+            c.requires.ready.distinct c.args.key,
+          );
+    }
 
 pub returns-then-not-reserve : goal.returns-then-not-reserve
 returns-then-not-reserve c = (
