@@ -4,7 +4,7 @@ use Rattle.std.specs.Io.KnownBytes.{Appends}
 use Rattle.flat_model.specs.Scripts.Lines.{whole_lines, begun_line}
 use Rattle.script_loop.specs.Printed.{Prints}
 use Rattle.script_loop.specs.Serves.{GoesTooFar, StaysWithin}
-use Rattle.script_loop.specs.declared.serve.TheConstants.{LONGEST, MOST_LINES}
+use Rattle.script_loop.specs.declared.serve.TheConstants.{HELD, LONGEST, MOST_LINES}
 use Rattle.script_loop.specs.declared.fault.RunFault.{RunFault}
 use Rattle.script_loop.specs.declared.fault.RunFault.TheVariants.{Read, Write, Memory, TooManyLines, BadSizes, BadConfig}
 
@@ -25,6 +25,17 @@ budget count line = (MOST_LINES - count) * (LONGEST + 1) + (LONGEST + 1 - length
 abbrev pub EndsNoLine : List ℕ → Type 0
 EndsNoLine [] = Unit {0}
 EndsNoLine (byte ∷ bytes) = (byte ≢ 10) × EndsNoLine bytes
+
+-- the number of lines so far, and the line that is unfinished, are within the limits
+pub record FitsLimits (n : ℕ) (line : List ℕ) : Type 0 where
+  pub count : n ≤ MOST_LINES
+  pub short : length line ≤ LONGEST
+
+-- the piece may end the line, and there is space for its reply
+pub record CanTake (n : ℕ) (line held piece : List ℕ) : Type 0 where
+  pub within : FitsLimits n line
+  pub text : length held ≤ HELD
+  pub part : EndsNoLine piece
 
 -- Bytes that don't end a line are within the limits: none of them comes after the last line that is allowed, or makes
 -- the line too long.

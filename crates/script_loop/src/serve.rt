@@ -2,7 +2,7 @@
 ghost use Rattle.std.specs.Prelude.{◌≡◌, ◌↔◌, ◌≤◌, ◌<◌, ◌+◌, ◌^◌, ◌∷◌, [], ℕ, List, length, IsTrue, IfOk, IfSome, ◌++◌};
 ghost use Rattle.script_loop.specs.Streams.{MoreBy, Sends, reader_failures, writer_failures};
 ghost use Rattle.script_loop.specs.Serves.{Serves, IsServed};
-ghost use Rattle.script_loop.specs.Inside.{Answered, EndsNoLine, HasRoom, TakesPiece, TakesChunk, Flushes, budget};
+ghost use Rattle.script_loop.specs.Inside.{Answered, CanTake, FitsLimits, HasRoom, TakesPiece, TakesChunk, Flushes, budget};
 
 use crate::answers::Answers;
 use crate::buffer::Buffer;
@@ -94,15 +94,12 @@ fn take_end<const N: usize, A: Answers<N>>(
     count: u32,
     part: &[u8],
 ) -> Option<u32>
-    requires count { count ≤ MOST_LINES }
-    requires short { length line.old ≤ LONGEST }
-    requires text { length text.old ≤ HELD }
-    requires part { EndsNoLine part.now }
+    requires { CanTake count line.old text.old part.now }
     ensures taken { (begin : A.State) (seen printed : List ℕ)
         → Answered A.may_answer begin (A.state machine.old) seen line.old count printed
         → TakesPiece A.may_answer begin (A.state machine.new) seen (part.now ++ 10 ∷ []) printed
         text.old text.new line.new result }
-    ensures within { IfSome result (λ now. (now ≤ MOST_LINES) × (length line.new ≤ LONGEST)) }
+    ensures within { IfSome result (λ now. FitsLimits now line.new) }
     ensures fewer { IfSome result (λ now. budget now line.new + (length part.now + 1) ≤ budget count line.old) }
 {
     if count == MOST_LINES {
@@ -125,16 +122,13 @@ fn take_line<const N: usize, A: Answers<N>, W: Sink>(
     part: &[u8],
     writer: &mut W,
 ) -> Result<u32, RunFault>
-    requires count { count ≤ MOST_LINES }
-    requires short { length line.old ≤ LONGEST }
-    requires text { length text.old ≤ HELD }
-    requires part { EndsNoLine part.now }
+    requires { CanTake count line.old text.old part.now }
     ensures taken { (begin : A.State) (seen written : List ℕ)
         → Answered A.may_answer begin (A.state machine.old) seen line.old count (written ++ text.old)
         → TakesChunk A.may_answer begin (A.state machine.new) seen (part.now ++ 10 ∷ []) written
         (W.contents writer.old) (W.contents writer.new) text.new line.new result }
     ensures counted { MoreBy (writer_failures result) (W.failures writer.old) (W.failures writer.new) }
-    ensures within { IfOk result (λ now. (now ≤ MOST_LINES) × (length line.new ≤ LONGEST)) }
+    ensures within { IfOk result (λ now. FitsLimits now line.new) }
     ensures room { IfOk result (λ _. length text.new ≤ HELD) }
     ensures fewer { IfOk result (λ now. budget now line.new + (length part.now + 1) ≤ budget count line.old) }
 {
@@ -159,8 +153,7 @@ pub(crate) fn take_chunk<const N: usize, A: Answers<N>, W: Sink>(
     chunk: &[u8],
     writer: &mut W,
 ) -> Result<u32, RunFault>
-    requires count { count ≤ MOST_LINES }
-    requires short { length line.old ≤ LONGEST }
+    requires within { FitsLimits count line.old }
     requires text { text.old ≡ [] }
     ensures taken { (begin : A.State) (seen written : List ℕ)
         → Answered A.may_answer begin (A.state machine.old) seen line.old count written
@@ -168,7 +161,7 @@ pub(crate) fn take_chunk<const N: usize, A: Answers<N>, W: Sink>(
         (W.contents writer.old) (W.contents writer.new) [] line.new result }
     ensures counted { MoreBy (writer_failures result) (W.failures writer.old) (W.failures writer.new) }
     ensures empty { IfOk result (λ _. text.new ≡ []) }
-    ensures within { IfOk result (λ now. (now ≤ MOST_LINES) × (length line.new ≤ LONGEST)) }
+    ensures within { IfOk result (λ now. FitsLimits now line.new) }
     ensures fewer { IfOk result (λ now. budget now line.new + length chunk.now ≤ budget count line.old) }
 {
     let mut now = count;

@@ -8,8 +8,7 @@ use Rattle.script_loop.proofs.serve.serve_within.Goals as goal
 pub chunks-init : goal.chunks-init
 chunks-init g c = record {
   empty = c.requires.text;
-  within = omega arith;
-  short = rw c.requires.line (omega arith);
+  within = record { count = omega arith; short = rw c.requires.line (omega arith) };
   read = MoreBy-none _;
   wrote = MoreBy-none _;
   served = ([], [], Moves-none _ _, rw c.requires.line (Answered-start _ _));
@@ -28,8 +27,7 @@ chunks-preserved g c =
     let kept = c.chunks.invariant.served in
     let taken = c.in_ok-count-in-Ok.ensures.taken _ _ _ kept.3 in record {
       empty = c.in_ok-count-in-Ok.ensures.empty;
-      within = c.in_ok-count-in-Ok.ensures.within.0;
-      short = c.in_ok-count-in-Ok.ensures.within.1;
+      within = c.in_ok-count-in-Ok.ensures.within;
       read = MoreBy-then 0 0 0 _ _ _ (omega arith) c.chunks.invariant.read c.in-Ok.ensures.count;
       wrote = MoreBy-then 0 0 0 _ _ _ (omega arith) c.chunks.invariant.wrote c.in_ok-count-in-Ok.ensures.counted;
       served =

@@ -1,5 +1,5 @@
-use Rattle.std.proofs.Common.{◌≡◌, ℕ, ◌≤◌, List, [], length}
-use Rattle.script_loop.specs.Inside.{Answered, budget}
+use Rattle.std.proofs.Common.{◌≡◌, ℕ, List, []}
+use Rattle.script_loop.specs.Inside.{Answered, FitsLimits, budget}
 use Rattle.script_loop.specs.Serves.{ReadsAndWrites}
 use Rattle.script_loop.specs.Streams.{MoreBy}
 use Rattle.script_loop.proofs.serve.serve_within.Given as goal
@@ -7,8 +7,7 @@ use Rattle.script_loop.proofs.serve.serve_within.Given as goal
 abbrev pub invariant-chunks : goal.invariant-chunks
 invariant-chunks g l = record {
   empty : l.text ≡ [];
-  within : l.count ≤ 10000000;
-  short : length l.line ≤ 1048576;
+  within : FitsLimits l.count l.line;
   read : MoreBy 0 (g.R.Source.failures l.fn.reader) (g.R.Source.failures l.reader);
   wrote : MoreBy 0 (g.W.Sink.failures l.fn.writer) (g.W.Sink.failures l.writer);
   served : (seen : List ℕ) × (written : List ℕ)

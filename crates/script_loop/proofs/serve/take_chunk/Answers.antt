@@ -10,8 +10,7 @@ use Rattle.script_loop.proofs.serve.take_chunk.Goals as goal
 pub loop-at-init : goal.loop-at-init
 loop-at-init g c = record {
   room = rw c.requires.text (omega arith);
-  within = c.requires.count;
-  short = c.requires.short;
+  within = c.requires.within;
   fewer = omega arith;
   counted = MoreBy-none _;
   taken = (
@@ -27,13 +26,11 @@ take_line-requires g c =
     let kept = c.loop-at.invariant in
     let rest : List ℕ = c.loop-at.rest.now in (
       omega arith,
-      (
-        kept.within,
-        (
-          kept.short,
-          (kept.room, no_end-take rest c.in-Some.at (first-none rest c.in-Some.at c.in-Some.ensures.0.before)),
-        ),
-      ),
+      record {
+        within = kept.within;
+        text = kept.room;
+        part = no_end-take rest c.in-Some.at (first-none rest c.in-Some.at c.in-Some.ensures.0.before);
+      },
     )
 
 pub returns-in_err-now-clause-taken : goal.returns-in_err-now-clause-taken
@@ -63,8 +60,7 @@ loop-at-preserved g c =
     rw after (cut-at rest at c.in-Some.ensures.0.high c.in-Some.ensures.1) in
     record {
       room = c.in_ok-now.ensures.room;
-      within = c.in_ok-now.ensures.within.0;
-      short = c.in_ok-now.ensures.within.1;
+      within = c.in_ok-now.ensures.within;
       fewer =
           omega (
             arith,
@@ -120,7 +116,7 @@ returns-else-fits-clause-taken g c = λ begin seen written h.
     let rest : List ℕ = c.loop-at.rest.now in
     let none = no_end-all rest (first-none rest (length rest) c.in_default.ensures) in
     let broken =
-    Breaks-part _ begin _ _ _ _ _ rest [] kept.2 none c.loop-at.invariant.short
+    Breaks-part _ begin _ _ _ _ _ rest [] kept.2 none c.loop-at.invariant.within.short
     (λ room. false≢true (c.if-fits.ensures.room.1 room)) in
     Takes-broken g.A.Answers.may_answer begin _ seen taken.0 rest c.args.chunk.now c.loop-at.line c.loop-at.now written
     kept.0 c.loop-at.text [] c.take_part-fits.new.line _ _ _

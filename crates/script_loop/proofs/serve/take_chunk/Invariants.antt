@@ -1,14 +1,13 @@
 use Rattle.std.proofs.Common.{◌≡◌, ℕ, ◌≤◌, ◌+◌, List, ◌++◌, length}
 use Rattle.std.specs.Io.KnownBytes.{Appends}
 use Rattle.script_loop.specs.Streams.{MoreBy}
-use Rattle.script_loop.specs.Inside.{Answered, budget}
+use Rattle.script_loop.specs.Inside.{Answered, FitsLimits, budget}
 use Rattle.script_loop.proofs.serve.take_chunk.Given as goal
 
 abbrev pub invariant-loop-at : goal.invariant-loop-at
 invariant-loop-at g l = record {
   room : length l.text ≤ 65536;
-  within : l.now ≤ 10000000;
-  short : length l.line ≤ 1048576;
+  within : FitsLimits l.now l.line;
   fewer : budget l.now l.line + length l.chunk ≤ budget l.fn.count l.fn.line + length l.rest;
   counted : MoreBy 0 (g.W.Sink.failures l.fn.writer) (g.W.Sink.failures l.writer);
   taken : (front : List ℕ) × (l.chunk ≡ front ++ l.rest)

@@ -12,7 +12,7 @@ returns-then-count-eq-MOST_LINES-clause-taken g c = λ begin seen printed h.
 pub returns-then-not-take_part-clause-taken : goal.returns-then-not-take_part-clause-taken
 returns-then-not-take_part-clause-taken g c = λ begin seen printed h. (
   Breaks-part _ begin _ seen c.args.line.now c.args.count printed c.args.part.now (10 ∷ []) h c.requires.part
-      c.requires.short
+      c.requires.within.short
       (λ room. false≢true (c.if-not-take_part.ensures.room.1 room)),
   refl,
   h.printed,
