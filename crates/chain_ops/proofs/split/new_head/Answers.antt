@@ -1,11 +1,13 @@
 use Rattle.std.proofs.Common.{◌≡◌, ℕ, ◌-◌, ◌<◌, Bool, true, false, length, is_some, arith, ap, sym, refl, ◌∙◌}
 use Rattle.std.proofs.lemmas.Result.{IfOk-weaker}
 use Rattle.mbuf_chain.specs.declared.place.Segment.{Segment}
-use Rattle.mbuf_chain.specs.Chain.{Entry, alone, entry_in}
+use Rattle.mbuf_chain.specs.Chain.{Adds, ChainView, Entry, PoolView, alone, entry_in}
+use Rattle.chain_ops.specs.Makes.{Makes}
 use Rattle.chain_ops.specs.Splits.{rest_of}
 use Rattle.chain_ops.proofs.Laws.Makes.{makes_new, makes_as}
 use Rattle.chain_ops.proofs.Splits.{rest-empty, rest-shared, rest-copy, rest-end}
 use Rattle.chain_ops.proofs.split.new_head.Goals as goal
+use Rattle.chain_ops.proofs.split.new_head.Goals.{After-segment-segment}
 
 header_is : (h : Bool) (off len n : ℕ) → (h ≡ false → off < len) → n ≡ len - off → n ≡ 0 → h ≡ true
 header_is true off len n some is z = refl
@@ -15,47 +17,49 @@ cluster_is : (x : Segment) (start len : ℕ) (o : Rattle.std.proofs.Common.Optio
     → x ≡ record { start = start; len = len; cluster = o } → b ≡ is_some x.cluster → b ≡ t → is_some o ≡ t
 cluster_is x start len o b t is test now = ap (λ (y : Segment). is_some y.cluster) (sym is) ∙ sym test ∙ now
 
+-- the bytes of the mbuf that are left
+left : (c : After-segment-segment) → c.segment-segment.result.len - c.args.off
+    ≡ length (entry_in c.args.pool.now c.args.chain.now c.args.at).bytes - c.args.off
+left c = ap (λ (x : Segment). x.len - c.args.off) c.segment-segment.ensures.value
+
+-- a new chain is the one that is wanted, if it has these entries with the packet header that is asked for
+made : {p q : PoolView} {d : ℕ} {v : ChainView} (h b : Bool) (e : Entry) (off : ℕ) → h ≡ b → Adds p q d v
+    → v.front ≡ alone b → rest_of b e off ≡ v.entries → Makes p q d (alone h) (rest_of h e off)
+made {p} h b e off is a front entries =
+    makes_as p (alone h) (rest_of h e off) (makes_new a) refl (front ∙ ap alone (sym is))
+    (sym (ap (λ (x : Bool). rest_of x e off) is ∙ entries))
+
 pub returns-then-n-eq0-clause-ok : goal.returns-then-n-eq0-clause-ok
 returns-then-n-eq0-clause-ok c =
-    let e : Entry = entry_in c.args.pool.now c.args.chain.now c.args.at in
-    let is = ap (λ (x : Segment). x.len - c.args.off) c.segment-segment.ensures.value in
-    let h = header_is c.args.header c.args.off (length e.bytes) _ c.requires.some is c.if-n-eq0.true in
+    let is = left (goal.at.returns-then-n-eq0-clause-ok c).After-segment-segment in
     IfOk-weaker c.new_chain.result _ _
-    (λ d a. let m = makes_new a in makes_as c.args.pool.now (alone c.args.header) (rest_of c.args.header e c.args.off) m
-    refl (ap alone (sym h)) (sym (ap (λ (b : Bool). rest_of b e c.args.off) h
-    ∙ rest-empty e c.args.off _ is c.if-n-eq0.true)))
-    c.new_chain.ensures.ok
+    (λ d a. made c.args.header true _ c.args.off
+    (header_is c.args.header c.args.off _ _ c.requires.some is c.if-n-eq0.true) a refl
+    (rest-empty _ c.args.off _ is c.if-n-eq0.true)) c.new_chain.ensures.ok
 
 pub returns-then-is_some-clause-ok : goal.returns-then-is_some-clause-ok
 returns-then-is_some-clause-ok c =
-    let e : Entry = entry_in c.args.pool.now c.args.chain.now c.args.at in
-    let is = ap (λ (x : Segment). x.len - c.args.off) c.segment-segment.ensures.value in
-    let cl = cluster_is _ _ _ _ _ true c.segment-segment.ensures.value c.is_some.ensures c.if-is_some.true in
     IfOk-weaker c.new_shared.result _ _
-    (λ d a. let m = makes_new a in makes_as c.args.pool.now (alone c.args.header) (rest_of c.args.header e c.args.off) m
-    refl refl (sym (rest-shared e c.args.off _ is c.args.header (omega (arith, c.if-n-eq0.false)) cl)))
+    (λ d a. made c.args.header c.args.header _ c.args.off refl a refl
+    (rest-shared _ c.args.off _ (left (goal.at.returns-then-is_some-clause-ok c).After-segment-segment) c.args.header
+    (omega (arith, c.if-n-eq0.false))
+    (cluster_is _ _ _ _ _ true c.segment-segment.ensures.value c.is_some.ensures c.if-is_some.true)))
     c.new_shared.ensures.ok
 
 pub returns-then-not-header-clause-ok : goal.returns-then-not-header-clause-ok
 returns-then-not-header-clause-ok c =
-    let e : Entry = entry_in c.args.pool.now c.args.chain.now c.args.at in
-    let is = ap (λ (x : Segment). x.len - c.args.off) c.segment-segment.ensures.value in
-    let cl = cluster_is _ _ _ _ _ false c.segment-segment.ensures.value c.is_some.ensures c.if-is_some.false in
-    let h : c.args.header ≡ false = c.if-not-header.true in
     IfOk-weaker c.new_copy.result _ _
-    (λ d a. let m = makes_new a in makes_as c.args.pool.now (alone c.args.header) (rest_of c.args.header e c.args.off) m
-    refl (ap alone (sym h)) (sym (ap (λ (b : Bool). rest_of b e c.args.off) h
-    ∙ rest-copy e c.args.off _ is (omega (arith, c.if-n-eq0.false)) cl)))
+    (λ d a. made c.args.header false _ c.args.off c.if-not-header.true a refl
+    (rest-copy _ c.args.off _ (left (goal.at.returns-then-not-header-clause-ok c).After-segment-segment)
+    (omega (arith, c.if-n-eq0.false))
+    (cluster_is _ _ _ _ _ false c.segment-segment.ensures.value c.is_some.ensures c.if-is_some.false)))
     c.new_copy.ensures.ok
 
 pub returns-then-n-le-MHLEN-clause-ok : goal.returns-then-n-le-MHLEN-clause-ok
 returns-then-n-le-MHLEN-clause-ok c =
-    let e : Entry = entry_in c.args.pool.now c.args.chain.now c.args.at in
-    let is = ap (λ (x : Segment). x.len - c.args.off) c.segment-segment.ensures.value in
-    let cl = cluster_is _ _ _ _ _ false c.segment-segment.ensures.value c.is_some.ensures c.if-is_some.false in
-    let h : c.args.header ≡ true = c.if-not-header.false in
     IfOk-weaker c.new_end.result _ _
-    (λ d a. let m = makes_new a in makes_as c.args.pool.now (alone c.args.header) (rest_of c.args.header e c.args.off) m
-    refl (ap alone (sym h)) (sym (ap (λ (b : Bool). rest_of b e c.args.off) h
-    ∙ rest-end e c.args.off _ is (omega (arith, c.if-n-eq0.false)) cl c.if-n-le-MHLEN.true)))
-    c.new_end.ensures.ok
+    (λ d a. made c.args.header true _ c.args.off c.if-not-header.false a refl
+    (rest-end _ c.args.off _ (left (goal.at.returns-then-n-le-MHLEN-clause-ok c).After-segment-segment)
+    (omega (arith, c.if-n-eq0.false))
+    (cluster_is _ _ _ _ _ false c.segment-segment.ensures.value c.is_some.ensures c.if-is_some.false)
+    c.if-n-le-MHLEN.true)) c.new_end.ensures.ok
