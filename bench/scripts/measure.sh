@@ -30,7 +30,7 @@ resident() { # WORK LINES
     mkfifo "$1/lines"
     "$program" run < "$1/lines" > /dev/null &
     exec 9> "$1/lines"
-    repeated $(($2 / 2)) "$rx" "recvfrom 3 9216" >&9
+    repeated $((($2 - 2) / 2)) "$rx" "recvfrom 3 9216" >&9
     sleep 1
     awk '/^VmHWM/ {print $2}' "/proc/$!/status"
     exec 9>&-
