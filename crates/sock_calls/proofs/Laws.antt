@@ -10,6 +10,8 @@ pub use Rattle.sock_calls.proofs.Weights.{queue_weight, socks_weigh}
 pub use Rattle.sock_calls.proofs.Arriving.{placed_weight}
 -- A chain that loses bytes at an end weighs what it weighed.
 pub use Rattle.sock_calls.proofs.Storing.{only_weighs, without_weighs}
+-- A packet of 101 to 207 bytes takes two mbufs.
+pub use Rattle.sock_calls.proofs.TwoMbufs.{two_plain, two_weigh}
 -- A packet whose datagram has a fault is dropped.
 pub use Rattle.sock_calls.proofs.Whole.{refused}
 -- Two counts of a cluster in a list agree; a cluster without references is free.

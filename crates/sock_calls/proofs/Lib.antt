@@ -16,5 +16,6 @@ mod Going
 mod Whole
 mod Storing
 mod OnePacket
+mod TwoMbufs
 mod Tested
 mod Asked

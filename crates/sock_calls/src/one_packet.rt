@@ -11,7 +11,7 @@ use mbuf_chain::{Chain, Pool};
 use params::{CLUSTER_LEADING_SPACE, IP_UDP_HEADERS, MCLBYTES, MHLEN, MINCLSIZE, MSIZE};
 
 /// The largest number of bytes after their headers in one mbuf.
-const MOST_IN_MBUF: usize = (MHLEN - IP_UDP_HEADERS) as usize;
+pub(crate) const MOST_IN_MBUF: usize = (MHLEN - IP_UDP_HEADERS) as usize;
 
 /// The largest number of bytes in one cluster.
 const MOST_IN_CLUSTER: usize = (MCLBYTES - CLUSTER_LEADING_SPACE) as usize;

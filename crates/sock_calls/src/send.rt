@@ -86,7 +86,7 @@ impl Parts {
     /// true. Returns false for any other send; nothing changes then, and the caller uses `send_any`. All tests come
     /// before anything is allocated.
     #[inline(always)]
-    fn send_one(
+    pub(crate) fn send_one(
         &self,
         pool: &mut Pool,
         net: &mut Net,
@@ -131,27 +131,7 @@ impl Parts {
         true
     }
 
-    /// See `Socks::sendto`. The receive queues don't change.
-    #[inline(always)]
-    pub(crate) fn send(
-        &mut self,
-        pool: &mut Pool,
-        net: &mut Net,
-        fd: u32,
-        to: Option<Addr>,
-        bytes: &[u8],
-    ) -> Result<usize, Errno>
-        requires { CanSend (sending pool.old (socks_of self.old) net.old) }
-        ensures { IsSent fd to bytes.now (sending pool.old (socks_of self.old) net.old) result
-            (sending pool.new (socks_of self.new) net.new) }
-    {
-        if self.send_one(pool, net, fd, to, bytes) {
-            return Ok(bytes.len());
-        }
-        self.send_any(pool, net, fd, to, bytes)
-    }
-
-    /// The general path, for any send.
+    /// The general path, for any send: see `Socks::sendto`. The receive queues don't change.
     #[inline(never)]
     pub(crate) fn send_any(
         &mut self,

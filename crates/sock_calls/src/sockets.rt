@@ -230,10 +230,14 @@ impl Socks {
         ensures { IsSent fd to bytes.now (sending pool.old self.old net.old) result
             (sending pool.new self.new net.new) }
     {
-        self.parts.send(pool, net, fd, to, bytes)
+        if self.parts.send_one(pool, net, fd, to, bytes) {
+            return Ok(bytes.len());
+        }
+        self.resend(pool, net, fd, to, bytes)
     }
 
-    /// Repeats `sendto` after buffers were freed, by the general path only. So the short path is compiled once.
+    /// `sendto` by the general path only, for a send that is repeated after buffers were freed. It's a call of its own,
+    /// so that the short path of `sendto`, which is inlined, is compiled once.
     pub fn resend(
         &mut self,
         pool: &mut Pool,

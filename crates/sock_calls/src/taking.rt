@@ -1,19 +1,21 @@
 //! A datagram that arrives, from the lookup to the queue of a socket.
-ghost use Rattle.std.specs.Prelude.{◌≡◌, ◌+◌, ◌<◌, ◌≤◌, ◌∷◌, ◌++◌, length, true, false, if◌then◌else◌, ℕ};
+ghost use Rattle.std.specs.Prelude.{◌≡◌, ◌+◌, ◌<◌, ◌≤◌, [], ◌∷◌, ◌++◌, length, true, false, if◌then◌else◌, ℕ};
+ghost use Rattle.params.specs.declared.TheConstants.{MLEN};
 ghost use Rattle.flat_model.specs.Amounts.Layout.{wire};
 ghost use Rattle.mbuf_chain.specs.Chain.{chain_of, free_clusters, held_mbufs, string};
-ghost use Rattle.mbuf_chain.specs.Owners.{IsOwned};
+ghost use Rattle.mbuf_chain.specs.Owners.{IsOwned, Moves};
 ghost use Rattle.chain_ops.specs.Stored.{Has};
 ghost use Rattle.pcb_table.specs.Table.{IsDescriptor};
 ghost use Rattle.sockbuf.specs.SockBuf.{IsSockBuf};
 ghost use Rattle.udp.specs.Checked.{is_to_all};
 ghost use Rattle.sock_calls.specs.Sockets.{IsSocks, queue_at, queued_chains, from_three};
 ghost use Rattle.sock_calls.specs.Delivery.{net_view, IsInput};
-ghost use Rattle.sock_calls.specs.Inside.Storing.{IsDataStored, StoresAtEnd};
+ghost use Rattle.sock_calls.specs.Inside.Storing.{IsDataStored, StoresAtEnd, two_entries};
 ghost use Rattle.sock_calls.specs.Inside.Parts.{socks_of};
 ghost use Rattle.sock_calls.specs.Whole.{DeliversWhole, HasOne, TakesWhole};
 
 use crate::delivery::Datagram;
+use crate::one_packet::MOST_IN_MBUF;
 use crate::parts::Parts;
 use crate::queues::ReceiveQueues;
 use crate::sockets::{Socks, place_of};
@@ -24,9 +26,34 @@ use flat_model::{Addr, Counters, Why};
 use ip_out::IpHead;
 use ledger::Waiting;
 use mbuf_chain::{Chain, Pool};
-use params::{IP_MAX_PACKET, IP_UDP_HEADERS, MCLBYTES, MHLEN, PACKET_START};
+use params::{
+    IP_MAX_PACKET, IP_UDP_HEADERS, MBUF_HEADER, MCLBYTES, MHLEN, MINCLSIZE, PACKET_START,
+};
 use pcb_table::SOCKETS;
 use udp::{Checked, Outcome, is_broadcast, matching_sockets, no_port};
+
+/// Copies bytes into a new chain of two plain mbufs: the first 72 into the mbuf that would also have the headers, as
+/// `from_wire` does. The mbufs must be free.
+#[inline(always)]
+fn store_in_two(pool: &mut Pool, bytes: &[u8]) -> Chain
+    requires many { MOST_IN_MBUF < length bytes.now }
+    requires most { length bytes.now ≤ MOST_IN_MBUF + MLEN }
+    requires free { held_mbufs pool.old + 2 ≤ pool.old.mbufs }
+    ensures entries { (chain_of pool.new result).entries ≡ two_entries bytes.now }
+    ensures moves { Moves pool.old [] pool.new (result ∷ []) }
+{
+    let rest = &bytes[MOST_IN_MBUF..];
+    let Ok(back) = pool.new_plain_with(false, MBUF_HEADER, rest) else {
+        unreachable!()
+    };
+    let front = &bytes[..MOST_IN_MBUF];
+    pool.new_plain_before(
+        PACKET_START + IP_UDP_HEADERS,
+        front,
+        back,
+        rest.len() as u32,
+    )
+}
 
 /// Copies the data of a packet of at most 65,535 bytes into a new chain, laid out as if the whole packet had been
 /// stored and its headers cut off. The buffers for the packet must be free.
@@ -35,6 +62,9 @@ fn store_data(pool: &mut Pool, packet: &Checked<'_>) -> Chain
     requires free { Has pool.old (wire (length packet.now.packet.now)) }
     ensures { IsDataStored pool.old packet.now.packet.now packet.now.end pool.new result }
 {
+    if packet.end > MHLEN && packet.packet.len() < MINCLSIZE as usize {
+        return store_in_two(pool, packet.data());
+    }
     stored_layout();
     let Ok(chain) = from_wire(pool, packet.packet) else {
         unreachable!()

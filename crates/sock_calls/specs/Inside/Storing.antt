@@ -1,9 +1,9 @@
 -- The data of a packet from the wire, in a new chain (this project's own).
-use Rattle.std.specs.Prelude.{◌≡◌, ℕ, ◌+◌, if◌then◌else◌, Bool, true, false, List, [], ◌∷◌, ◌++◌, length, take, drop, count_by, Option, Result, Ok, Err}
-use Rattle.params.specs.declared.TheConstants.{IP_UDP_HEADERS, PACKET_START}
+use Rattle.std.specs.Prelude.{◌≡◌, ℕ, ◌+◌, if◌then◌else◌, Bool, true, false, List, [], ◌∷◌, ◌++◌, length, take, drop, count_by, Option, None, Result, Ok, Err}
+use Rattle.params.specs.declared.TheConstants.{IP_UDP_HEADERS, MBUF_HEADER, PACKET_START}
 use Rattle.flat_model.specs.Amounts.Layout.{is_cluster, entries_on, weight_of, wire}
 use Rattle.flat_model.specs.Amounts.Weight.{Item}
-use Rattle.mbuf_chain.specs.Chain.{PoolView}
+use Rattle.mbuf_chain.specs.Chain.{Entry, PoolView}
 use Rattle.mbuf_chain.specs.Owners.{Moves}
 use Rattle.mbuf_chain.specs.Train.{queued_packets}
 use Rattle.chain_ops.specs.Stored.{AreFree}
@@ -14,6 +14,7 @@ use Rattle.flat_model.specs.declared.counters.Why.TheVariants.{UdpFullSocket}
 use Rattle.ledger.specs.Accounts.{item_at}
 use Rattle.sockbuf.specs.SockBuf.{SockBufView}
 use Rattle.sockbuf.specs.Stored.{IsTaken, stored_datagram, stored_packet}
+use Rattle.sock_calls.specs.declared.one_packet.TheConstants.{MOST_IN_MBUF}
 use Rattle.sock_calls.specs.Sockets.{StepsAt, queue_at, queues_of}
 
 -- the data of a packet up to `end`, in the mbufs of the whole packet
@@ -31,6 +32,12 @@ pub record IsDataStored (p : PoolView) (packet : List ℕ) (end : ℕ) (q : Pool
   pub number : length clusters ≡ count_by is_cluster (wire (length packet))
   pub item : item_at q c ≡ data_of packet end clusters
   pub moves : Moves p [] q (c ∷ [])
+
+-- the data of a packet that `from_wire` puts into two mbufs, without their headers
+abbrev pub two_entries : List ℕ → List Entry
+two_entries bytes =
+    record { bytes = take MOST_IN_MBUF bytes; start = PACKET_START + IP_UDP_HEADERS; cluster = None }
+    ∷ record { bytes = drop MOST_IN_MBUF bytes; start = MBUF_HEADER; cluster = None } ∷ []
 
 -- where the data of a packet begin that `from_wire` puts into one mbuf or cluster
 abbrev pub data_start : Bool → ℕ

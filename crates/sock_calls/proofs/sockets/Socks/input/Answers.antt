@@ -8,7 +8,19 @@ use Rattle.sock_calls.specs.Inside.Parts.{socks_of}
 use Rattle.sock_calls.proofs.Delivered.{freed}
 use Rattle.sock_calls.proofs.Arriving.{Reached, all_open, reached_in, delivered_to, dropped_to}
 use Rattle.sock_calls.proofs.sockets.Socks.input.Goals as goal
-use Rattle.sock_calls.proofs.sockets.Socks.input.Goals.{In-Deliver}
+use Rattle.sock_calls.proofs.sockets.Socks.input.Goals.{After-input, In-Deliver}
+
+-- the sockets before, in the form of their parts
+ready : (g : _) (c : After-input g) → IsSocks c.args.pool.now (socks_of c.self.inside.parts)
+ready g c = subst (IsSocks c.args.pool.now) (sym c.self.view_is) c.requires.ready
+
+owned : (g : _) (c : After-input g)
+    → IsOwned c.args.pool.now (c.args.chain ∷ (g.R.Reclaim.owned c.args.pool.now c.args.waiting.now
+    ++ queued_chains c.args.pool.now (socks_of c.self.inside.parts).queues))
+owned g c =
+    subst (λ (v : SocksView). IsOwned c.args.pool.now (c.args.chain
+    ∷ (g.R.Reclaim.owned c.args.pool.now c.args.waiting.now ++ queued_chains c.args.pool.now v.queues)))
+    (sym c.self.view_is) c.requires.owned
 
 -- the datagram's chain, and what the sockets keep beside it
 there : (g : _) (c : In-Deliver g)
@@ -61,11 +73,7 @@ returns-in-Deliver-clause-input g c =
     let q = c.input.new.pool in
     let w = c.args.waiting.now in
     let xs = g.R.Reclaim.owned p w in
-    let s : SocksView = socks_of c.self.inside.parts in
-    let socks : IsSocks p s = subst (IsSocks p) (sym c.self.view_is) c.requires.ready in
-    let owned : IsOwned p (c.args.chain ∷ (xs ++ queued_chains p s.queues)) =
-    subst (λ (v : SocksView). IsOwned p (c.args.chain ∷ (xs ++ queued_chains p v.queues))) (sym c.self.view_is)
-    c.requires.owned in
+    let at = (goal.at.returns-in-Deliver-clause-input g c).After-input in
     let x = there g (goal.at.returns-in-Deliver-clause-input g c).In-Deliver in
     let r = c.deliver_all.new.pool in
     subst (λ (v : SocksView). IsInput
@@ -74,7 +82,7 @@ returns-in-Deliver-clause-input g c =
     (net_view r (socks_of c.deliver_all.new.self) (g.R.Waiting.unfinished r c.deliver_all.new.waiting)
     (g.R.Reclaim.owned r c.deliver_all.new.waiting) c.deliver_all.new.counters))
     c.self.view_is
-    (delivered_to {h = c.args.head} socks owned c.in-Deliver.ensures.answer c.in-Deliver.ensures.moves
+    (delivered_to {h = c.args.head} (ready g at) (owned g at) c.in-Deliver.ensures.answer c.in-Deliver.ensures.moves
     (g.met.R.Waiting.unfinished_same p q w x.same) (g.met.R.Reclaim.owned_same p q w x.same)
     c.input.ensures.blocks c.as_slice-matching.ensures.value c.deliver_all.ensures.delivered)
 
@@ -84,18 +92,14 @@ returns-in-Drop-clause-input g c =
     let q = c.input.new.pool in
     let w = c.args.waiting.now in
     let xs = g.R.Reclaim.owned p w in
-    let s : SocksView = socks_of c.self.inside.parts in
-    let socks : IsSocks p s = subst (IsSocks p) (sym c.self.view_is) c.requires.ready in
-    let owned : IsOwned p (c.args.chain ∷ (xs ++ queued_chains p s.queues)) =
-    subst (λ (v : SocksView). IsOwned p (c.args.chain ∷ (xs ++ queued_chains p v.queues))) (sym c.self.view_is)
-    c.requires.owned in
+    let at = (goal.at.returns-in-Drop-clause-input g c).After-input in
     subst (λ (v : SocksView). IsInput
     (net_view p v (g.R.Waiting.unfinished p w) xs c.args.counters.now) c.args.chain c.args.head.src c.args.head.dst
     c.args.head.proto
     (net_view q (record { pcbs = c.input.new.pcbs; queues = from_three c.self.inside.parts.queues })
     (g.R.Waiting.unfinished q w) (g.R.Reclaim.owned q w) c.count_ended.new.self))
     c.self.view_is
-    (dropped_to {h = c.args.head} c.in-Drop.why socks owned c.in-Drop.ensures.answer.1
+    (dropped_to {h = c.args.head} c.in-Drop.why (ready g at) (owned g at) c.in-Drop.ensures.answer.1
     (λ s. g.met.R.Waiting.unfinished_same p q w s) (λ s. g.met.R.Reclaim.owned_same p q w s) c.input.ensures.blocks
     c.count_ended.ensures)
 
@@ -105,10 +109,6 @@ returns-in-Drop-clause-waits g c =
     let q = c.input.new.pool in
     let w = c.args.waiting.now in
     let xs = g.R.Reclaim.owned p w in
-    let s : SocksView = socks_of c.self.inside.parts in
-    let socks : IsSocks p s = subst (IsSocks p) (sym c.self.view_is) c.requires.ready in
-    let owned : IsOwned p (c.args.chain ∷ (xs ++ queued_chains p s.queues)) =
-    subst (λ (v : SocksView). IsOwned p (c.args.chain ∷ (xs ++ queued_chains p v.queues))) (sym c.self.view_is)
-    c.requires.owned in
-    let gone = freed p q c.args.chain xs _ owned socks c.in-Drop.ensures.answer.1.freed in
+    let at = (goal.at.returns-in-Drop-clause-waits g c).After-input in
+    let gone = freed p q c.args.chain xs _ (owned g at) (ready g at) c.in-Drop.ensures.answer.1.freed in
     g.met.R.Reclaim.ready_same p q w gone.same c.requires.waits
