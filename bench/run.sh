@@ -6,6 +6,7 @@ source "$(dirname "$0")/../tools/script.bash"
 words "[SUBJECT ..]" "$@"
 . "$(dirname "$0")/lib.sh"
 
+[[ "${TRIAL:-0}" == 0 ]] || echo "TRIAL is set: an unproved library takes more instructions and less code"
 work="$(mktemp -d)"
 trap 'rm -rf "$work"' EXIT
 
