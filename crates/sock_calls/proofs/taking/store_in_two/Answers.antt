@@ -1,8 +1,8 @@
 use Rattle.std.proofs.Common.{sym, ap, arith}
 use Rattle.std.proofs.lemmas.List.{length-take, take_rest}
-use Rattle.mbuf_chain.specs.Chain.{PoolView}
+use Rattle.mbuf_chain.specs.Chain.{ChainView, PoolView}
 use Rattle.mbuf_chain.proofs.Laws.Accounts.{held-adds}
-use Rattle.mbuf_chain.proofs.Laws.Owners.{live_adds}
+use Rattle.mbuf_chain.proofs.Laws.Owners.{live_adds, shown_adds}
 use Rattle.chain_ops.proofs.Laws.Steps.{string_one}
 use Rattle.sock_calls.proofs.TwoMbufs.{two_made}
 use Rattle.sock_calls.proofs.taking.store_in_two.Goals as goal
@@ -24,6 +24,9 @@ new_plain_before-requires-clause-free c =
 
 pub new_plain_before-requires-clause-back : goal.new_plain_before-requires-clause-back
 new_plain_before-requires-clause-back c = live_adds c.in-Ok.ensures.ok
+
+pub new_plain_before-requires-clause-bare : goal.new_plain_before-requires-clause-bare
+new_plain_before-requires-clause-bare c = ap (λ (v : ChainView). v.front) (shown_adds c.in-Ok.ensures.ok)
 
 pub new_plain_before-requires-clause-len : goal.new_plain_before-requires-clause-len
 new_plain_before-requires-clause-len c = sym (string_one _ _ _ _ _ c.in-Ok.ensures.ok)
