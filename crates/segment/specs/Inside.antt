@@ -1,15 +1,13 @@
 -- What the fields say is under way (this project's own).
-use Rattle.std.specs.Prelude.{ℕ, List, ◌++◌, map, take, vec_capacity, Option}
+use Rattle.std.specs.Prelude.{◌≡◌, ℕ, List, ◌++◌, map, take, vec_capacity, Option}
 use Rattle.std.specs.Borrow.{LendsIf, MutBor, Fml}
 use Rattle.std.specs.Vec.{with_item}
 use Rattle.ether_host.specs.Inside.{link_seen}
 use Rattle.net_stack.specs.Stack.{StackView}
 use Rattle.net_stack.specs.contracts.stack.Stack.{the_row as stack_row}
 use Rattle.segment.specs.contracts.segment.Segment.{the_row}
-use Rattle.rand_pcg.specs.Lcg.{Lcg}
 use Rattle.segment.specs.Chances.{entering}
 use Rattle.segment.specs.Tallies.{tallied}
-use Rattle.segment.specs.declared.tally.Tally.{Tally}
 use Rattle.segment.specs.declared.chances.Impairment.{Impairment}
 use Rattle.segment.specs.Flying.{Flying}
 use Rattle.segment.specs.Segment.{SegmentView}
@@ -25,15 +23,17 @@ flying f = record { sender = f.sender; packet = take f.len f.room; wait = f.wait
 abbrev pub under_way : Flight → List Flying
 under_way f = map flying f.frames.items
 
--- the packets under way after these were added, up to the capacity; the generator and the counts afterwards
-abbrev pub sent_after : Flight → Impairment → List Flying → List Flying
-sent_after f i fs = take (vec_capacity f.frames) (under_way f ++ (entering i.chances.items fs i.random).0)
+-- what is under way, the generator and the counts before and after these packets were sent; the chances are the same
+pub record Enters (room room' : ℕ) (first last : List Flying) (i i' : Impairment) (sent : List Flying) : Type 0 where
+  pub taken : last ≡ take room (first ++ (entering i.chances.items sent i.random).0)
+  pub random : i'.random ≡ (entering i.chances.items sent i.random).1
+  pub tallies : i'.tallies.items ≡ tallied i.chances.items sent i.random i.tallies.items
+  pub chances : i'.chances ≡ i.chances
+  pub same_room : room' ≡ room
 
-abbrev pub random_after : Impairment → List Flying → Lcg
-random_after i fs = (entering i.chances.items fs i.random).1
-
-abbrev pub tallies_after : Impairment → List Flying → List Tally
-tallies_after i fs = tallied i.chances.items fs i.random i.tallies.items
+abbrev pub AreSentBy : Flight → Impairment → List Flying → Flight → Impairment → Type 0
+AreSentBy f i sent f' i' =
+    Enters (vec_capacity f.frames) (vec_capacity f'.frames) (under_way f) (under_way f') i i' sent
 
 -- what a segment shows
 abbrev pub view : Segment → SegmentView

@@ -1,10 +1,10 @@
 //! Packets that wait in the output queues are carried.
-ghost use Rattle.std.specs.Prelude.{◌≡◌, ◌-◌, length, map, slice_get, vec_capacity};
+ghost use Rattle.std.specs.Prelude.{◌≡◌, ◌-◌, length, map, slice_get};
 ghost use Rattle.std.specs.List.{list_all};
 ghost use Rattle.net_stack.specs.Runs.{AreCalls};
 ghost use Rattle.segment.specs.Flying.{comes, transmits_of, waiting};
 ghost use Rattle.segment.specs.Segment.{AreCarried, AtEach, IsCarried, IsCollected, HasComeDue, given_below, is_quiet_segment, is_silent, received_in};
-ghost use Rattle.segment.specs.Inside.{sent_after, flying, random_after, tallies_after, under_way, view};
+ghost use Rattle.segment.specs.Inside.{AreSentBy, flying, view};
 
 use crate::chances::Impairment;
 use crate::flight::Flight;
@@ -38,14 +38,8 @@ fn collect_all<W: Watch>(
     watch: &mut W,
 )
     ensures hosts { AtEach (λ place s t. AreCalls s (transmits_of (waiting s)) t) stacks.old.items stacks.new.items }
-    ensures taken { under_way flight.new
-        ≡ sent_after flight.old impairment.old (given_below stacks.old.items (length stacks.old.items)) }
-    ensures random { impairment.new.random
-        ≡ random_after impairment.old (given_below stacks.old.items (length stacks.old.items)) }
-    ensures tallies { impairment.new.tallies.items
-        ≡ tallies_after impairment.old (given_below stacks.old.items (length stacks.old.items)) }
-    ensures chances { impairment.new.chances ≡ impairment.old.chances }
-    ensures room { vec_capacity flight.new.frames ≡ vec_capacity flight.old.frames }
+    ensures sent { AreSentBy flight.old impairment.old (given_below stacks.old.items (length stacks.old.items))
+        flight.new impairment.new }
 {
     for place in 0..stacks.len() {
         take_all(flight, impairment, place, &mut stacks[place], watch);

@@ -1,5 +1,5 @@
 //! Hosts on an Ethernet: their links send frames, and frames arrive at them.
-ghost use Rattle.std.specs.Prelude.{◌≡◌, ◌≤◌, ◌∷◌, [], if◌then◌else◌, take, drop, Some, None, map, slice_get, vec_capacity, length};
+ghost use Rattle.std.specs.Prelude.{◌≡◌, ◌≤◌, ◌∷◌, [], if◌then◌else◌, take, drop, Some, None, map, slice_get, length};
 ghost use Rattle.params.specs.declared.TheConstants.{MAX_MTU};
 ghost use Rattle.ether_host.specs.Inside.{link_seen};
 ghost use Rattle.ether_host.specs.View.{halves};
@@ -8,7 +8,7 @@ ghost use Rattle.segment.specs.Frames.{AreFramesCollected, AreFramesDelivered, R
 ghost use Rattle.segment.specs.Segment.{AtEach};
 ghost use Rattle.segment.specs.declared.segment.TheConstants.{MAX_HOSTS};
 ghost use Rattle.segment.specs.Tallies.{with_received};
-ghost use Rattle.segment.specs.Inside.{sent_after, flying, random_after, tallies_after, under_way, view};
+ghost use Rattle.segment.specs.Inside.{AreSentBy, flying, view};
 
 use crate::chances::Impairment;
 use crate::flight::Flight;
@@ -59,11 +59,7 @@ impl Frame {
 
 /// The frame in `hand` is sent by its fate. Beyond the capacity it's lost.
 fn send<W: Watch>(flight: &mut Flight, impairment: &mut Impairment, watch: &mut W)
-    ensures taken { under_way flight.new ≡ sent_after flight.old impairment.old (flying flight.old.hand ∷ []) }
-    ensures random { impairment.new.random ≡ random_after impairment.old (flying flight.old.hand ∷ []) }
-    ensures tallies { impairment.new.tallies.items ≡ tallies_after impairment.old (flying flight.old.hand ∷ []) }
-    ensures chances { impairment.new.chances ≡ impairment.old.chances }
-    ensures room { vec_capacity flight.new.frames ≡ vec_capacity flight.old.frames }
+    ensures { AreSentBy flight.old impairment.old (flying flight.old.hand ∷ []) flight.new impairment.new }
 {
     let fate = impairment.fate(flight.hand.sender);
     flight.enter(fate, watch);
@@ -80,14 +76,8 @@ fn take_frames<W: Watch>(
 )
     ensures host { halves stack.new (link_seen link.new)
         ≡ (frames_given FRAMES (halves stack.old (link_seen link.old))).1 }
-    ensures taken { under_way flight.new ≡ sent_after flight.old impairment.old
-        (sent_by sender (frames_given FRAMES (halves stack.old (link_seen link.old))).0) }
-    ensures random { impairment.new.random ≡ random_after impairment.old
-        (sent_by sender (frames_given FRAMES (halves stack.old (link_seen link.old))).0) }
-    ensures tallies { impairment.new.tallies.items ≡ tallies_after impairment.old
-        (sent_by sender (frames_given FRAMES (halves stack.old (link_seen link.old))).0) }
-    ensures chances { impairment.new.chances ≡ impairment.old.chances }
-    ensures room { vec_capacity flight.new.frames ≡ vec_capacity flight.old.frames }
+    ensures sent { AreSentBy flight.old impairment.old
+        (sent_by sender (frames_given FRAMES (halves stack.old (link_seen link.old))).0) flight.new impairment.new }
 {
     for _ in 0..FRAMES {
         if !flight.hand.give(sender, stack, link) {
@@ -108,14 +98,9 @@ fn collect_frames<W: Watch>(
     ensures hosts { AtEach (λ place h k. k ≡ (frames_given FRAMES h).1)
         (hosts_of stacks.old.items (map link_seen links.old.items))
         (hosts_of stacks.new.items (map link_seen links.new.items)) }
-    ensures taken { under_way flight.new ≡ sent_after flight.old impairment.old
-        (frames_below (hosts_of stacks.old.items (map link_seen links.old.items)) (length links.old.items)) }
-    ensures random { impairment.new.random ≡ random_after impairment.old
-        (frames_below (hosts_of stacks.old.items (map link_seen links.old.items)) (length links.old.items)) }
-    ensures tallies { impairment.new.tallies.items ≡ tallies_after impairment.old
-        (frames_below (hosts_of stacks.old.items (map link_seen links.old.items)) (length links.old.items)) }
-    ensures chances { impairment.new.chances ≡ impairment.old.chances }
-    ensures room { vec_capacity flight.new.frames ≡ vec_capacity flight.old.frames }
+    ensures sent { AreSentBy flight.old impairment.old
+        (frames_below (hosts_of stacks.old.items (map link_seen links.old.items)) (length links.old.items))
+        flight.new impairment.new }
     ensures links { length links.new.items ≡ length links.old.items }
     ensures others { drop (length (map link_seen links.old.items)) stacks.new.items
         ≡ drop (length (map link_seen links.old.items)) stacks.old.items }

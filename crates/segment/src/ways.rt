@@ -1,9 +1,9 @@
 //! The routes of packets: from a host to the wire, and from the wire to a host.
-ghost use Rattle.std.specs.Prelude.{◌≡◌, ◌<◌, ◌≤◌, ◌∷◌, [], drop, length, map, take, vec_capacity};
+ghost use Rattle.std.specs.Prelude.{◌≡◌, ◌<◌, ◌≤◌, ◌∷◌, [], drop, length, map, take};
 ghost use Rattle.params.specs.declared.TheConstants.{MAX_MTU};
 ghost use Rattle.net_stack.specs.Runs.{AreCalls};
 ghost use Rattle.segment.specs.Flying.{comes, transmits_of, received, sent_by, waiting};
-ghost use Rattle.segment.specs.Inside.{sent_after, flying, random_after, tallies_after, under_way};
+ghost use Rattle.segment.specs.Inside.{AreSentBy, flying};
 
 use crate::chances::Impairment;
 use crate::flight::Flight;
@@ -23,12 +23,7 @@ pub(crate) fn take_all<W: Watch>(
     watch: &mut W,
 )
     ensures calls { AreCalls stack.old (transmits_of (waiting stack.old)) stack.new }
-    ensures taken { under_way flight.new ≡ sent_after flight.old impairment.old (sent_by sender (waiting stack.old)) }
-    ensures random { impairment.new.random ≡ random_after impairment.old (sent_by sender (waiting stack.old)) }
-    ensures tallies { impairment.new.tallies.items
-        ≡ tallies_after impairment.old (sent_by sender (waiting stack.old)) }
-    ensures chances { impairment.new.chances ≡ impairment.old.chances }
-    ensures room { vec_capacity flight.new.frames ≡ vec_capacity flight.old.frames }
+    ensures sent { AreSentBy flight.old impairment.old (sent_by sender (waiting stack.old)) flight.new impairment.new }
 {
     for _ in 0..stack.output_len() {
         take_one(flight, impairment, sender, stack, watch);
@@ -46,13 +41,8 @@ fn take_one<W: Watch>(
     requires { 0 < length (waiting stack.old) }
     ensures calls { AreCalls stack.old (transmits_of (take 1 (waiting stack.old))) stack.new }
     ensures waits { waiting stack.new ≡ drop 1 (waiting stack.old) }
-    ensures taken { under_way flight.new
-        ≡ sent_after flight.old impairment.old (sent_by sender (take 1 (waiting stack.old))) }
-    ensures random { impairment.new.random ≡ random_after impairment.old (sent_by sender (take 1 (waiting stack.old))) }
-    ensures tallies { impairment.new.tallies.items
-        ≡ tallies_after impairment.old (sent_by sender (take 1 (waiting stack.old))) }
-    ensures chances { impairment.new.chances ≡ impairment.old.chances }
-    ensures room { vec_capacity flight.new.frames ≡ vec_capacity flight.old.frames }
+    ensures sent { AreSentBy flight.old impairment.old (sent_by sender (take 1 (waiting stack.old)))
+        flight.new impairment.new }
 {
     flight.hand.fill(sender, stack);
     let fate = impairment.fate(sender);

@@ -1,10 +1,8 @@
 use Rattle.std.proofs.Common.{◌≡◌, drop, length, map}
-use Rattle.std.specs.Prelude.{vec_capacity}
 use Rattle.ether_host.specs.Inside.{link_seen}
 use Rattle.segment.specs.Frames.{frames_below, frames_given, hosts_of}
-use Rattle.segment.specs.Inside.{under_way}
+use Rattle.segment.specs.Inside.{AreSentBy}
 use Rattle.segment.specs.declared.links.TheConstants.{FRAMES}
-use Rattle.segment.proofs.Entering.{Entered}
 use Rattle.segment.proofs.Walking.{IsWalked}
 use Rattle.segment.proofs.links.collect_frames.Given as goal
 
@@ -14,11 +12,8 @@ invariant-loop-place g l = record {
       (hosts_of l.fn.stacks.items (map link_seen l.fn.links.items))
       (hosts_of l.stacks.items (map link_seen l.links.items))
       l.place;
-  entered : Entered (vec_capacity l.fn.flight.frames) l.fn.impairment.chances.items (under_way l.fn.flight)
-      (under_way l.flight) l.fn.impairment.random l.impairment.random l.fn.impairment.tallies.items
-      l.impairment.tallies.items (frames_below (hosts_of l.fn.stacks.items (map link_seen l.fn.links.items)) l.place);
-  chances : l.impairment.chances ≡ l.fn.impairment.chances;
-  room : vec_capacity l.flight.frames ≡ vec_capacity l.fn.flight.frames;
+  sent : AreSentBy l.fn.flight l.fn.impairment
+      (frames_below (hosts_of l.fn.stacks.items (map link_seen l.fn.links.items)) l.place) l.flight l.impairment;
   links : length l.links.items ≡ length l.fn.links.items;
   others : drop (length (map link_seen l.fn.links.items)) l.stacks.items
       ≡ drop (length (map link_seen l.fn.links.items)) l.fn.stacks.items;

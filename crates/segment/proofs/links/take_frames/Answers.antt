@@ -1,4 +1,4 @@
-use Rattle.std.proofs.Common.{◌≡◌, ◌∙◌, ◌-◌, ◌+◌, [], ◌∷◌, ◌++◌, List, ℕ, Bool, Some, None, take, refl, sym, ap, arith}
+use Rattle.std.proofs.Common.{◌≡◌, ◌∙◌, ◌-◌, ◌+◌, [], ◌∷◌, ◌++◌, List, ℕ, Bool, Some, None, take, sym, ap, subst, arith}
 use Rattle.std.specs.Prelude.{if◌then◌else◌, vec_capacity}
 use Rattle.std.proofs.lemmas.List.{length-map, take_all}
 use Rattle.flat_ether.specs.Hosts.{Host}
@@ -6,9 +6,9 @@ use Rattle.ether_host.specs.Inside.{link_seen}
 use Rattle.ether_host.specs.View.{halves}
 use Rattle.segment.specs.Flying.{Flying, sent_by}
 use Rattle.segment.specs.Frames.{frames_given, gives_short}
-use Rattle.segment.specs.Inside.{sent_after, flying, random_after, tallies_after, under_way}
+use Rattle.segment.specs.Inside.{AreSentBy, flying, under_way}
 use Rattle.segment.specs.declared.links.TheConstants.{FRAMES}
-use Rattle.segment.proofs.Entering.{entered_more, none_entered}
+use Rattle.segment.proofs.Entering.{more_enter, none_enter}
 use Rattle.segment.proofs.Framing.{given_end, given_none, sent_one, so_far_end, so_far_more}
 use Rattle.segment.proofs.links.take_frames.Goals as goal
 
@@ -22,13 +22,10 @@ loop-init g c =
     record {
       given = [];
       so_far = ap (λ n. frames_given n h) (less FRAMES);
-      entered =
-          none_entered (vec_capacity flight.frames) c.args.impairment.now.chances.items (under_way flight)
-          c.args.impairment.now.random c.args.impairment.now.tallies.items
+      sent =
+          none_enter (vec_capacity flight.frames) (under_way flight) c.args.impairment.now
           (sym (take_all (vec_capacity flight.frames) (under_way flight)
           (omega (arith, flight.frames.ok, length-map flight.frames.items flying))));
-      chances = refl;
-      room = refl;
     }
 
 pub loop-preserved : goal.loop-preserved
@@ -49,24 +46,10 @@ loop-preserved g c =
       so_far =
           so_far_more FRAMES first (FRAMES - c.loop.counter) (FRAMES - (c.loop.counter + 1)) h k inv.given f inv.so_far
           (omega arith) step;
-      entered =
-          entered_more (vec_capacity c.args.flight.now.frames) (vec_capacity c.loop.flight.frames)
-          c.args.impairment.now.chances.items c.loop.impairment.chances.items
-          (under_way c.args.flight.now) (under_way c.loop.flight) (under_way c.send.new.flight)
-          c.args.impairment.now.random c.loop.impairment.random c.send.new.impairment.random
-          c.args.impairment.now.tallies.items c.loop.impairment.tallies.items
-          c.send.new.impairment.tallies.items
-          (sent_by c.args.sender inv.given) (flying hand ∷ []) _ inv.room
-          (ap (λ v. v.items) inv.chances) inv.entered
-          (record {
-            tallies = c.send.ensures.tallies;
-            taken = c.send.ensures.taken;
-            random = c.send.ensures.random;
-          })
+      sent =
+          more_enter inv.sent c.send.ensures
           (sent_one c.args.sender inv.given f
           ∙ ap (λ (x : Flying). sent_by c.args.sender inv.given ++ x ∷ []) (sym is));
-      chances = c.send.ensures.chances ∙ inv.chances;
-      room = c.send.ensures.room ∙ inv.room;
     }
 
 -- no frame is left
@@ -89,20 +72,10 @@ given_then g c = ap (λ (r : List (List ℕ) × Host). r.0) (sym (ended g c))
 pub returns-then-not-give-clause-host : goal.returns-then-not-give-clause-host
 returns-then-not-give-clause-host g c = ap (λ (r : List (List ℕ) × Host). r.1) (sym (ended g c))
 
-pub returns-then-not-give-clause-taken : goal.returns-then-not-give-clause-taken
-returns-then-not-give-clause-taken g c =
-    c.loop.invariant.entered.taken
-    ∙ ap (λ fs. sent_after c.args.flight.now c.args.impairment.now (sent_by c.args.sender fs)) (given_then g c)
-
-pub returns-then-not-give-clause-random : goal.returns-then-not-give-clause-random
-returns-then-not-give-clause-random g c =
-    c.loop.invariant.entered.random
-    ∙ ap (λ fs. random_after c.args.impairment.now (sent_by c.args.sender fs)) (given_then g c)
-
-pub returns-then-not-give-clause-tallies : goal.returns-then-not-give-clause-tallies
-returns-then-not-give-clause-tallies g c =
-    c.loop.invariant.entered.tallies
-    ∙ ap (λ fs. tallies_after c.args.impairment.now (sent_by c.args.sender fs)) (given_then g c)
+pub returns-then-not-give-clause-sent : goal.returns-then-not-give-clause-sent
+returns-then-not-give-clause-sent g c =
+    subst (λ fs. AreSentBy c.args.flight.now c.args.impairment.now (sent_by c.args.sender fs) c.loop.flight
+    c.loop.impairment) (given_then g c) c.loop.invariant.sent
 
 -- the maximum number of frames was taken
 full : (g : _) (c : goal.After-loop g) → frames_given FRAMES (halves c.args.stack.now (link_seen c.args.link.now))
@@ -119,17 +92,7 @@ given_all g c = ap (λ (r : List (List ℕ) × Host). r.0) (sym (full g c))
 pub returns-clause-host : goal.returns-clause-host
 returns-clause-host g c = ap (λ (r : List (List ℕ) × Host). r.1) (sym (full g c))
 
-pub returns-clause-taken : goal.returns-clause-taken
-returns-clause-taken g c =
-    c.loop.invariant.entered.taken
-    ∙ ap (λ fs. sent_after c.args.flight.now c.args.impairment.now (sent_by c.args.sender fs)) (given_all g c)
-
-pub returns-clause-random : goal.returns-clause-random
-returns-clause-random g c =
-    c.loop.invariant.entered.random
-    ∙ ap (λ fs. random_after c.args.impairment.now (sent_by c.args.sender fs)) (given_all g c)
-
-pub returns-clause-tallies : goal.returns-clause-tallies
-returns-clause-tallies g c =
-    c.loop.invariant.entered.tallies
-    ∙ ap (λ fs. tallies_after c.args.impairment.now (sent_by c.args.sender fs)) (given_all g c)
+pub returns-clause-sent : goal.returns-clause-sent
+returns-clause-sent g c =
+    subst (λ fs. AreSentBy c.args.flight.now c.args.impairment.now (sent_by c.args.sender fs) c.loop.flight
+    c.loop.impairment) (given_all g c) c.loop.invariant.sent
