@@ -1,5 +1,5 @@
-"""portable/core replaces memmove by memcpy only where no copy can overlap: it refuses a core with a copy that it doesn't
-know."""
+"""portable/core replaces memmove by memcpy only where no copy can overlap, and leaves out the test whether it does. It
+refuses a core with a copy that it doesn't know."""
 import importlib.machinery
 import importlib.util
 
@@ -24,7 +24,9 @@ def function(name, *lines):
     return f'define internal void @"{name}"(ptr noundef %a0, ptr noundef %a1) #0 {{\n' + "\n".join(lines) + "\n}\n"
 
 
-COPIES = function(BITS, MOVE.format("%r7"))
+ADDRESSES = ["  %r1 = ptrtoaddr ptr %a1 to i64", "  %r2 = ptrtoaddr ptr %a0 to i64"]
+TEST = ["  %r3 = sub i64 %r1, %r2", "  %r4 = icmp ult i64 %r3, %r7"]
+COPIES = function(BITS, *ADDRESSES, *TEST, MOVE.format("%r7"))
 VALUE = function("udp::header::read_header", MOVE.format("24"))
 SLICES = function("core::slots::Slots::copy_in::<i8>", f'call void @"{BITS}"(ptr %a0, ptr %a1)')
 
@@ -32,6 +34,16 @@ SLICES = function("core::slots::Slots::copy_in::<i8>", f'call void @"{BITS}"(ptr
 def test_copies_of_values_and_between_borrows_are_memcpy(core):
     text = core.copied(COPIES + VALUE + SLICES)
     assert "memmove" not in text and text.count("call void @llvm.memcpy.") == 2
+
+
+def test_copies_between_borrows_arent_tested(core):
+    assert "%r4 = icmp ult i64 1, 0" in core.copied(COPIES + VALUE + SLICES)
+
+
+@pytest.mark.parametrize("body", [ADDRESSES, TEST, [*ADDRESSES, *TEST, *TEST]], ids=["no test", "other numbers", "two"])
+def test_another_test_of_overlapping_is_refused(core, body):
+    with pytest.raises(Stop, match="overlapping"):
+        core.copied(function(BITS, *body, MOVE.format("%r7")))
 
 
 @pytest.mark.parametrize(

@@ -33,6 +33,7 @@ class Host(NamedTuple):
 HOSTS = {
     "i686": Host("i686", [CC, "-m32"], needs=("cc -m32",)),
     "i686 sanitized": Host("i686", [CC, "-m32", *SANITIZED], options=("--sanitized",), needs=("cc -m32",)),
+    "i686 checked": Host("i686", [CC, "-m32"], options=("--checked",), needs=("cc -m32",)),
     "armv7": Host(
         "armv7", ["arm-linux-gnueabihf-gcc"], ["qemu-arm", "-L", "/usr/arm-linux-gnueabihf"],
         needs=("arm-linux-gnueabihf", "qemu-user"),
@@ -44,7 +45,8 @@ HOSTS = {
     ),
 }  # fmt: skip
 WRAPPED = ["-Wl,--wrap=malloc,--wrap=free"]  # memory.c has malloc and free of its own
-PROGRAMS = {"tests/calls": [], "tests/ether": [], "tests/memory": WRAPPED, "examples/wire": []}
+CALLS, WIDE = pathlib.Path("tests/calls"), TOP / "portable/tests/wide"
+PROGRAMS = {"tests/calls": [], "tests/ether": [], "tests/memory": WRAPPED, "examples/wire": [], WIDE: []}
 
 
 def hosts(*left_out):
@@ -79,7 +81,7 @@ def test_target_is_made(target, core_for):
 
 
 @hosts()
-@pytest.mark.parametrize("name", PROGRAMS)
+@pytest.mark.parametrize("name", PROGRAMS, ids=lambda it: pathlib.Path(it).name)
 def test_calls(name, host, builds, runs):
     runs(*builds(host, name, f"{name}.c", *PROGRAMS[name]))
 
@@ -131,13 +133,29 @@ def test_least_size(name, more, core_for, builds, runs):
     runs(*builds(host, "calls", *more, "tests/calls.c"))
 
 
-# ---- faults planted in tools/retarget.py: the text that is replaced, and its replacement -----------------------------
+# ---- faults planted in tools/retarget.py and tools/widths.py: the text that is replaced, and its replacement ---------
 
-PLANTED = [
-    ("place = -(-SIZES[first] // SIZES[second]) * SIZES[second]", "place = SIZES[first]"),
-    ('"ptr": 8}', '"ptr": 4}'),
-    ("= alloca i64, align", "= alloca i32, align"),
-]
+RETARGET, WIDTHS = "tools/retarget.py", "tools/widths.py"
+WIDE_FUNCTIONS = "set(filter(is_wide, bodies))"
+
+
+def without(pattern):
+    """Returns a fault in the list of wide functions: those of a pattern aren't in it."""
+    return WIDTHS, WIDE_FUNCTIONS, f"{{it for it in filter(is_wide, bodies) if not re.search({pattern!r}, it)}}"
+
+
+PLANTED = {
+    "a pair's second member": (
+        RETARGET, "place = -(-SIZES[first] // SIZES[second]) * SIZES[second]", "place = SIZES[first]",
+    ),
+    "an address's bytes": (RETARGET, '"ptr": 8}', '"ptr": 4}'),
+    "a number's memory": (RETARGET, "= alloca i64, align", "= alloca i32, align"),
+    "counters aren't wide": without("flat_model::counters"),
+    "tallies aren't wide": without("ether_host::layer::LinkLayer"),
+    "sums aren't wide": without("in_cksum"),
+    "the set of readable sockets isn't wide": without("readable"),
+    "two numbers in one aren't wide": without("put_data"),
+}  # fmt: skip
 
 
 def passes(*words):
@@ -156,8 +174,10 @@ def plays_examples(driver):
 
 
 @pytest.mark.needs("cc -m32")
-@pytest.mark.parametrize("old, new", PLANTED, ids=["a pair's second member", "an address's bytes", "a number's memory"])
-def test_planted_fault_is_seen(old, new, module, compiled, tmp_path):
+@pytest.mark.parametrize("fault", PLANTED)
+def test_planted_fault_is_seen(fault, module, compiled, tmp_path):
+    """The library with a fault, which stops at a number that is cut although it needs 64 bits."""
+    name, old, new = PLANTED[fault]
     module("libbsdudp")
     copy = tmp_path / "copy"
     copy.mkdir()
@@ -165,20 +185,22 @@ def test_planted_fault_is_seen(old, new, module, compiled, tmp_path):
         (copy / it).symlink_to(TOP / it)
     for it in ("portable", "tools"):
         shutil.copytree(TOP / it, copy / it, ignore=lambda at, _: {"core"} if at.endswith("portable/out") else set())
-    text = (copy / "tools/retarget.py").read_text(encoding="utf-8")
+    text = (copy / name).read_text(encoding="utf-8")
     assert text.count(old) == 1
-    (copy / "tools/retarget.py").write_text(text.replace(old, new), encoding="utf-8")
+    (copy / name).write_text(text.replace(old, new), encoding="utf-8")
     library = tmp_path / "library"
-    if subprocess.run([copy / "portable/core", "i686", library], capture_output=True, check=False).returncode:
-        return  # clang refuses it
+    words = [copy / "portable/core", "--checked", "i686", library]
+    if subprocess.run(words, capture_output=True, check=False).returncode:
+        assert name == RETARGET  # clang refuses it
+        return
     how = [CC, "-m32", *STRICT]
     try:
-        calls = compiled("calls", *how, "tests/calls.c", library / "libbsdudp.a")
+        programs = [compiled(it.name, *how, f"{it}.c", library / "libbsdudp.a") for it in (CALLS, WIDE)]
         driver = compiled("driver", *how, *DRIVER, library / "libbsdudp.a")
     except pytest.fail.Exception as why:  # the core calls a function that it never calls without the fault
         assert "undefined reference to `rattle_realloc'" in str(why)
         return
-    assert not (passes(calls) and plays_examples(driver))
+    assert not (all(map(passes, programs)) and plays_examples(driver))
 
 
 # ---- a Cortex-M3 -----------------------------------------------------------------------------------------------------
@@ -188,9 +210,9 @@ MACHINE += ["stdio", "-semihosting-config", "enable=on,target=native"]
 # The most of the columns of bench/board's table, for each level: the library, the echo's text, data, bss and call
 # stack, and the instructions of three lengths.
 COSTS = {
-    "-Oz": [42_600, 21_850, 16, 52_500, 1_480, 5_600, 11_850, 44_400],
-    "-Os": [46_700, 23_750, 16, 52_500, 950, 2_025, 7_800, 24_500],
-    "-O2": [86_700, 56_000, 16, 52_500, 1_020, 1_940, 6_990, 20_850],
+    "-Oz": [40_900, 20_600, 16, 52_500, 1_430, 5_180, 11_400, 42_300],
+    "-Os": [42_600, 21_150, 16, 52_500, 810, 1_775, 7_500, 22_850],
+    "-O2": [72_600, 41_100, 16, 52_500, 800, 1_545, 6_540, 19_200],
 }
 DATA = 2
 on_board = pytest.mark.needs("arm-none-eabi", "qemu-arm")

@@ -10,7 +10,7 @@ from tools import llvm
 
 pytestmark = [pytest.mark.slow, pytest.mark.needs("rt", "wasm-opt", "cc", "arm-none-eabi")]
 # The most bytes of flash and memory.
-MOST = {"echo": (25_600, 52_900), "host": (34_600, 55_100), "light": (36_100, 31_300), "device": (51_900, 56_800)}
+MOST = {"echo": (22_900, 52_900), "host": (31_300, 55_100), "light": (32_800, 31_300), "device": (48_400, 56_800)}
 FILE = 1 << 20  # the bytes of the device's file "flash"
 ALIGNED = 8
 # A page's figures may be this share off, so that not each change of the core changes the pages.
