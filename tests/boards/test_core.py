@@ -151,7 +151,6 @@ PLANTED = {
     "an address's bytes": (RETARGET, '"ptr": 8}', '"ptr": 4}'),
     "a number's memory": (RETARGET, "= alloca i64, align", "= alloca i32, align"),
     "counters aren't wide": without("flat_model::counters"),
-    "tallies aren't wide": without("ether_host::layer::LinkLayer"),
     "sums aren't wide": without("in_cksum"),
     "the set of readable sockets isn't wide": without("readable"),
     "two numbers in one aren't wide": without("put_data"),
