@@ -7,7 +7,7 @@ use Rattle.chain_ops.specs.Stored.{Has, IsStoredIn}
 use Rattle.ledger.specs.Reserve.{are_free}
 use Rattle.ledger.proofs.Laws.{enough_clusters, enough_mbufs}
 use Rattle.sock_calls.specs.Whole.{HasOne}
-use Rattle.net_stack.proofs.StoreFragmentData.{two_plain}
+use Rattle.sock_calls.proofs.Laws.{two_plain}
 use Rattle.net_stack.proofs.InPlace.{has_one}
 
 pub free_mbuf : (p : PoolView) (n : ℕ) → IsStoredIn 0 n InMbuf → are_free p 2 0 ≡ true → Has p (wire n)

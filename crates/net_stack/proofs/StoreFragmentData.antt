@@ -1,13 +1,13 @@
 -- A fragment from the wire that is stored directly, from the bytes of its packet: one step of the machine.
-use Rattle.std.proofs.Common.{◌≡◌, ℕ, ◌-◌, ◌<◌, ◌≤◌, Bool, true, false, cond, List, [], ◌∷◌, ◌++◌, length, take, drop, refl, sym, ap, ◌∙◌, subst, arith, inl}
+use Rattle.std.proofs.Common.{◌≡◌, ℕ, ◌-◌, ◌≤◌, Bool, true, false, cond, List, [], ◌∷◌, ◌++◌, length, take, drop, refl, sym, ap, ◌∙◌, subst, arith, inl}
 use Rattle.std.specs.Prelude.{All, count_by, ◌==◌, ◌&&◌, nat_le}
-use Rattle.std.proofs.lemmas.Bool.{true≢false, le-leb, lt-leb, leb-true, leb-false, cond-false}
+use Rattle.std.proofs.lemmas.Bool.{true≢false, le-leb, leb-true, leb-false}
 use Rattle.std.proofs.lemmas.List.{take_all}
 use Rattle.std.proofs.lemmas.List.Elements.{All-from_recursion}
 use Rattle.flat_model.specs.Amounts.Choice.{Choice}
 use Rattle.flat_model.specs.Amounts.Weight.{Weight, Item, nothing, ◌⊕◌, times as bag_times}
 use Rattle.flat_model.specs.Amounts.Layout as flat
-use Rattle.flat_model.specs.Amounts.Layout.{Room, Plain, Cluster, is_cluster, entries_on, need_of, next_room, or_empty, size_of, wire}
+use Rattle.flat_model.specs.Amounts.Layout.{Room, Plain, Cluster, is_cluster, entries_on, need_of, wire}
 use Rattle.flat_model.specs.Packets.Header.{total_of}
 use Rattle.flat_model.specs.Machine.Count.{counts_more}
 use Rattle.flat_model.specs.Machine.State.{State}
@@ -19,7 +19,7 @@ use Rattle.flat_model.specs.declared.counters.Counters.{Counters}
 use Rattle.flat_model.proofs.Laws.{count_cons}
 use Rattle.mbuf_chain.specs.Chain.{PoolView, free_clusters, held_mbufs}
 use Rattle.mbuf_chain.specs.Owners.{IsOwned, Moves}
-use Rattle.chain_ops.proofs.Laws.Rooms.{one_cluster, rest_none, rest_rooms, rooms_step}
+use Rattle.chain_ops.proofs.Laws.Rooms.{one_cluster}
 use Rattle.ledger.specs.Accounts.{IsAccounted, item_at, weight_owned}
 use Rattle.ledger.proofs.Laws.{test_is}
 use Rattle.pcb_table.specs.Table.{machine}
@@ -33,33 +33,15 @@ use Rattle.ip_reass.specs.declared.arrival.Arrival.TheVariants.{Whole}
 use Rattle.ip_reass.proofs.Laws.{Fits, stored_arrives, stored_weight}
 use Rattle.sock_calls.specs.Sockets.{SocksView, IsSocks, queued_chains, with_net, with_sockets}
 use Rattle.sock_calls.specs.Delivery.{NetView, IsInput, KeepsParts, net_state}
-use Rattle.sock_calls.proofs.Laws.{free_each, keeps_trans}
+use Rattle.sock_calls.proofs.Laws.{free_each, keeps_trans, two_plain, two_weigh}
 use Rattle.net_stack.specs.Inside.Arrivals.{HasCome}
 use Rattle.net_stack.proofs.Aside.{BesideSocks, as_held, beside_socks, host_view}
 use Rattle.net_stack.proofs.ArriveLemmas.{IsHeaded, passes}
 
--- a packet in one cluster, or in two mbufs
+-- a packet in one cluster
 weighs : (k m : ℕ) → flat.weight_of (entries_on (k ∷ []) (Cluster m ∷ [])) ≡ record { mbufs = 1; bag = k ∷ [] }
 unfolding entries_on
 weighs k m = refl
-
-weigh : (m n : ℕ) → flat.weight_of (entries_on [] (Plain m ∷ Plain n ∷ [])) ≡ record { mbufs = 2; bag = [] }
-unfolding entries_on
-weigh m n = refl
-
-pub two_plain : (n : ℕ) → 100 < n → n < 208 → wire n ≡ Plain 100 ∷ Plain (n - 100) ∷ []
-two_plain n many few =
-    let m : ℕ = n - 100 in
-    let first : next_room 2048 100 n ≡ Plain 100 =
-    cond-false {A = Room} _ _ _ (lt-leb 208 n few) ∙ ap Plain (omega (arith, many)) in
-    let second : next_room 2048 108 m ≡ Plain m =
-    cond-false {A = Room} _ _ _ (lt-leb 208 m (omega (arith, few))) ∙ ap Plain (omega (arith, few)) in
-    let none : m - size_of (next_room 2048 108 m) ≡ 0 = omega (arith, ap size_of second) in
-    let rest : rest_rooms m ≡ Plain m ∷ [] =
-    rooms_step 2048 108 m (omega arith) (omega arith) (omega (arith, many)) ∙ (λ i. second i ∷ rest_rooms (none i))
-    ∙ ap (λ (rooms : List Room). Plain m ∷ rooms) rest_none in
-    ap or_empty (rooms_step 2048 100 n (omega arith) (omega arith) (omega (arith, many)))
-    ∙ (λ i. first i ∷ rest_rooms (n - size_of (first i))) ∙ ap (λ (rooms : List Room). Plain 100 ∷ rooms) rest
 
 module _ (p : PoolView) (s : SocksView) (r : TableView) (a c : Counters) (packet : List ℕ) (h : IpHead)
     (head : IsHeaded packet h) (part : is_fragment (flat_head h) ≡ true)
@@ -181,7 +163,7 @@ module _ (p : PoolView) (s : SocksView) (r : TableView) (a c : Counters) (packet
             comes_in rest new [] (Plain 100 ∷ Plain (length packet - 100) ∷ []) (record { mbufs = 2; bag = [] }) acc
             (two_plain (length packet) fits.many (leb-false 208 (length packet) small)) (omega arith) (omega arith)
             refl
-            (weigh 100 (length packet - 100)) (λ j. omega arith) (All-from_recursion (IsFree (old rest) nothing) [] tt)
+            (two_weigh 100 (length packet - 100)) (λ j. omega arith) (All-from_recursion (IsFree (old rest) nothing) [] tt)
             fragment
 
     module _ (socks : IsSocks p s) (owned : IsOwned p (held_all p r.datagrams ++ queued_chains p s.queues))

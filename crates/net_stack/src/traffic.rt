@@ -9,8 +9,8 @@ ghost use Rattle.net_stack.specs.Stack.{state_of};
 use crate::stack::Stack;
 use flat_model::{Addr, Errno};
 
-/// Returns the address unchanged. Its contract adds the ranges of its numbers, which no clause of an `Option<Addr>`
-/// contains.
+/// Returns the address unchanged. Its contract adds the ranges of its numbers, which a send of the flat machine has.
+// The prover takes these ranges from an `Addr` that a body reads, but not from one in an `Option`. Hence the match.
 fn with_range(to: Option<Addr>) -> Option<Addr>
     ensures same { result ≡ to }
     ensures range { IfSome result IsAddr }
