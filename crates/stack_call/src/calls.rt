@@ -6,6 +6,7 @@ ghost use Rattle.flat_model.specs.Machine.Replies.{done_reply, opened_reply, sen
 ghost use Rattle.net_stack.specs.Stack.{state_of};
 ghost use Rattle.request.specs.Requests.{event_of, room_of};
 ghost use Rattle.request.specs.Replies.{reply_of, len_of};
+ghost use Rattle.stack_call.specs.Inside.{IsBare};
 ghost use Rattle.stack_call.specs.Moves.{StackSteps};
 
 use flat_model::Errno;
@@ -14,8 +15,7 @@ use request::{Reply, Request};
 
 /// Returns the reply of a call without a result of its own.
 fn done(outcome: Result<(), Errno>) -> Reply<'static>
-    ensures reply { reply_of result ≡ done_reply outcome }
-    ensures len { len_of result ≡ 0 }
+    ensures { IsBare result (done_reply outcome) }
 {
     match outcome {
         Ok(()) => Reply::Done,
@@ -25,8 +25,7 @@ fn done(outcome: Result<(), Errno>) -> Reply<'static>
 
 /// Returns the reply of `socket`.
 fn opened(outcome: Result<u32, Errno>) -> Reply<'static>
-    ensures reply { reply_of result ≡ opened_reply outcome }
-    ensures len { len_of result ≡ 0 }
+    ensures { IsBare result (opened_reply outcome) }
 {
     match outcome {
         Ok(fd) => Reply::Opened(fd),
@@ -36,8 +35,7 @@ fn opened(outcome: Result<u32, Errno>) -> Reply<'static>
 
 /// Returns the reply of a send.
 fn sent(outcome: Result<usize, Errno>) -> Reply<'static>
-    ensures reply { reply_of result ≡ sent_reply outcome }
-    ensures len { len_of result ≡ 0 }
+    ensures { IsBare result (sent_reply outcome) }
 {
     match outcome {
         Ok(len) => Reply::Sent(len),
