@@ -209,9 +209,9 @@ MACHINE += ["stdio", "-semihosting-config", "enable=on,target=native"]
 # The most of the columns of bench/board's table, for each level: the library, the echo's text, data, bss and call
 # stack, and the instructions of three lengths.
 COSTS = {
-    "-Oz": [40_900, 20_600, 16, 52_500, 1_430, 5_180, 11_400, 42_300],
-    "-Os": [42_600, 21_150, 16, 52_500, 810, 1_775, 7_500, 22_850],
-    "-O2": [72_600, 41_100, 16, 52_500, 800, 1_545, 6_540, 19_200],
+    "-Oz": [41_200, 20_800, 16, 52_500, 1_455, 5_210, 10_900, 40_850],
+    "-Os": [42_900, 21_350, 16, 52_500, 825, 1_785, 6_980, 21_500],
+    "-O2": [73_000, 41_400, 16, 52_500, 765, 1_545, 6_550, 19_200],
 }
 DATA = 2
 on_board = pytest.mark.needs("arm-none-eabi", "qemu-arm")
