@@ -57,16 +57,17 @@ def of_folder(folder: str, command: str) -> Iterator[Case]:
         yield Case(f"{command}/{path.stem}", [command, *words], path.read_bytes(), replies.read_bytes(), place=place)
 
 
-def of_dialogs(folder: str, command: str) -> Iterator[Case]:
-    """Yields the dialogs NAME.dialog in a folder: lines of a script, each with ` => ` and its reply. Options are in a
-    line before these."""
-    for path in sorted((TOP / folder).glob("*.dialog")):
-        lines = path.read_bytes().removesuffix(b"\n").split(b"\n")
-        words = lines.pop(0).decode().split() if lines[0].startswith(b"--") else []
-        place, first = str(path.relative_to(TOP)), 2 if words else 1
-        assert all(it.count(b" => ") == 1 for it in lines), f"{place}: a line has no reply, or two"
-        script, replies = (b"".join(it + b"\n" for it in rows) for rows in zip(*(it.split(b" => ") for it in lines)))
-        yield Case(f"{command}/{path.stem}", [command, *words], script, replies, place=place, first=first)
+def of_dialogs(name: str, command: str) -> Iterator[Case]:
+    """Yields the dialogs in a table of crates/bsdudp/scripts. Each has a line with its name and options, then lines of
+    a script, each with ` => ` and its reply, and then an empty line."""
+    place, first = f"crates/bsdudp/scripts/{name}.dialogs", 2
+    for part in (TOP / place).read_bytes().removesuffix(b"\n").split(b"\n\n"):
+        head, *lines = part.split(b"\n")
+        it, *words = head.decode().split()
+        assert lines and all(row.count(b" => ") == 1 for row in lines), f"{place}: {it}: a line has no reply, or two"
+        script, replies = (b"".join(it + b"\n" for it in rows) for rows in zip(*(row.split(b" => ") for row in lines)))
+        yield Case(f"{command}/{it}", [command, *words], script, replies, place=place, first=first)
+        first += len(lines) + 2
 
 
 def short(text: bytes) -> str:

@@ -1,9 +1,9 @@
 // node page/test/replies.js MODULE.wasm EXAMPLES LESSONS [PROGRAM [PLAYER]]: plays each example and each lesson with
-// the module. The replies of an example must equal its golden file, byte for byte. A play script must meet all its
-// expectations, and bsdplay, if it's named as PLAYER, must print the same. If the native program is named, both play
-// random scripts, and their replies must be equal. Drawings of chains are compared with those worked out by hand, and
-// with the module's replies. The state that the page shows for a host on a wire must agree with the program after each
-// line. It prints nothing if all tests pass.
+// the module. The replies to an example, and to a dialog about chains, must be the expected ones, byte for byte. A play
+// script must meet all its expectations, and bsdplay, if it's named as PLAYER, must print the same. If the native
+// program is named, both play random scripts, and their replies must be equal. Drawings of chains are compared with
+// those worked out by hand, and with the module's replies. The state that the page shows for a host on a wire must
+// agree with the program after each line. It prints nothing if all tests pass.
 "use strict";
 const child = require("child_process"), fs = require("fs"), os = require("os"), path = require("path");
 const { load } = require("./sources.js");
@@ -27,13 +27,21 @@ function configOf(script) {
   return page.configOf(page.optionsOf(words));
 }
 
-const play = (engine, command, script, text) => engine[command](configOf(script), text);
+const examplesOf = folder => scriptsOf(folder).map(name => ({ name, config: configOf(name),
+  text: fs.readFileSync(name, "utf8"), replies: fs.readFileSync(name + ".stdout", "utf8") }));
 
-function tryExample(engine, command, script) {
-  const got = play(engine, command, script, fs.readFileSync(script, "utf8"));
-  const said = got.replies.map(reply => reply + "\n").join("");
-  if (said !== fs.readFileSync(script + ".stdout", "utf8")) fault(script,
-    `the page's module has other replies than ${script}.stdout`);
+// The dialogs of a table: lines, each with its reply, after a line with the name and the options.
+function dialogsOf(table) {
+  return fs.readFileSync(table, "utf8").trimEnd().split("\n\n").map(part => {
+    const [head, ...lines] = part.split("\n"), [name, ...words] = head.split(" ");
+    const [text, replies] = [0, 1].map(at => lines.map(line => line.split(" => ")[at] + "\n").join(""));
+    return { name, config: page.configOf(page.optionsOf(words)), text, replies };
+  });
+}
+
+function tryExample(engine, command, { name, config, text, replies }) {
+  const said = engine[command](config, text).replies.map(reply => reply + "\n").join("");
+  if (said !== replies) fault(name, "the page's module has other replies than expected");
 }
 
 // The steps of a script, played as in its tab.
@@ -627,11 +635,11 @@ function randomScript(lines, below) {
   return Array.from({ length: LINES }, () => (below(8) ? any() : mixed()) + "\n").join("");
 }
 
-function tryRandom(engine, command, folder) {
-  const below = numbers(1);
-  const all = scriptsOf(folder).flatMap(script => fs.readFileSync(script, "utf8").split("\n"));
-  // a line of thousands of digits in every script takes too much time
-  const lines = all.filter(line => line && line.length < 4000);
+// A line of thousands of digits in every script takes too much time.
+const linesIn = all => all.flatMap(it => it.text.split("\n")).filter(line => line && line.length < 4000);
+
+function tryRandom(engine, command, examples) {
+  const below = numbers(1), lines = linesIn(examples);
   for (let i = 0; i < RANDOM; i++) {
     const script = randomScript(lines, below);
     const words = ["--mbufs", String(1 + below(100)), "--clusters", String(below(20))];
@@ -640,16 +648,14 @@ function tryRandom(engine, command, folder) {
     const said = got.replies.map(reply => reply + "\n").join("");
     if (native.status !== 0 || got.code !== 0 || said !== native.stdout.toString()) {
       // one is enough: the others mostly differ for the same reason
-      fault(folder, `random script ${i} of ${command} is answered otherwise by the page's module than by ${program}`);
+      fault(command, `random script ${i} is answered otherwise by the page's module than by ${program}`);
       return;
     }
   }
 }
 
-function tryRandomDrawings(engine, folder) {
-  const below = numbers(2);
-  const all = scriptsOf(folder).flatMap(script => fs.readFileSync(script, "utf8").split("\n"));
-  const lines = all.filter(line => line && line.length < 4000);
+function tryRandomDrawings(engine, examples) {
+  const below = numbers(2), lines = linesIn(examples);
   for (let i = 0; i < DRAWINGS; i++) {
     const config = { mbufs: 1 + below(100), clusters: below(20) };
     tryDrawings(engine, `random script ${i} of chains`, config, randomScript(lines, below));
@@ -667,8 +673,10 @@ function tryAllStates(engine) {
 
 async function main() {
   const engine = await page.Engine.load(fs.readFileSync(file));
-  for (const script of scriptsOf(examples)) tryExample(engine, "run", script);
-  for (const script of scriptsOf(path.join(examples, "chain"))) tryExample(engine, "chain", script);
+  const borders = dialogsOf(path.join(examples, "../crates/bsdudp/scripts/borders.dialogs"));
+  const runs = examplesOf(examples), chains = [...examplesOf(path.join(examples, "chain")), ...borders];
+  for (const it of runs) tryExample(engine, "run", it);
+  for (const it of chains) tryExample(engine, "chain", it);
   for (const command of ["run", "chain", "wire"]) {
     for (const script of scriptsOf(path.join(lessons, command))) tryLesson(engine, command, script);
   }
@@ -687,14 +695,16 @@ async function main() {
   tryTshark(engine, path.join(examples, "play", "by_tcpdump.pcap"));
   tryRandomWires(engine);
   tryDrawn(engine);
-  for (const script of [...scriptsOf(path.join(examples, "chain")), ...scriptsOf(path.join(lessons, "chain"))]) {
-    tryDrawings(engine, script, configOf(script), page.readNotes(fs.readFileSync(script, "utf8")).lines
+  const lessonsOfChains = scriptsOf(path.join(lessons, "chain"))
+    .map(name => ({ name, config: configOf(name), text: fs.readFileSync(name, "utf8") }));
+  for (const { name, config, text } of [...chains, ...lessonsOfChains]) {
+    tryDrawings(engine, name, config, page.readNotes(text).lines
       .map(line => page.partsOf(line).asked + "\n").join(""));
   }
-  tryRandomDrawings(engine, path.join(examples, "chain"));
+  tryRandomDrawings(engine, chains);
   if (program) {
-    tryRandom(engine, "run", examples);
-    tryRandom(engine, "chain", path.join(examples, "chain"));
+    tryRandom(engine, "run", runs);
+    tryRandom(engine, "chain", chains);
   }
   process.exitCode = faults ? 1 : 0;
 }

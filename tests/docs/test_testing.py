@@ -15,11 +15,11 @@ def words():
 
 
 def test_words_select_tests():
-    """Selects as `pytest -k` does: by the names of folders, files and functions, and of scripts."""
+    """Selects as `pytest -k` does: by the names of folders, files and functions, and of tables of dialogs."""
     names = [str(it.relative_to(TOP)) for it in (TOP / "tests").rglob("test_*.py")]
     text = "".join((TOP / it).read_text(encoding="utf-8") for it in names)
     functions = re.findall(r"(?m)^def (test_\w+)", text)
-    known = names + functions + [it.name for it in (TOP / "examples/chain").glob("*.txt")]
+    known = names + functions + [it.name for it in (TOP / "crates/bsdudp/scripts").glob("*.dialogs")]
     none_of(
         Fault(place, f"`pytest -k {it}` selects no test")
         for it, place in words().items()
