@@ -1,29 +1,37 @@
-"""Golden files: everything that bsdplay prints for a script. The test compares them, tools/goldens writes them."""
+"""Golden output: everything that bsdplay prints for a command line. The test compares it, tools/goldens writes it."""
 from __future__ import annotations
 
 import difflib
 import json
 import pathlib
 import re
+import shlex
 import subprocess
 from typing import Iterator, NamedTuple
 
 TOP = pathlib.Path(__file__).resolve().parent.parent
 PLAY = TOP / "examples/play"
-# Command lines with a golden file NAME.stdout: a row of the file `table` has the name, the status and the arguments.
-LINES = TOP / "tests/bsdplay/goldens"
+# Transcripts of command lines, as in a terminal: that of each play script, and others. A line `$ bsdplay WORDS`, with
+# ` => status N` if that isn't 0, comes before the output.
+SCRIPTS, OPTIONS = (TOP / f"tests/bsdplay/goldens/{it}.transcript" for it in ("scripts", "options"))
+PROMPT = re.compile(rb"(?m)^\$ bsdplay (.*?)(?: => status (\d))?\n")
 # The differences that a failure shows, and the characters of a line.
 SHOWN, WIDEST = 6, 160
 
 
 class Golden(NamedTuple):
-    """A command line of bsdplay and the file with its output. An argument that is the path of a file is relative to the
-    top."""
+    """A command line of bsdplay, its status, its output, which is None if the transcript lacks it, and the transcript.
+    An argument that is the path of a file is relative to the top."""
 
-    name: str
     words: list[str]
-    file: pathlib.Path
     status: int
+    text: bytes | None
+    file: pathlib.Path
+
+    @property
+    def name(self) -> str:
+        """The arguments, without the folders of the scripts."""
+        return " ".join(re.sub("^(examples/play|tests/bsdplay/goldens)/", "", it) for it in self.words)
 
 
 class Output(NamedTuple):
@@ -38,21 +46,30 @@ def scripts() -> list[pathlib.Path]:
     return [it for folder in ("", "wire", "ether") for it in sorted((PLAY / folder).glob("*.txt"))]
 
 
+def of_transcript(file: pathlib.Path) -> Iterator[Golden]:
+    """Yields the command lines of a transcript."""
+    parts = iter(PROMPT.split(file.read_bytes())[1:])
+    for words, status, text in zip(parts, parts, parts):
+        yield Golden(words.decode().split(), int(status or 0), text, file)
+
+
 def each() -> Iterator[Golden]:
-    """Yields the plain output of each play script, and then the command lines in `LINES`."""
-    for script in scripts():
-        path = str(script.relative_to(TOP))
-        yield Golden(str(script.relative_to(PLAY)), [path], script.with_name(f"{script.name}.stdout"), 0)
-    for row in (LINES / "table").read_text(encoding="utf-8").splitlines():
-        name, status, *words = row.split()
-        yield Golden(name, words, LINES / f"{name}.stdout", int(status))
+    """Yields the command line of each play script, and then the others."""
+    known = {it.words[0]: it for it in of_transcript(SCRIPTS)}
+    for path in (str(it.relative_to(TOP)) for it in scripts()):
+        yield known.get(path, Golden([path], 0, None, SCRIPTS))
+    yield from of_transcript(OPTIONS)
 
 
-def left_over() -> list[str]:
-    """Returns the golden files without a command line."""
-    known = {it.file for it in each()}
-    found = [*PLAY.rglob("*.stdout"), *LINES.glob("*.stdout")]
-    return [str(it.relative_to(TOP)) for it in found if it not in known]
+def write(outputs: dict[str, bytes]) -> None:
+    """Writes both transcripts with these outputs of command lines, by their names."""
+    for file in (SCRIPTS, OPTIONS):
+        made = b""
+        for it in (it for it in each() if it.file == file):
+            text = outputs.get(it.name, it.text)
+            status = f" => status {it.status}" * (it.status != 0)
+            made += b"" if text is None else f"$ bsdplay {' '.join(it.words)}{status}\n".encode() + text
+        file.write_bytes(made)
 
 
 def played(program: pathlib.Path, golden: Golden) -> Output:
@@ -98,21 +115,21 @@ def differences(wanted: bytes, came: bytes) -> Iterator[str]:
 
 
 def fault(golden: Golden, output: Output) -> str | None:
-    """Returns how the output differs from the golden file, or None."""
+    """Returns how the output differs from the golden one, or None."""
     called = f"bsdplay {' '.join(golden.words)}"
-    place = golden.file.relative_to(TOP)
-    if not golden.file.exists():
-        return f"{called}: there is no {place}; tools/goldens {golden.name} writes it"
-    found = list(differences(golden.file.read_bytes(), output.text))
+    place, to_write = golden.file.relative_to(TOP), f"tools/goldens {shlex.quote(golden.name)}"
+    if golden.text is None:
+        return f"{called}: {place} doesn't have it; {to_write} writes it"
+    found = list(differences(golden.text, output.text))
     if output.status != golden.status:
         found.insert(0, f"  status {output.status}, wanted {golden.status}")
     if not found:
         return None
     more = [f"  and {len(found) - SHOWN} more differences"] * (len(found) > SHOWN)
-    hint = f"  If this is what it should print: tools/goldens {golden.name}"
-    return "\n".join([f"{called}: other output than {place}", *found[:SHOWN], *more, hint])
+    hint = f"  If this is what it should print: {to_write}"
+    return "\n".join([f"{called}: other output than in {place}", *found[:SHOWN], *more, hint])
 
 
 def run(program: pathlib.Path, golden: Golden) -> str | None:
-    """Plays a golden file's command line with a built bsdplay."""
+    """Plays a command line with a built bsdplay."""
     return fault(golden, played(program, golden))

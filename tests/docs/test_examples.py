@@ -5,6 +5,7 @@ import textwrap
 
 import pytest
 
+from tests import goldens
 from tests.docs.pages import TOP, Fault, lines, none_of, read
 
 TOUR = "docs/tour.md"
@@ -43,9 +44,10 @@ def quoted():
 
 
 def printed(script):
-    """Returns what a script prints: the golden file of a play script, or the lines and replies of a chain script."""
-    replies = read(f"{script}.stdout").splitlines()
-    return map(" => ".join, zip(read(script).splitlines(), replies)) if "/chain/" in script else replies
+    """Returns what a script prints: the golden output of a play script, or the lines and replies of a chain script."""
+    if "/chain/" in script:
+        return map(" => ".join, zip(read(script).splitlines(), read(f"{script}.stdout").splitlines()))
+    return goldens.text_lines(next(it.text for it in goldens.of_transcript(goldens.SCRIPTS) if it.words == [script]))
 
 
 def pattern(text):
