@@ -1,4 +1,4 @@
-//! What `bench/reass`, `peers` and `growth` time: fragments arrive as packets, are stored, have their headers parsed,
+//! What `bench/peers` and `bench/growth` time: fragments arrive as packets, are stored, have their headers parsed,
 //! and wait or complete their datagram.
 
 ghost use Rattle.std.specs.Prelude.{◌≡◌, ◌≤◌, ◌∷◌, ◌++◌, true, length, IfSome};
