@@ -5,7 +5,7 @@
 print_line() { # COUNTED SIZES COSTS
     local costs
     read -r -a costs <<< "$3"
-    printf '  %-30s' "$1"
+    printf '  %-62s' "$1"
     printf ' %9s' "${costs[@]}"
     awk -v sizes="$2" -v costs="$3" 'BEGIN {
         n = split(sizes, size); split(costs, cost)
@@ -17,7 +17,7 @@ print_line() { # COUNTED SIZES COSTS
 print_head() { # GROWS SIZES
     local sizes
     read -r -a sizes <<< "$2"
-    printf '%-32s' "$1"
+    printf '%-64s' "$1"
     printf ' %9s' "${sizes[@]}"
     echo
 }
@@ -71,9 +71,9 @@ print_script_lines() { # WORK
         read+=("$(cost_of_pair "$1" "rx $(packet_digits "$size")" 'recvfrom 3 9216')")
         sends+=("$(cost_of_pair "$1" "sendto 3 127.0.0.1 7 $(digits "$size")" 'recvfrom 3 9216')")
     done
-    print_line "rx, and recvfrom of one byte" "$sizes" "${arrives[*]}"
-    print_line "rx, and recvfrom of all" "$sizes" "${read[*]}"
-    print_line "sendto, and recvfrom of all" "$sizes" "${sends[*]}"
+    print_line "rx, and a recvfrom of one byte" "$sizes" "${arrives[*]}"
+    print_line "rx, and its recvfrom" "$sizes" "${read[*]}"
+    print_line "sendto by loopback, and its recvfrom" "$sizes" "${sends[*]}"
 }
 
 measure_growth() { # WORK

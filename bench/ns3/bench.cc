@@ -130,7 +130,7 @@ Compare(const char* name, uint64_t wanted, int rounds, const std::function<uint6
             }
         }
     }
-    std::printf("%-46s %10.0f %12.0f %8.2f\n", name, least[1], least[0], least[1] / least[0]);
+    std::printf("%-94s %10.0f %12.0f %8.2f\n", name, least[1], least[0], least[1] / least[0]);
     std::fflush(stdout);
 }
 
@@ -203,14 +203,14 @@ main()
     Config::SetDefault("ns3::BsdudpStack::Mbufs", UintegerValue(512));
     Config::SetDefault("ns3::BsdudpStack::Clusters", UintegerValue(64));
 
-    std::printf("%-46s %10s %12s %8s\n", "memory of a node, in KB, beside its device", "100 nodes", "1,000 nodes", "");
+    std::printf("%-94s %10s %12s %8s\n", "memory of a node, in KB, beside its device", "100 nodes", "1,000 nodes", "");
     const struct
     {
         const char* name;
         Kind kind;
     } rows[] = {{"ns-3's own", OWN},
-                {"bsdudp, 64 mbufs, 16 clusters", SMALL},
-                {"bsdudp, 512 mbufs, 64 clusters", DEFAULT}};
+                {"bsdudp, 64 mbufs and 16 clusters", SMALL},
+                {"bsdudp, 512 mbufs and 64 clusters", DEFAULT}};
     for (const auto& row : rows)
     {
         double each[2];
@@ -219,20 +219,23 @@ main()
         {
             each[i] = (Resident(counts[i], row.kind) - Resident(counts[i], DEVICES)) / counts[i] / 1e3;
         }
-        std::printf("%-46s %10.1f %12.1f\n", row.name, each[0], each[1]);
+        std::printf("%-94s %10.1f %12.1f\n", row.name, each[0], each[1]);
         std::fflush(stdout);
     }
 
-    std::printf("%-46s %10s %12s %8s\n", "milliseconds of user time, the least", "bsdudp", "ns-3's own", "ratio");
-    for (const uint32_t size : {2, 1000, 9000})
-    {
-        char name[64];
-        std::snprintf(name, sizeof name, "20,000 echoes of %u bytes", size);
+    std::printf("%-94s %10s %12s %8s\n", "milliseconds of user time, the least", "bsdudp", "ns-3's own", "ratio");
+    const auto echoes = [rounds](const char* name, uint32_t size) {
         Compare(name, 20000, rounds, [size](bool ours) { return Echoes(ours, 1, 20000, size); });
-    }
-    Compare("50 pairs, 400 echoes of 1,000 bytes each", 20000, rounds, [](bool ours) {
+    };
+    echoes("20,000 echoes of 2 bytes, on a point-to-point link", 2);
+    echoes("of 1,000 bytes", 1000);
+    echoes("of 9,000 bytes, in seven fragments each way", 9000);
+    Compare("a hundred nodes in pairs, 400 echoes of 1,000 bytes each", 20000, rounds, [](bool ours) {
         return Echoes(ours, 50, 400, 1000);
     });
-    Compare("100 nodes on a channel, 500 of 4,000 bytes", 500, rounds, Hundred);
+    Compare("a hundred nodes on one channel, 500 datagrams of 4,000 bytes in all, which each node receives",
+            500,
+            rounds,
+            Hundred);
     return 0;
 }

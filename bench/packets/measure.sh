@@ -20,8 +20,8 @@ check_drops() {
     local row column
     for row in "${!counts[@]}"; do
         column=${row##*|}
-        [[ $row = "rx: "* && $row != *recvfrom* ]] || continue
-        if [ "${counts[$row]}" -ge "${counts[rx, recvfrom|$column]}" ]; then
+        [[ $row = "dropped: "* || $row = "broadcast that no "* ]] || continue
+        if [ "${counts[$row]}" -ge "${counts[delivered, with its recvfrom|$column]}" ]; then
             echo "packets, $row: dropping a packet costs no less than receiving it" >&2
             over_limit=1
         fi

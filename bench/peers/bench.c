@@ -51,7 +51,7 @@ LWIP(lwip_O3_pools)
 static const Row ROWS[] = {
     {"ours", ours},
     {"lwIP -O2", lwip_O2},
-    {"the same, its third sum", lwip_O2_sum3},
+    {"lwIP -O2, its third sum", lwip_O2_sum3},
     {"lwIP -O3 -flto, no asserts", lwip_O3},
     {"the same, a sum by SSE2", lwip_O3_sse2},
     {"the same, pools for its heap", lwip_O3_pools},

@@ -52,8 +52,8 @@ measure_scripts() { # WORK
         printf '%-40s %12s\n' "lines a second" "lines"
         lines_a_second "$1" "rx and recvfrom, 2 bytes" 500000 "$rx"
         lines_a_second "$1" "sendto by loopback and recvfrom, 2 bytes" 500000 "$(looped 2)"
-        lines_a_second "$1" "the same, 1,472 bytes" 50000 "$(looped 1472)"
-        lines_a_second "$1" "the same, 9,000 bytes" 10000 "$(looped 9000)"
+        lines_a_second "$1" "sendto by loopback and recvfrom, 1,472 bytes" 50000 "$(looped 1472)"
+        lines_a_second "$1" "sendto by loopback and recvfrom, 9,000 bytes" 10000 "$(looped 9000)"
         printf '%-40s %12s\n' "resident memory" "KB"
         for lines in 10000 1000000 10000000; do
             printf '%-40s %12d\n' "$lines lines" "$(resident "$1" "$lines")"

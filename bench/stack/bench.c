@@ -27,8 +27,8 @@ static bool to_itself(int column, uint64_t turns)
 }
 
 static const Row ROWS[] = {
-    {"sendto, tx, rx, recvfrom", to_another},
-    {"sendto by loopback, recvfrom", to_itself},
+    {"from one stack to another", to_another},
+    {"by loopback", to_itself},
 };
 
 static const Table TABLE = {"a datagram", COLUMNS, COUNT_OF(COLUMNS), ROWS, COUNT_OF(ROWS)};

@@ -20,9 +20,8 @@ OTHERS = {
 }
 # A script puts the names of these rows together.
 PARTS = {
-    "board": r"`portable/core |frames: |, with two more copies|, by its sockets|`",
+    "board": r"portable/core |frames: |, with two more copies|, by its sockets",
     "ether": r", with two more copies",
-    "ns3": r"20,000 echoes of \d+ bytes",
     "scripts": r"\d+ lines$",
 }
 
@@ -115,11 +114,12 @@ def test_each_row_is_of_a_benchmark():
     """Each row that bench/tables takes from a run is named in its subject's sources, and so is its head."""
     module, faults = tables(), []
     for it in module.TABLES.values():
-        rows = Asked(*["54,321"] * 12)
-        for cells in it.rows.values():
-            cells(rows)
+        rows, page = Asked(*["54,321"] * 12), read(it.page)
+        start, end = module.place_of(page, it)
+        for line in page[start:end].split("\n")[3:]:
+            module.new_line(line, it, rows)
         files = [*sorted((TOP / "bench" / it.subject).iterdir()), TOP / "bench/timer.h", TOP / "portable/core"]
-        text = "".join(path.read_text("utf-8") for path in files if path.is_file())
+        text = module.plain("".join(path.read_text("utf-8") for path in files if path.is_file()).replace("\\`", ""))
         heads = r"^(?:(?:times to|milliseconds|memory|lines a|resident|echoes a|processor time|of the host)[^:]*: )?"
         parts = re.compile(PARTS.get(it.subject, "$"))
         for name in sorted(rows.names):
@@ -178,9 +178,9 @@ def test_a_run_is_read():
     }
     grows = ["a datagram to the oldest", "a datagram to the newest"]
     assert [found["growth"][it] for it in grows] == [["915", "1,981", "16.9 for each more"], ["915", "981", "flat"]]
-    assert found["board"]["lwIP 2.1.3, `-Os`"] == ["-", "7,656"]
-    assert found["board"]["frames: lwIP 2.1.3, `-Os`"] == ["-", "10,984"]
-    assert found["board"]["`i686`"] == ["62,540"]
+    assert found["board"]["lwIP 2.1.3, -Os"] == ["-", "7,656"]
+    assert found["board"]["frames: lwIP 2.1.3, -Os"] == ["-", "10,984"]
+    assert found["board"]["i686"] == ["62,540"]
     assert found["tun"] == {
         "rounds": ["150"],
         "echoes a second: Linux": ["200,000"],
@@ -193,7 +193,7 @@ def test_times_have_their_version():
     module = tables()
     pages = {it.page: read(it.page) for it in (*module.TABLES.values(), *module.SENTENCES)}
     pages[PAGE] = re.sub(r"bsdudp(\s)\d+\.\d+\.\d+", r"bsdudp\g<1>0.0.1", pages[PAGE])
-    counts = {it: ["1"] * 4 for it in module.PEERS.values()}
+    counts = {module.plain(it): ["1"] * 4 for it in module.costs(read(PAGE), module.TABLES["peers"])}
     times = {f"times to those of the first row: {it}": ["1.00"] * 4 for it in counts}
     before, without, after = (
         module.with_run(pages, {"peers": rows})[PAGE].count("bsdudp 0.0.1") for rows in ({}, counts, counts | times)
