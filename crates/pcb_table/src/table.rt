@@ -335,22 +335,13 @@ impl Pcbs {
         self.blocks.set_block(at.index, at.block.disconnected());
     }
 
-    /// Tests the destination of a send, and returns it with 0.0.0.0 replaced by the machine's address and
-    /// 255.255.255.255 by its broadcast address. Nothing changes.
+    /// Tests the destination of a send from the socket that has this block, and returns it with 0.0.0.0 replaced by the
+    /// machine's address and 255.255.255.255 by its broadcast address. Nothing changes.
     ///
     /// # Errors
     ///
     /// Tested in this order: `IsConnected` if the socket is connected; `AddressNotAvailable` if the port is 0;
     /// `HostUnreachable`; `AddressInUse` if another socket has the same four values.
-    pub fn check_destination(&self, fd: u32, to: Addr) -> Result<Addr, Errno>
-        requires { IsOpen fd self.now }
-        ensures { ChecksDestination self.now fd to result }
-    {
-        let block = self.blocks.located(fd).block;
-        self.check_destination_of(&block, to)
-    }
-
-    /// `check_destination` of the socket that has this block.
     #[inline(always)]
     pub fn check_destination_of(&self, block: &Block, to: Addr) -> Result<Addr, Errno>
         requires { block_at block.now.fd self.now ≡ Some block.now }
@@ -403,17 +394,8 @@ impl Pcbs {
         }
     }
 
-    /// The source address of an open socket's packets to an address: its local address, if that is set; otherwise
-    /// 127.0.0.1 for packets to 127.0.0.1, and the machine's address for all others.
-    pub fn source_for(&self, fd: u32, ip: u32) -> u32
-        requires { IsOpen fd self.now }
-        ensures { SendsFrom self.now fd ip result }
-    {
-        let block = self.blocks.located(fd).block;
-        self.source_of(&block, ip)
-    }
-
-    /// `source_for` of the socket that has this block.
+    /// The source address of packets to an address from the socket that has this block: its local address, if that is
+    /// set; otherwise 127.0.0.1 for packets to 127.0.0.1, and the machine's address for all others.
     #[inline(always)]
     pub fn source_of(&self, block: &Block, ip: u32) -> u32
         requires { block_at block.now.fd self.now ≡ Some block.now }

@@ -1,12 +1,11 @@
 -- A checksum is right if the folded sum is 65,535.
-use Rattle.std.proofs.Common.{◌≡◌, ℕ, zero, suc, ◌+◌, ◌-◌, ◌*◌, ◌/◌, ◌%◌, ◌≤◌, Bool, true, false, ◌==◌, ◌++◌, List, take, refl, sym, ap, ◌∙◌, arith}
+use Rattle.std.proofs.Common.{◌≡◌, ℕ, zero, suc, ◌-◌, ◌≤◌, Bool, true, false, ◌==◌, ◌++◌, List, take, refl, sym, ap, ◌∙◌, arith}
 use Rattle.std.specs.Prelude.{◌||◌}
 use Rattle.std.proofs.lemmas.Bool.{eq-eqb, ne_eqb, eqb-true, eqb-false}
 use Rattle.flat_model.specs.Packets.Checksum.{checksum, fold16, folded_sum, word_sum}
 use Rattle.flat_model.specs.Packets.Header.{pseudo_header, u16_at}
 use Rattle.udp.specs.declared.header.Header.{Header}
-use Rattle.flat_model.proofs.Laws.{fold16-high}
-use Rattle.udp.specs.Inside.{has_right_sum, header_bytes, header_in}
+use Rattle.udp.specs.Inside.{has_right_sum, header_in}
 
 fold16-most : (n : ℕ) → fold16 n ≤ 65535
 fold16-most zero = omega arith
@@ -27,23 +26,3 @@ right_sum src dst s x h said given is =
     ∙ (λ j. sym given j || (folded_sum (pseudo_header src dst (said j).len ++ take (said j).len s) == 65535))
     ∙ ap (λ (k : Header). (k.sum == 0)
     || (folded_sum (pseudo_header src dst (u16_at 4 s) ++ take (u16_at 4 s) s) == 65535)) said
-
--- ---- sums of numbers; the high halves of the addresses can be added to the low ones
-
-pub pseudo_folded : (src dst n w : ℕ) → w ≡ src + dst + 17 + n → fold16 w ≡ folded_sum (pseudo_header src dst n)
-pseudo_folded src dst n w is =
-    let high : ℕ = src / 65536 + dst / 65536 in
-    let low : ℕ = src % 65536 + dst % 65536 + 17 + n in
-    let parts : w ≡ 65536 * high + low = omega (arith, is) in
-    let back : high + low ≡ word_sum (pseudo_header src dst n) = omega arith in
-    ap fold16 parts ∙ fold16-high high low ∙ ap fold16 back
-
-pub headers_folded : (src dst w : ℕ) (h : Header)
-    → w ≡ src + dst + 17 + h.len + (h.source + h.destination) + (h.len + h.sum)
-    → fold16 w ≡ folded_sum (pseudo_header src dst h.len ++ header_bytes h)
-headers_folded src dst w h is =
-    let high : ℕ = src / 65536 + dst / 65536 in
-    let low : ℕ = src % 65536 + dst % 65536 + 17 + h.len + (h.source + h.destination) + (h.len + h.sum) in
-    let parts : w ≡ 65536 * high + low = omega (arith, is) in
-    let back : high + low ≡ word_sum (pseudo_header src dst h.len ++ header_bytes h) = omega arith in
-    ap fold16 parts ∙ fold16-high high low ∙ ap fold16 back
