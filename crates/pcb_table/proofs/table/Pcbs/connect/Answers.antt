@@ -1,4 +1,4 @@
-use Rattle.std.proofs.Common.{◌≡◌, ℕ, List, Option, Some, None, set, ap, sym, subst, ◌∙◌, is_some, false, refl}
+use Rattle.std.proofs.Common.{◌≡◌, ℕ, List, Option, Some, set, ap, sym, subst, ◌∙◌, is_some, false, refl}
 use Rattle.flat_model.specs.Machine.Event.{Done, Connect, Refused}
 use Rattle.flat_model.specs.Packets.Header.{first_fault}
 use Rattle.pcb_table.specs.declared.block.Block.{Block}
@@ -14,7 +14,7 @@ use Rattle.pcb_table.proofs.Keeping.{connected_keeps, disconnected_fd, disconnec
 use Rattle.pcb_table.proofs.Steps.{closed, connect_refused, connect_step, table_of}
 use Rattle.pcb_table.proofs.Opened.{set_keeps_open}
 use Rattle.pcb_table.proofs.table.Pcbs.connect.Goals as goal
-use Rattle.pcb_table.proofs.table.Pcbs.connect.Goals.{After-set_block, After-set_block-2, In_default-destination_fault}
+use Rattle.pcb_table.proofs.table.Pcbs.connect.Goals.{After-destination_fault, After-set_block, After-set_block-2}
 
 pub returns-in_default-clause-step : goal.returns-in_default-clause-step
 returns-in_default-clause-step c = λ rest queues.
@@ -44,23 +44,22 @@ kept c =
           (subst (λ (cs : List Block). IsCached cs (forgotten c.args.fd c.self.inside.cache)) (sym (gone c)) is.1),
     )
 
-no_fault : (c : In_default-destination_fault)
+-- its faults, with the destination as it was read
+faults : (c : After-destination_fault)
     → first_fault (block_connect_faults (interface_config c.self.inside.interface) c.set_block.new.self
     (disconnected_block c.in-Some.at.block) (read_addr (interface_config c.self.inside.interface) c.args.address))
-    ≡ None
-no_fault c =
+    ≡ c.destination_fault.result
+faults c =
     (λ k. first_fault (block_connect_faults (interface_config c.self.inside.interface) c.set_block.new.self
     (sym c.disconnected-block.ensures k) (sym c.read-to.ensures k))) ∙ sym c.destination_fault.ensures
-    ∙ c.in_default-destination_fault.is
 
 opens : (c : After-set_block) → KeepsOpen
     (table_of c.self.inside.interface c.self.inside.blocks c.self.inside.last_port)
     (table_of c.self.inside.interface c.set_block.new.self c.self.inside.last_port)
 opens c =
-    let b = c.in-Some.at.block in
     set_keeps_open c.self.inside.interface c.self.inside.blocks c.set_block.new.self c.self.inside.last_port
-    c.self.inside.last_port c.args.fd c.in-Some.at.index b (disconnected_block b) _ c.in-Some.ensures
-    (disconnected_fd b) (gone c) refl
+    c.self.inside.last_port c.args.fd c.in-Some.at.index c.in-Some.at.block _ _ c.in-Some.ensures
+    (disconnected_fd c.in-Some.at.block) (gone c) refl
 
 -- ---- and then connected
 source_is : (c : After-set_block-2) → c.source-source.result
@@ -94,19 +93,13 @@ invariant_of-self c =
 
 pub returns-in-Some-destination_fault-clause-step : goal.returns-in-Some-destination_fault-clause-step
 returns-in-Some-destination_fault-clause-step c =
-    let i = c.self.inside.interface in
-    let last = c.self.inside.last_port in
-    let left = c.set_block.new.self in
+    let at = goal.at.returns-in-Some-destination_fault-clause-step c in
     let errno = c.in-Some-destination_fault.errno in
-    let fault : first_fault (block_connect_faults (interface_config i) left (disconnected_block c.in-Some.at.block)
-    (read_addr (interface_config i) c.args.address)) ≡ Some errno =
-    (λ k. first_fault (block_connect_faults (interface_config i) left (sym c.disconnected-block.ensures k)
-    (sym c.read-to.ensures k))) ∙ sym c.destination_fault.ensures ∙ c.in-Some-destination_fault.is in
-    subst (λ (t : Table). IsCall t (Connect c.args.fd c.args.address) (Refused errno) (table_of i left last))
-    c.self.view_is
-    (connect_refused i c.self.inside.blocks last c.args.fd c.in-Some.at.index c.in-Some.at.block c.self.invariant.0
-    c.in-Some.ensures left c.args.address errno
-    (gone (goal.at.returns-in-Some-destination_fault-clause-step c).After-set_block) fault)
+    subst (λ (t : Table). IsCall t (Connect c.args.fd c.args.address) (Refused errno)
+    (table_of c.self.inside.interface c.set_block.new.self c.self.inside.last_port)) c.self.view_is
+    (connect_refused c.self.inside.interface c.self.inside.blocks c.self.inside.last_port c.args.fd c.in-Some.at.index
+    c.in-Some.at.block c.self.invariant.0 c.in-Some.ensures c.set_block.new.self c.args.address errno
+    (gone at.After-set_block) (faults at.After-destination_fault ∙ c.in-Some-destination_fault.is))
 
 pub invariant_of-self-2 : goal.invariant_of-self-2
 invariant_of-self-2 c =
@@ -124,7 +117,8 @@ invariant_of-self-2 c =
     let unmet =
     subst (λ (k : ℕ). is_some (youngest_block 0 (record { local = Some k; port = me.port; peer = Some to }) left)
     ≡ false) (sym (source_is at.After-set_block-2))
-    (unmet_four (interface_config i) left me to (no_fault at.In_default-destination_fault)) in
+    (unmet_four (interface_config i) left me to
+    (faults at.After-destination_fault ∙ c.in_default-destination_fault.is)) in
     let free = no_four left last me.local me.port later _ source port to (source_is at.After-set_block-2) unmet
     (given at.After-set_block-2) in
     let done =
@@ -136,15 +130,13 @@ invariant_of-self-2 c =
 pub returns-clause-step : goal.returns-clause-step
 returns-clause-step c =
     let at = goal.at.returns-clause-step c in
-    let i = c.self.inside.interface in
-    let later = c.port_for-chosen.result.last in
-    let new = c.set_block-2.new.self in
-    subst (λ (t : Table). IsCall t (Connect c.args.fd c.args.address) Done (table_of i new later)) c.self.view_is
-    (connect_step i c.self.inside.blocks c.self.inside.last_port c.args.fd c.in-Some.at.index c.in-Some.at.block
-    c.self.invariant.0 c.in-Some.ensures c.set_block.new.self new c.args.address c.source-source.result
-    c.port_for-chosen.result.port later (gone at.After-set_block) (no_fault at.In_default-destination_fault)
-    (source_is at.After-set_block-2) (given at.After-set_block-2) (kept at.After-set_block).0
-    (there at.After-set_block) (written at.After-set_block-2))
+    subst (λ (t : Table). IsCall t (Connect c.args.fd c.args.address) Done
+    (table_of c.self.inside.interface c.set_block-2.new.self c.port_for-chosen.result.last)) c.self.view_is
+    (connect_step c.self.inside.interface c.self.inside.blocks c.self.inside.last_port c.args.fd c.in-Some.at.index
+    c.in-Some.at.block c.self.invariant.0 c.in-Some.ensures c.set_block.new.self c.set_block-2.new.self c.args.address
+    c.source-source.result c.port_for-chosen.result.port c.port_for-chosen.result.last (gone at.After-set_block)
+    (faults at.After-destination_fault ∙ c.in_default-destination_fault.is) (source_is at.After-set_block-2)
+    (given at.After-set_block-2) (kept at.After-set_block).0 (there at.After-set_block) (written at.After-set_block-2))
 
 pub returns-in-Some-destination_fault-clause-descriptors : goal.returns-in-Some-destination_fault-clause-descriptors
 returns-in-Some-destination_fault-clause-descriptors c =
@@ -154,13 +146,8 @@ returns-in-Some-destination_fault-clause-descriptors c =
 pub returns-clause-descriptors : goal.returns-clause-descriptors
 returns-clause-descriptors c =
     let at = goal.at.returns-clause-descriptors c in
-    let later = c.port_for-chosen.result.last in
-    let me : Block = disconnected_block c.in-Some.at.block in
-    let new = c.set_block-2.new.self in
-    let then =
-    set_keeps_open c.self.inside.interface c.set_block.new.self new c.self.inside.last_port later c.args.fd
-    c.in-Some.at.index me (connected_block c.source-source.result c.port_for-chosen.result.port
-    (read_addr (interface_config c.self.inside.interface) c.args.address) me) _ (there at.After-set_block) refl
-    (written at.After-set_block-2) refl in
-    subst (λ (t : Table). KeepsOpen t (table_of c.self.inside.interface new later)) c.self.view_is
-    (then ∙ opens at.After-set_block)
+    subst (λ (t : Table). KeepsOpen t
+    (table_of c.self.inside.interface c.set_block-2.new.self c.port_for-chosen.result.last)) c.self.view_is
+    (set_keeps_open c.self.inside.interface c.set_block.new.self c.set_block-2.new.self c.self.inside.last_port
+    c.port_for-chosen.result.last c.args.fd c.in-Some.at.index (disconnected_block c.in-Some.at.block) _ _
+    (there at.After-set_block) refl (written at.After-set_block-2) refl ∙ opens at.After-set_block)
