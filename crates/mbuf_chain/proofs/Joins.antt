@@ -13,7 +13,7 @@ use Rattle.mbuf_pool.specs.Store.{StoreView, is_out, mbuf_head, SetsHead, IsStor
 use Rattle.mbuf_pool.proofs.Laws.{sets_head, sets_twice}
 use Rattle.mbuf_chain.specs.declared.place.Place.{Place}
 use Rattle.mbuf_chain.specs.Chain.{Front, ChainView, chain_of, IsLive, IsPlace, with_chain, without, string, flat_bytes, alone}
-use Rattle.mbuf_chain.specs.Steps.{headless, joined}
+use Rattle.mbuf_chain.specs.Steps.{headless, joined, linked}
 use Rattle.mbuf_chain.specs.Inside.Cells.{weigh, weigh_all, is_at, one, len_at, entry_at, front_of, refers_at, first_of, read_chain, cells_from, view_of, IsLinked, IsFollower, AllFollow, IsChain, IsTotal, IsOff, AreSoundChains, IsFit, pool_of, IsPool, out_at, Freed, last_of}
 use Rattle.mbuf_chain.proofs.Maps.{get_there, remove-insert, two_to_one}
 use Rattle.mbuf_chain.proofs.Lists.{bit, on, off, small, is_at_same, chains_of, get-chains_of, heads_at, heads-tails, split_first, not_first, find_chain, few_out}
@@ -349,8 +349,7 @@ link_list s t x a next r (y ∷ ys) m h g last once after follow =
 pub record Joined (s t : StoreView) (a b added : ℕ) : Type 0 where
   pub off : IsOff t a added 0
   pub live : IsLive (pool_of t) a
-  pub map_is : pool_of t ≡ with_chain (without (pool_of s) b) a
-      (joined (chain_of (pool_of s) a) (chain_of (pool_of s) b))
+  pub map_is : pool_of t ≡ linked (pool_of s) a b
 
 -- if the first mbuf of a chain has no packet header and no next packet, no mbuf of it has
 pub all_follow : (s : StoreView) (l : List ℕ) → IsChain s l → IsFollower (mbuf_head s (first_of l)) → AllFollow s l
@@ -447,8 +446,7 @@ joined_made s t a b added last pool live_a live_b ne place is_last bare_b sets s
           ∙ (λ j. (two.shows_front j).entries ++ (two.shows_back j).entries)) i;
       cells = (two.shows_front i).cells ++ (two.shows_back i).cells;
     } in
-    let map_is : pool_of t ≡ with_chain (without (pool_of s) b) a
-    (joined (chain_of (pool_of s) a) (chain_of (pool_of s) b)) = λ j. record {
+    let map_is : pool_of t ≡ linked (pool_of s) a b = λ j. record {
       mbufs = r.outs.mbufs j;
       clusters = r.outs.clusters j;
       chains = (view_is t _ went.sound

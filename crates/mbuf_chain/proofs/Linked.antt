@@ -2,8 +2,8 @@
 use Rattle.std.proofs.Common.{◌≡◌, ◌≢◌, ℕ, ◌+◌, true, false, None, length, sym, ap, subst, ◌∙◌}
 use Rattle.mbuf_pool.specs.Store.{StoreView, mbuf_head, SetsHead, IsStore}
 use Rattle.mbuf_chain.specs.declared.place.Place.{Place}
-use Rattle.mbuf_chain.specs.Chain.{ChainView, PoolView, chain_of, IsLive, IsPlace, with_chain, without, string, alone}
-use Rattle.mbuf_chain.specs.Steps.{headless, joined}
+use Rattle.mbuf_chain.specs.Chain.{ChainView, PoolView, chain_of, IsLive, IsPlace, string, alone}
+use Rattle.mbuf_chain.specs.Steps.{headless, linked}
 use Rattle.mbuf_chain.specs.Inside.Access.{HasChain, HasMbuf}
 use Rattle.mbuf_chain.specs.Inside.Cells.{pool_of}
 use Rattle.mbuf_chain.proofs.Laws.Owners.{chain_here}
@@ -16,8 +16,7 @@ pub record Linkable (s t : StoreView) (a b added : ℕ) (last : Place) : Type 0 
   pub ends : last.index + 1 ≡ length (chain_of (pool_of t) a).entries
   pub bare : (chain_of (pool_of t) b).front ≡ alone false
   pub bytes : (chain_of (pool_of t) a).front.header ≡ true → added ≡ length (string (chain_of (pool_of t) b))
-  pub whole : with_chain (without (pool_of t) b) a (joined (chain_of (pool_of t) a) (chain_of (pool_of t) b))
-      ≡ with_chain (without (pool_of s) b) a (joined (chain_of (pool_of s) a) (chain_of (pool_of s) b))
+  pub whole : linked (pool_of t) a b ≡ linked (pool_of s) a b
 
 pub linkable : (s t u : StoreView) (a b added : ℕ) (last : Place) → HasMbuf s a last → HasChain s b → a ≢ b
     → last.index + 1 ≡ length (chain_of (pool_of s) a).entries

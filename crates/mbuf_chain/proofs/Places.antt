@@ -8,7 +8,7 @@ use Rattle.mbuf_pool.specs.Store.{StoreView, mbuf_head}
 use Rattle.mbuf_chain.specs.declared.place.Place.{Place}
 use Rattle.mbuf_chain.specs.declared.place.Segment.{Segment}
 use Rattle.mbuf_chain.specs.Chain.{Entry, ChainView, PoolView, chain_of, IsLive, IsPlace, with_chain, without, entry_of, alone}
-use Rattle.mbuf_chain.specs.Steps.{headless, joined}
+use Rattle.mbuf_chain.specs.Steps.{headless, joined, linked}
 use Rattle.mbuf_chain.specs.Inside.Access.{HasMbuf}
 use Rattle.mbuf_chain.specs.Inside.Cells.{weigh, one, front_of, first_of, IsLinked, IsChain, pool_of, IsPool}
 use Rattle.mbuf_chain.proofs.Maps.{remove-insert_any}
@@ -137,8 +137,7 @@ pub record Bared (p q : PoolView) (a b : ℕ) : Type 0 where
   pub back_live : IsLive q b
   pub front_same : chain_of q a ≡ chain_of p a
   pub bare : (chain_of q b).front ≡ alone false
-  pub whole : with_chain (without q b) a (joined (chain_of q a) (chain_of q b))
-      ≡ with_chain (without p b) a (joined (chain_of p a) (chain_of p b))
+  pub whole : linked q a b ≡ linked p a b
 
 pub bared : (p q : PoolView) (a b : ℕ) → a ≢ b → IsLive p a → IsLive p b → q ≡ with_chain p b (headless (chain_of p b))
     → Bared p q a b
@@ -166,8 +165,7 @@ get_after (x ∷ l) m (suc n) e = get_after l m n (omega arith)
 
 pub linked_place : (s : StoreView) (q : PoolView) (a b : ℕ) (last : Place) → IsPool s → IsLive (pool_of s) a
     → IsLive (pool_of s) b → last.index + 1 ≡ length (chain_of (pool_of s) a).entries
-    → q ≡ with_chain (without (pool_of s) b) a (joined (chain_of (pool_of s) a) (chain_of (pool_of s) b))
-    → IsPlace (chain_of q a) (record { index = last.index + 1; cell = b })
+    → q ≡ linked (pool_of s) a b → IsPlace (chain_of q a) (record { index = last.index + 1; cell = b })
 linked_place s q a b last pool live_a live_b is_last is =
     let l = live_cells s a pool live_a in
     let m = live_cells s b pool live_b in

@@ -1,6 +1,6 @@
 -- What contracts see of a pool of chains: a finite map from a chain's number to its entries, and the totals (this
 -- project's own; mbufs, clusters and their counts are those of TCP/IP Illustrated, volume 2, chapter 2).
-use Rattle.std.specs.Prelude.{◌≡◌, ℕ, ◌+◌, ◌-◌, Bool, false, List, [], ◌∷◌, ◌++◌, length, map, sum_by, count_by, Option, None, Some, unwrap_or, is_some, nat_eq, ◌==◌, if◌then◌else◌, refl, slice_get, slice_index_or, ◌<◌, ◌≤◌}
+use Rattle.std.specs.Prelude.{◌≡◌, ℕ, ◌+◌, ◌-◌, Bool, false, List, [], ◌∷◌, ◌++◌, length, map, sum_by, count_by, Option, None, Some, unwrap_or, is_some, nat_eq, ◌==◌, if◌then◌else◌, refl, slice_get, slice_index_or, ◌<◌, ◌≤◌, ◌⊎◌}
 use Rattle.std.specs.Coded.{Coded, code_by, coded×, coded_list, coded_ℕ, coded_bool, coded_option}
 use Rattle.std.specs.List.{range_with_len}
 use Rattle.std.specs.Option.{option_eq}
@@ -114,7 +114,10 @@ chain_of p c = unwrap_or (finmap.get p.chains c) no_chain
 abbrev pub IsLive : PoolView → ℕ → Type 0
 IsLive p c = finmap.get p.chains c ≡ Some (chain_of p c)
 
--- the entry at a place of a chain
+-- the bytes of a chain, and its entry at a place
+abbrev pub string_in : PoolView → ℕ → List ℕ
+string_in p c = string (chain_of p c)
+
 abbrev pub entry_in : PoolView → ℕ → Place → Entry
 entry_in p c at = entry_of (chain_of p c) at.index
 
@@ -133,6 +136,10 @@ reference_counts p = map (references p) (range_with_len 0 p.clusters)
 -- the number of clusters without references
 abbrev pub free_clusters : PoolView → ℕ
 free_clusters p = count_by (λ c. references p c == 0) (range_with_len 0 p.clusters)
+
+-- no mbuf is free, or no cluster: there is none for an mbuf on a cluster of its own
+abbrev pub LacksForCluster : PoolView → Type 0
+LacksForCluster p = (held_mbufs p ≡ p.mbufs) ⊎ (free_clusters p ≡ 0)
 
 -- no other mbuf shares the bytes of the entry's mbuf or cluster
 abbrev pub IsUnshared : PoolView → Entry → Type 0

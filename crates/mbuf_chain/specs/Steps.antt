@@ -1,7 +1,7 @@
 -- The effect of each step on a chain (this project's own).
 use Rattle.std.specs.Prelude.{ℕ, ◌+◌, ◌-◌, Bool, false, List, [], ◌∷◌, ◌++◌, length, Option, slice_set, take, drop}
 use Rattle.mbuf_chain.specs.declared.place.Place.{Place}
-use Rattle.mbuf_chain.specs.Chain.{Entry, ChainView, PoolView, alone, chain_of, with_chain}
+use Rattle.mbuf_chain.specs.Chain.{Entry, ChainView, PoolView, alone, chain_of, with_chain, without}
 
 -- ---- one entry
 -- `keep` of its bytes, after the first `skip`
@@ -41,6 +41,10 @@ with_entry v i e = record v { entries = slice_set v.entries i e }
 abbrev pub with_entry_in : PoolView → ℕ → Place → Entry → PoolView
 with_entry_in p c at e = with_chain p c (with_entry (chain_of p c) at.index e)
 
+-- the pool with other entries in a chain
+abbrev pub with_entries_in : PoolView → ℕ → List Entry → PoolView
+with_entries_in p c es = with_chain p c (record (chain_of p c) { entries = es })
+
 -- without the packet header and without the link in a train
 abbrev pub headless : ChainView → ChainView
 headless v = record v { front = alone false }
@@ -52,6 +56,10 @@ placed v after tag = record v { front = record v.front { after = after; tag = ta
 -- the entries of one chain, followed by those of another
 abbrev pub joined : ChainView → ChainView → ChainView
 joined v w = record v { entries = v.entries ++ w.entries; cells = v.cells ++ w.cells }
+
+-- the pool with chain d linked after the last mbuf of chain c
+abbrev pub linked : PoolView → ℕ → ℕ → PoolView
+linked p c d = with_chain (without p d) c (joined (chain_of p c) (chain_of p d))
 
 -- the first n entries, and the others
 abbrev pub first_part : ℕ → ChainView → ChainView

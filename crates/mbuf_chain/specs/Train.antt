@@ -61,13 +61,20 @@ pub record IsHeld (p : PoolView) (t : TrainView) : Type 0 where
   pub ends : follow p (suc t.len) t.first ≡ numbers p t
   pub last : t.last ≡ last_number (numbers p t)
 
+-- from p and t to q and u, chain c went into the train, or came out of it; no other owner's chain changed
+abbrev pub MovesIn : PoolView → TrainView → ℕ → PoolView → TrainView → Type 0
+MovesIn p t c q u = Moves p (c ∷ numbers p t) q (numbers q u)
+
+abbrev pub MovesOut : PoolView → TrainView → ℕ → PoolView → TrainView → Type 0
+MovesOut p t c q u = Moves p (numbers p t) q (c ∷ numbers q u)
+
 -- from p and t to q and u, chain c was inserted at index i with that tag
 pub record Inserts (p : PoolView) (t : TrainView) (i c tag : ℕ) (q : PoolView) (u : TrainView) : Type 0 where
   pub queued_packets : queued_packets q u
       ≡ insert (queued_packets p t) i (record { number = c; entries = (chain_of p c).entries; tag = tag })
   pub held : IsHeld q u
   pub len : u.len ≡ t.len + 1
-  pub moves : Moves p (c ∷ numbers p t) q (numbers q u)
+  pub moves : MovesIn p t c q u
   pub stands : slice_get (numbers q u) i ≡ Some c
   pub front : (k : ℕ) → k < i → slice_get (numbers q u) k ≡ slice_get (numbers p t) k
 
@@ -78,5 +85,5 @@ pub record Takes (p : PoolView) (t : TrainView) (i c tag : ℕ) (q : PoolView) (
   pub alone : (chain_of q c).front ≡ alone true
   pub held : IsHeld q u
   pub len : u.len + 1 ≡ t.len
-  pub moves : Moves p (numbers p t) q (c ∷ numbers q u)
+  pub moves : MovesOut p t c q u
   pub front : (k : ℕ) → k < i → slice_get (numbers q u) k ≡ slice_get (numbers p t) k

@@ -1,8 +1,8 @@
 //! Freeing, joining and cutting chains.
 ghost use Rattle.std.specs.Prelude.{◌≡◌, ◌≢◌, ℕ, ◌+◌, ◌<◌, ◌≤◌, true, IsTrue, Some, None, length, take, MatchOption, is_some, if◌then◌else◌};
 ghost use Rattle.mbuf_pool.specs.Store.{IsStore, is_out, mbuf_head};
-ghost use Rattle.mbuf_chain.specs.Chain.{IsPlace, chain_of, with_chain, without, string, room_start, room_end, leading_space, trailing_space, Adds, entry_in, HasLeadingSpace, HasTrailingSpace};
-ghost use Rattle.mbuf_chain.specs.Steps.{joined, first_part, second_part};
+ghost use Rattle.mbuf_chain.specs.Chain.{IsPlace, chain_of, with_chain, without, string_in, room_start, room_end, leading_space, trailing_space, Adds, entry_in, HasLeadingSpace, HasTrailingSpace};
+ghost use Rattle.mbuf_chain.specs.Steps.{linked, first_part, second_part};
 ghost use Rattle.mbuf_chain.specs.Inside.Access.{HasChain, HasMbuf};
 ghost use Rattle.mbuf_chain.specs.Inside.Cells.{IsPool, LeadsToEnd, pool_of, cells_from, weigh, one, len_at, last_of, packet_len};
 
@@ -16,7 +16,7 @@ use params::{MBUF_HEADER, MSIZE, PACKET_START};
 #[inline(always)]
 pub(crate) fn bytes_of(store: &Store, first: u32) -> u32
     requires { HasChain store.now first }
-    ensures { result ≡ length (string (chain_of (pool_of store.now) first)) }
+    ensures { result ≡ length (string_in (pool_of store.now) first) }
 {
     match store.head(first).packet {
         Some(packet) => packet.len,
@@ -163,7 +163,7 @@ pub(crate) fn added_by(store: &Store, front: u32, back: u32) -> u32
     requires front { HasChain store.now front }
     requires back { HasChain store.now back }
     ensures { (chain_of (pool_of store.now) front).front.header ≡ true →
-        result ≡ length (string (chain_of (pool_of store.now) back)) }
+        result ≡ length (string_in (pool_of store.now) back) }
 {
     if has_header(store, front) {
         bytes_of(store, back)
@@ -180,11 +180,9 @@ pub(crate) fn link(store: &mut Store, front: u32, last: Place, back: u32, added:
     requires apart { front ≢ back }
     requires last { last.index + 1 ≡ length (chain_of (pool_of store.old) front).entries }
     requires bytes { (chain_of (pool_of store.old) front).front.header ≡ true →
-        added ≡ length (string (chain_of (pool_of store.old) back)) }
+        added ≡ length (string_in (pool_of store.old) back) }
     ensures pool { IsPool store.new }
-    ensures change { pool_of store.new ≡
-        with_chain (without (pool_of store.old) back) front
-        (joined (chain_of (pool_of store.old) front) (chain_of (pool_of store.old) back)) }
+    ensures change { pool_of store.new ≡ linked (pool_of store.old) front back }
     ensures place { IsPlace (chain_of (pool_of store.new) front) result }
     ensures index { result.index ≡ last.index + 1 }
 {

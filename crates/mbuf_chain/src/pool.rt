@@ -1,12 +1,12 @@
 //! The pool.
-ghost use Rattle.std.specs.Prelude.{◌≡◌, ◌≢◌, ℕ, ◌+◌, ◌-◌, ◌^◌, ◌<◌, ◌≤◌, ◌⊎◌, true, false, None, Some, length, sum, fold, max, IfOk, OnOk, OnErr, IsSome, IfSome, MatchOption, if◌then◌else◌, take, drop};
+ghost use Rattle.std.specs.Prelude.{◌≡◌, ◌≢◌, ℕ, ◌+◌, ◌-◌, ◌^◌, ◌<◌, ◌≤◌, true, false, None, Some, length, sum, fold, max, IfOk, OnOk, OnErr, IsSome, IfSome, MatchOption, if◌then◌else◌, take, drop};
 ghost use Rattle.std.specs.FinMap as finmap;
 ghost use Rattle.params.specs.declared.TheConstants.{MBUF_HEADER, MCLBYTES, MSIZE};
 ghost use Rattle.mbuf_pool.specs.Store.{mbufs_out, cluster_count};
-ghost use Rattle.mbuf_chain.specs.Chain.{IsLive, IsPlace, alone, chain_of, with_chain, without, held_mbufs, references, reference_counts, free_clusters, string, layout, Adds, IsUnshared, room_start, room_end, leading_space, trailing_space, entry_in, HasLeadingSpace, HasTrailingSpace};
+ghost use Rattle.mbuf_chain.specs.Chain.{IsLive, IsPlace, alone, chain_of, with_chain, without, held_mbufs, references, reference_counts, free_clusters, LacksForCluster, string_in, layout, Adds, IsUnshared, room_start, room_end, leading_space, trailing_space, entry_in, HasLeadingSpace, HasTrailingSpace};
 ghost use Rattle.mbuf_chain.specs.Heads.{heads};
 ghost use Rattle.mbuf_chain.specs.Pieces.{chain_pieces};
-ghost use Rattle.mbuf_chain.specs.Steps.{one_mbuf, empty_entry, narrowed, with_front, with_back, overwritten, joined, placed, first_part, second_part, with_entry_in};
+ghost use Rattle.mbuf_chain.specs.Steps.{one_mbuf, empty_entry, narrowed, with_front, with_back, overwritten, joined, placed, first_part, second_part, with_entry_in, linked};
 ghost use Rattle.mbuf_chain.specs.Frames.{IsBounded};
 ghost use Rattle.mbuf_chain.specs.Inside.Cells.{head_before, only_head};
 
@@ -179,7 +179,7 @@ impl Pool {
         requires free { held_mbufs self.old < self.old.mbufs }
         requires back { IsLive self.old back }
         requires bare { (chain_of self.old back).front ≡ alone false }
-        requires len { len ≡ length (string (chain_of self.old back)) }
+        requires len { len ≡ length (string_in self.old back) }
         ensures { Adds (without self.old back) self.new result (joined
             (one_mbuf true (record { bytes = bytes.now; start = start; cluster = None }) result)
             (chain_of self.old back)) }
@@ -230,7 +230,7 @@ impl Pool {
     #[inline(always)]
     pub fn len(&self, chain: &Chain) -> u32
         requires { IsLive self.now chain.now }
-        ensures { result ≡ length (string (chain_of self.now chain.now)) }
+        ensures { result ≡ length (string_in self.now chain.now) }
     {
         links::bytes_of(&self.store, chain.first)
     }
@@ -492,8 +492,7 @@ impl Pool {
             × Adds self.old self.new c (one_mbuf header (empty_entry start (Some d)) c)) }
         ensures free { OnOk result (held_mbufs self.old < self.old.mbufs) }
         ensures cluster { OnOk result (0 < free_clusters self.old) }
-        ensures err { OnErr result ((held_mbufs self.old ≡ self.old.mbufs) ⊎
-            (free_clusters self.old ≡ 0)) }
+        ensures err { OnErr result (LacksForCluster self.old) }
         ensures same { OnErr result (self.new ≡ self.old) }
     {
         self.new_cluster_with(header, start, &[])
@@ -516,8 +515,7 @@ impl Pool {
             (one_mbuf header (record { bytes = bytes.now; start = start; cluster = Some d }) c)) }
         ensures free { OnOk result (held_mbufs self.old < self.old.mbufs) }
         ensures cluster { OnOk result (0 < free_clusters self.old) }
-        ensures err { OnErr result ((held_mbufs self.old ≡ self.old.mbufs) ⊎
-            (free_clusters self.old ≡ 0)) }
+        ensures err { OnErr result (LacksForCluster self.old) }
         ensures same { OnErr result (self.new ≡ self.old) }
     {
         match self.store.get_cluster() {
@@ -552,9 +550,7 @@ impl Pool {
         requires apart { chain.now ≢ back }
         requires place { IsPlace (chain_of self.old chain.now) last }
         requires last { last.index + 1 ≡ length (chain_of self.old chain.now).entries }
-        ensures change { self.new ≡
-            with_chain (without self.old back) chain.now
-            (joined (chain_of self.old chain.now) (chain_of self.old back)) }
+        ensures change { self.new ≡ linked self.old chain.now back }
         ensures place { IsPlace (chain_of self.new chain.now) result }
         ensures index { result.index ≡ last.index + 1 }
     {
@@ -571,10 +567,8 @@ impl Pool {
         requires apart { chain.now ≢ back }
         requires place { IsPlace (chain_of self.old chain.now) last }
         requires last { last.index + 1 ≡ length (chain_of self.old chain.now).entries }
-        requires len { len ≡ length (string (chain_of self.old back)) }
-        ensures change { self.new ≡
-            with_chain (without self.old back) chain.now
-            (joined (chain_of self.old chain.now) (chain_of self.old back)) }
+        requires len { len ≡ length (string_in self.old back) }
+        ensures change { self.new ≡ linked self.old chain.now back }
         ensures place { IsPlace (chain_of self.new chain.now) result }
         ensures index { result.index ≡ last.index + 1 }
     {

@@ -1,11 +1,11 @@
 //! Trains of chains.
 
-ghost use Rattle.std.specs.Prelude.{◌≡◌, ◌==◌, ◌+◌, ◌<◌, ◌≤◌, [], ◌∷◌, true, Some, None, MatchOption, length, insert, remove, slice_get};
+ghost use Rattle.std.specs.Prelude.{◌≡◌, ◌==◌, ◌+◌, ◌<◌, ◌≤◌, [], true, Some, None, MatchOption, length, insert, remove, slice_get};
 ghost use Rattle.mbuf_chain.specs.Chain.{IsLive, chain_of, flat_bytes, alone};
 ghost use Rattle.mbuf_chain.specs.Owners.{times_among, Moves};
 ghost use Rattle.mbuf_chain.specs.Heads.{heads, nth_heads};
 ghost use Rattle.mbuf_chain.specs.Pieces.{pieces_of};
-ghost use Rattle.mbuf_chain.specs.Train.{queued_packets, queued_packet_at, numbers, IsQueuedPlace, IsHeld, Inserts, Takes};
+ghost use Rattle.mbuf_chain.specs.Train.{queued_packets, queued_packet_at, numbers, IsQueuedPlace, IsHeld, Inserts, Takes, MovesIn, MovesOut};
 
 use crate::chain::Chain;
 use crate::pieces::{MbufHeads, Pieces};
@@ -79,8 +79,7 @@ impl Train {
             (record { number = chain; entries = (chain_of pool.old chain).entries; tag = tag }) }
         ensures held { IsHeld pool.new self.new }
         ensures len { self.new.len ≡ self.old.len + 1 }
-        ensures moves { Moves pool.old (chain ∷ numbers pool.old self.old) pool.new
-            (numbers pool.new self.new) }
+        ensures moves { MovesIn pool.old self.old chain pool.new self.new }
     {
         let number = chain.into_number();
         if i == 0 {
@@ -116,8 +115,7 @@ impl Train {
         ensures kept { IsQueuedPlace pool.new self.new at }
         ensures held { IsHeld pool.new self.new }
         ensures len { self.new.len ≡ self.old.len + 1 }
-        ensures moves { Moves pool.old (chain ∷ numbers pool.old self.old) pool.new
-            (numbers pool.new self.new) }
+        ensures moves { MovesIn pool.old self.old chain pool.new self.new }
     {
         let number = chain.into_number();
         self.insert_next(pool, at, number, tag)
@@ -138,8 +136,7 @@ impl Train {
         ensures alone { (chain_of pool.new result.0).front ≡ alone true }
         ensures held { IsHeld pool.new self.new }
         ensures len { self.new.len + 1 ≡ self.old.len }
-        ensures moves { Moves pool.old (numbers pool.old self.old) pool.new
-            (result.0 ∷ numbers pool.new self.new) }
+        ensures moves { MovesOut pool.old self.old result.0 pool.new self.new }
     {
         let (number, tag) = if i == 0 {
             self.take_first(pool)
@@ -171,8 +168,7 @@ impl Train {
         ensures kept { IsQueuedPlace pool.new self.new at }
         ensures held { IsHeld pool.new self.new }
         ensures len { self.new.len + 1 ≡ self.old.len }
-        ensures moves { Moves pool.old (numbers pool.old self.old) pool.new
-            (result.0 ∷ numbers pool.new self.new) }
+        ensures moves { MovesOut pool.old self.old result.0 pool.new self.new }
     {
         let (number, tag) = self.take_next(pool, at);
         (Chain::from_number(number), tag)

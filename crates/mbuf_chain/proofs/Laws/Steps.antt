@@ -1,14 +1,14 @@
 -- What a caller knows of a pool after one step.
-use Rattle.std.proofs.Common.{◌≡◌, ◌≢◌, ℕ, ◌+◌, length, Bool, Result, Ok, Option, Some, unwrap_or, sym, ap, ◌∙◌, arith, subst, inl, inr, None}
+use Rattle.std.proofs.Common.{◌≡◌, ◌≢◌, ℕ, length, Bool, Result, Ok, Option, Some, unwrap_or, sym, ap, ◌∙◌, arith, subst, inl, inr, None}
 use Rattle.std.specs.FinMap as finmap
 use Rattle.std.specs.FinMap.{FinMap}
 use Rattle.std.specs.Ordering.{nat_cmp}
 use Rattle.std.proofs.lemmas.Bool.{cases_eq}
 use Rattle.std.proofs.lemmas.Option.{none-some}
-use Rattle.std.proofs.lemmas.List.{length-append, length-set}
+use Rattle.std.proofs.lemmas.List.{length-set}
 use Rattle.mbuf_chain.specs.declared.place.Place.{Place}
 use Rattle.mbuf_chain.specs.Chain.{Entry, ChainView, PoolView, chain_of, no_chain, entry_of, IsLive, IsPlace, with_chain, without, Adds}
-use Rattle.mbuf_chain.specs.Steps.{one_mbuf, joined, with_entry}
+use Rattle.mbuf_chain.specs.Steps.{one_mbuf, joined, linked, with_entry}
 use Rattle.mbuf_chain.proofs.Maps.{same, get_here, get_there, get_gone, get_left, insert-insert, remove-insert, remove-insert_any}
 use Rattle.std.specs.Result.{IfOk}
 use Rattle.mbuf_chain.proofs.Laws.Owners.{live_here, live_with, shown_with, shown_adds, kept_with}
@@ -31,18 +31,6 @@ live_is p k v is = is ∙ ap (λ (w : ChainView). Some w) (sym (ap (λ (o : Opti
 pub live_without : (p q : PoolView) (c : ℕ) → q ≡ without p c → (k : ℕ) → k ≢ c → IsLive p k → IsLive q k
 live_without p q c is k ne live =
     live_is q k (chain_of p k) (ap (λ (r : PoolView). finmap.get r.chains k) is ∙ get_left p.chains c k ne ∙ live)
-
--- the number of mbufs of a chain after another is linked to it
-pub count_joined : (p q r : PoolView) (c d : ℕ) (w : ChainView) → Adds p q d w
-    → r ≡ with_chain (without q d) c (joined (chain_of q c) (chain_of q d)) → c ≢ d
-    → length (chain_of r c).entries ≡ length (chain_of p c).entries + length w.entries
-count_joined p q r c d w a is ne =
-    let front : chain_of q c ≡ chain_of p c =
-    ap (λ (o : Option ChainView). unwrap_or o no_chain)
-    (ap (λ (s : PoolView). finmap.get s.chains c) a.pool ∙ get_there p.chains d w c ne) in
-    ap (λ (v : ChainView). length v.entries) (shown_with (without q d) r c (joined (chain_of q c) (chain_of q d)) is)
-    ∙ length-append (chain_of q c).entries (chain_of q d).entries
-    ∙ (λ i. length (front i).entries + length (shown_with p q d w a.pool i).entries)
 
 -- a place stays valid if an entry is replaced
 pub place_kept : (v : ChainView) (i : ℕ) (e : Entry) (at : Place) → IsPlace v at → IsPlace (with_entry v i e) at
@@ -71,19 +59,9 @@ pub kept_adds : {p q : PoolView} {d : ℕ} {w : ChainView} (k : ℕ) → Adds p 
 kept_adds {p} {q} {d} {w} k a live =
     ap (λ (s : PoolView). finmap.get s.chains k) a.pool ∙ get_there p.chains d w k (apart p q d w a k live)
 
--- a new chain was linked after c
-pub kept_link : (p q r : PoolView) (k c d : ℕ) (v w : ChainView) → Adds p q d w → r ≡ with_chain (without q d) c v
-    → IsLive p k → k ≢ c → finmap.get r.chains k ≡ finmap.get p.chains k
-kept_link p q r k c d v w a is live ne =
-    ap (λ (s : PoolView). finmap.get s.chains k) is ∙ get_there (finmap.remove q.chains d) c v k ne
-    ∙ get_left q.chains d k (apart p q d w a k live) ∙ kept_adds k a live
-
 -- two pools with the same map entry at a number have the same chain there
 pub kept_chain : (p r : PoolView) (k : ℕ) → finmap.get r.chains k ≡ finmap.get p.chains k → chain_of r k ≡ chain_of p k
 kept_chain p r k is = ap (λ (o : Option ChainView). unwrap_or o no_chain) is
-
-pub kept_live : (p r : PoolView) (k : ℕ) → finmap.get r.chains k ≡ finmap.get p.chains k → IsLive p k → IsLive r k
-kept_live p r k is live = is ∙ live ∙ ap (λ (v : ChainView). Some v) (sym (kept_chain p r k is))
 
 pub kept_place : (p r : PoolView) (k : ℕ) (at : Place) → finmap.get r.chains k ≡ finmap.get p.chains k
     → IsPlace (chain_of p k) at → IsPlace (chain_of r k) at
@@ -143,8 +121,7 @@ adds_in_place p q c w is = record {
 
 -- a new chain was linked after it
 pub linked_new : (p q r : PoolView) (c d : ℕ) (w : ChainView) → IsLive p c → Adds p q d w
-    → r ≡ with_chain (without q d) c (joined (chain_of q c) (chain_of q d))
-    → r ≡ with_chain p c (joined (chain_of p c) w)
+    → r ≡ linked q c d → r ≡ with_chain p c (joined (chain_of p c) w)
 linked_new p q r c d w live a is =
     is ∙ (λ i. with_chain (adds_undone (without q d) a (λ _. without q d) i) c
     (joined (kept_with p q d w c a.pool (apart p q d w a c live) i) (shown_adds a i)))
@@ -163,8 +140,7 @@ replaced m c d w u = same _ _ (λ q. elim (cases_eq q d) [
 ])
 
 pub linked_front : (p q r : PoolView) (c d : ℕ) (w : ChainView) → IsLive p c → Adds p q d w
-    → r ≡ with_chain (without q c) d (joined (chain_of q d) (chain_of q c))
-    → Adds (without p c) r d (joined w (chain_of p c))
+    → r ≡ linked q d c → Adds (without p c) r d (joined w (chain_of p c))
 linked_front p q r c d w live a is =
     let ne : c ≢ d = apart p q d w a c live in
     record {

@@ -1,9 +1,9 @@
-use Rattle.std.proofs.Common.{◌≡◌, ℕ, ◌<◌, ◌⊎◌, Some, inl, inr, arith, sym, ap, subst, ◌∙◌, length}
+use Rattle.std.proofs.Common.{◌≡◌, ℕ, ◌<◌, Some, inl, inr, arith, sym, ap, subst, ◌∙◌, length}
 use Rattle.std.proofs.lemmas.Option.{slice_get_within}
 use Rattle.mbuf_pool.specs.Cells.{Head}
 use Rattle.mbuf_pool.specs.Store.{StoreView, mbufs_out}
 use Rattle.mbuf_pool.proofs.Laws.{free_or_out}
-use Rattle.mbuf_chain.specs.Chain.{PoolView, Adds, free_clusters, held_mbufs, references}
+use Rattle.mbuf_chain.specs.Chain.{PoolView, Adds, free_clusters, LacksForCluster, held_mbufs, references}
 use Rattle.mbuf_chain.specs.Steps.{one_mbuf}
 use Rattle.mbuf_chain.specs.Inside.Cells.{Taken, IsPool, pool_of}
 use Rattle.mbuf_chain.proofs.Made.{none_free, one_free_beside, given_back, cluster_free, free_are, was_unreferenced}
@@ -46,8 +46,7 @@ returns-in-Ok-get_with-clause-ok c =
 
 pub returns-in-Err-clause-err : goal.returns-in-Err-clause-err
 returns-in-Err-clause-err c =
-    subst (λ (p : PoolView). (held_mbufs p ≡ p.mbufs) ⊎ (free_clusters p ≡ 0)) c.self.view_is
-    (inr (free_are _ c.self.invariant ∙ c.in-Err.ensures.err))
+    subst LacksForCluster c.self.view_is (inr (free_are _ c.self.invariant ∙ c.in-Err.ensures.err))
 
 pub returns-in-Ok-get_with-clause-free : goal.returns-in-Ok-get_with-clause-free
 returns-in-Ok-get_with-clause-free c =
@@ -66,7 +65,7 @@ invariant_of-self-in-Err-get_with c =
 
 pub returns-in-Err-get_with-clause-err : goal.returns-in-Err-get_with-clause-err
 returns-in-Err-get_with-clause-err c =
-    subst (λ (p : PoolView). (held_mbufs p ≡ p.mbufs) ⊎ (free_clusters p ≡ 0)) c.self.view_is
+    subst LacksForCluster c.self.view_is
     (let none : mbufs_out c.get_cluster.new.self ≡ length c.get_cluster.new.self.mbufs =
     omega (arith, free_or_out c.get_cluster.new.self, c.in-Err-get_with.ensures.err) in
     inl (none_free _ c.self.invariant (
