@@ -1,13 +1,12 @@
 -- Bytes that fill one cluster.
-use Rattle.std.proofs.Common.{◌≡◌, ◌⊎◌, ℕ, ◌-◌, ◌<◌, ◌≤◌, Bool, true, List, [], ◌∷◌, length, take, count_by, Some, refl, sym, ap, ◌∙◌, subst, arith, inl, inr}
+use Rattle.std.proofs.Common.{◌≡◌, ℕ, ◌-◌, ◌<◌, ◌≤◌, Bool, true, List, [], ◌∷◌, length, take, count_by, Some, refl, sym, ap, ◌∙◌, subst, arith, inl, inr}
 use Rattle.std.proofs.lemmas.List.{take_all}
 use Rattle.std.proofs.lemmas.Option.{same_Some}
 use Rattle.flat_model.specs.Amounts.Layout.{Room, Cluster, is_cluster}
-use Rattle.mbuf_chain.specs.Chain.{PoolView, alone, free_clusters, held_mbufs, references, Adds}
+use Rattle.mbuf_chain.specs.Chain.{PoolView, LacksForCluster, free_clusters, held_mbufs, references, Adds}
 use Rattle.mbuf_chain.specs.Owners.{times_among}
 use Rattle.mbuf_chain.specs.Steps.{one_mbuf}
-use Rattle.chain_ops.specs.Makes.{Makes}
-use Rattle.chain_ops.specs.Stored.{AreFree, Has, Lacks, rooms_for, stored_first}
+use Rattle.chain_ops.specs.Stored.{Has, Lacks, Stores, rooms_for, stored_first}
 use Rattle.chain_ops.proofs.Laws.Makes.{makes_new}
 use Rattle.chain_ops.proofs.Laws.Rooms.{one_cluster}
 use Rattle.chain_ops.proofs.Stored.{free_more, none_free}
@@ -22,15 +21,14 @@ module _ (large n : ℕ) (low : large ≤ 56) (many : 208 ≤ n) (few : n ≤ 20
     omega (arith, cluster, ap (count_by is_cluster) rooms),
   )
 
-  pub lacks : (p : PoolView) → (held_mbufs p ≡ p.mbufs) ⊎ (free_clusters p ≡ 0) → Lacks p (rooms_for large n)
+  pub lacks : (p : PoolView) → LacksForCluster p → Lacks p (rooms_for large n)
   lacks p (inl e) = inl (omega (arith, e, ap (λ (rs : List Room). length rs) rooms))
   lacks p (inr e) = inr (omega (arith, e, ap (count_by is_cluster) rooms))
 
 pub filled_one : (p q : PoolView) (d k large : ℕ) (ends : Bool) (bytes : List ℕ) → large ≤ 56 → 208 ≤ length bytes
     → length bytes ≤ 2048 - large → k < p.clusters → references p k ≡ 0
     → Adds p q d (one_mbuf true (record { bytes = bytes; start = large; cluster = Some k }) d)
-    → (cs : List ℕ) × AreFree p cs × (length cs ≡ count_by is_cluster (rooms_for large (length bytes)))
-    × Makes p q d (alone true) (stored_first large ends cs (rooms_for large (length bytes)) bytes)
+    → Stores p q d large ends (rooms_for large (length bytes)) bytes
 filled_one p q d k large ends bytes low many few exists none adds =
     let n : ℕ = length bytes in
     let rooms : rooms_for large n ≡ Cluster n ∷ [] = one_cluster large n low many few in

@@ -5,7 +5,7 @@ use Rattle.std.proofs.lemmas.Bool.{cond-true, cond-false, lt-ltb, le-ltb, le-leb
 use Rattle.std.proofs.lemmas.List.{take_all, take-set-le, take_more, get_or-set_same, length-set, length-append, length-take}
 use Rattle.mbuf_chain.specs.declared.place.Place.{Place}
 use Rattle.mbuf_chain.specs.Chain.{Entry, Front, ChainView, PoolView, alone, entry_of, no_entry, chain_of, trailing_space, leading_space, room_end, HasTrailingSpace, IsLive, IsPlace, with_chain, without, Adds, flat_bytes}
-use Rattle.mbuf_chain.specs.Steps.{first_part, narrowed, with_front, with_back, with_entry, one_mbuf, empty_entry, joined}
+use Rattle.mbuf_chain.specs.Steps.{first_part, narrowed, with_front, with_back, with_entry, one_mbuf, empty_entry, joined, linked}
 use Rattle.chain_ops.specs.Joins.{filled_up, cat}
 use Rattle.chain_ops.specs.Pulls.{has_room, moved}
 use Rattle.chain_ops.specs.Prepends.{prepended, prepended_front, prepend_need}
@@ -138,17 +138,14 @@ prepended_in p q c at xs place first fits is =
 
 -- a chain linked after a new one, with the chains' numbers given by equations
 linked_as : (p r t : PoolView) (c c' d d' : ℕ) (w : ChainView) → c' ≡ c → d' ≡ d → IsLive p c → Adds p r d w
-    → t ≡ with_chain (without r c') d' (joined (chain_of r d') (chain_of r c'))
-    → Adds (without p c) t d' (joined w (chain_of p c))
+    → t ≡ linked r d' c' → Adds (without p c) t d' (joined w (chain_of p c))
 linked_as p r t c c' d d' w ec ed live a is =
-    linked_front p r t c d' w live (subst (λ (k : ℕ). Adds p r k w) (sym ed) a)
-    (is ∙ ap (λ (k : ℕ). with_chain (without r k) d' (joined (chain_of r d') (chain_of r k))) ec)
+    linked_front p r t c d' w live (subst (λ (k : ℕ). Adds p r k w) (sym ed) a) (is ∙ ap (linked r d') ec)
 
 -- bytes written into a new mbuf before the chain
 pub prepended_new : (p r t : PoolView) (c c' d d' start : ℕ) (h : Bool) (xs : List ℕ) → h ≡ (chain_of p c).front.header
     → leading_space (chain_of p c) 0 < length xs → start ≡ at_end h (length xs) → c' ≡ c → d' ≡ d → IsLive p c
-    → Adds p r d (one_mbuf h (with_back (empty_entry start None) xs) d)
-    → t ≡ with_chain (without r c') d' (joined (chain_of r d') (chain_of r c'))
+    → Adds p r d (one_mbuf h (with_back (empty_entry start None) xs) d) → t ≡ linked r d' c'
     → Makes (without p c) t d' (prepended_front (chain_of p c) (length xs)) (prepended (chain_of p c) xs)
 prepended_new p r t c c' d d' start h xs eh lacks at ec ed live a is =
     let v : ChainView = chain_of p c in

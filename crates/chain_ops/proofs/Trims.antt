@@ -4,26 +4,22 @@ use Rattle.std.specs.Prelude.{slice_set}
 use Rattle.std.proofs.lemmas.List.{take_all, take-append-drop, length-set}
 use Rattle.mbuf_chain.specs.declared.place.Place.{Place}
 use Rattle.mbuf_chain.specs.Chain.{Entry, ChainView, PoolView, chain_of, entry_of, IsLive, IsPlace, with_chain}
-use Rattle.mbuf_chain.specs.Steps.{with_entry, narrowed}
+use Rattle.mbuf_chain.specs.Steps.{with_entry, with_entries_in, narrowed}
 use Rattle.mbuf_chain.proofs.Laws.Maps.{insert-insert, insert_same}
 use Rattle.mbuf_chain.proofs.Laws.Owners.{shown_with}
 use Rattle.chain_ops.specs.Trims.{without_first, only_first}
 use Rattle.chain_ops.proofs.Lists.{at_entry, walk_set, none_after}
 
--- the pool with other entries for chain c
-abbrev pub changed : PoolView → ℕ → List Entry → PoolView
-changed p c es = with_chain p c (record (chain_of p c) { entries = es })
-
-pub changed_none : (p : PoolView) (c : ℕ) → IsLive p c → p ≡ changed p c (chain_of p c).entries
+pub changed_none : (p : PoolView) (c : ℕ) → IsLive p c → p ≡ with_entries_in p c (chain_of p c).entries
 changed_none p c live =
     let same : with_chain p c (chain_of p c) ≡ p =
     λ i. record { mbufs = p.mbufs; clusters = p.clusters; chains = insert_same p.chains c (chain_of p c) live i } in
     sym same
 
 -- one more entry was changed
-pub changed_entry : (p q r : PoolView) (c i : ℕ) (e : Entry) → q ≡ changed p c (chain_of q c).entries
+pub changed_entry : (p q r : PoolView) (c i : ℕ) (e : Entry) → q ≡ with_entries_in p c (chain_of q c).entries
     → r ≡ with_chain q c (with_entry (chain_of q c) i e)
-    → r ≡ changed p c (slice_set (chain_of q c).entries i e)
+    → r ≡ with_entries_in p c (slice_set (chain_of q c).entries i e)
 changed_entry p q r c i e was is =
     let v : ChainView = record (chain_of p c) { entries = (chain_of q c).entries } in
     let shown : chain_of q c ≡ v = shown_with p q c v was in
@@ -132,15 +128,16 @@ keep_all q r c at left kept len next place is cut step nx =
     (λ j. take (nx j) (now j) ++ only_first (left - kept) (drop (nx j) (now j)))
     ∙ keep_step (chain_of q c) at left kept len place is cut
 
-pub changed_step : (p q r : PoolView) (c i : ℕ) (e : Entry) → q ≡ changed p c (chain_of q c).entries
-    → r ≡ with_chain q c (with_entry (chain_of q c) i e) → r ≡ changed p c (chain_of r c).entries
-changed_step p q r c i e was is = changed_entry p q r c i e was is ∙ ap (changed p c) (sym (entries_now q r c i e is))
+pub changed_step : (p q r : PoolView) (c i : ℕ) (e : Entry) → q ≡ with_entries_in p c (chain_of q c).entries
+    → r ≡ with_chain q c (with_entry (chain_of q c) i e) → r ≡ with_entries_in p c (chain_of r c).entries
+changed_step p q r c i e was is =
+    changed_entry p q r c i e was is ∙ ap (with_entries_in p c) (sym (entries_now q r c i e is))
 
 -- all bytes to remove are in the first mbuf
 pub trim_first : (p q : PoolView) (c : ℕ) (at : Place) (n len : ℕ) → IsLive p c → IsPlace (chain_of p c) at
     → at.index ≡ 0 → len ≡ length (entry_of (chain_of p c) at.index).bytes → n ≤ len
     → q ≡ with_chain p c (with_entry (chain_of p c) at.index (narrowed (entry_of (chain_of p c) at.index) n (len - n)))
-    → q ≡ changed p c (without_first n (chain_of p c).entries)
+    → q ≡ with_entries_in p c (without_first n (chain_of p c).entries)
 trim_first p q c at n len live place first is within step =
     let es : List Entry = (chain_of q c).entries in
     let i : ℕ = at.index + 1 in
@@ -150,5 +147,5 @@ trim_first p q c at n len live place first is within step =
     ∙ ap (λ (xs : List Entry). take i es ++ xs) (trim_nothing (drop i es)) ∙ take-append-drop i es in
     let all = trim_all p q c at n n len i place is (omega arith) step refl in
     changed_step p p q c at.index (narrowed (entry_of (chain_of p c) at.index) n (len - n)) (changed_none p c live) step
-    ∙ ap (changed p c) (sym same ∙ all
+    ∙ ap (with_entries_in p c) (sym same ∙ all
     ∙ ap (λ (k : ℕ). take k (chain_of p c).entries ++ without_first n (drop k (chain_of p c).entries)) first)

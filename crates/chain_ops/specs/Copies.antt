@@ -1,7 +1,9 @@
 -- Copies of chains that share clusters (m_copym; TCP/IP Illustrated, volume 2, chapter 2).
-use Rattle.std.specs.Prelude.{ℕ, ◌+◌, ◌-◌, ◌==◌, min, Bool, ◌&&◌, nat_lt, nat_le, if◌then◌else◌, List, [], ◌∷◌, length, take, drop, is_some}
+use Rattle.std.specs.Prelude.{◌≡◌, ℕ, ◌+◌, ◌-◌, ◌==◌, min, Bool, ◌&&◌, nat_lt, nat_le, if◌then◌else◌, List, [], ◌∷◌, length, take, drop, is_some, IsTrue}
 use Rattle.params.specs.declared.TheConstants.{MBUF_HEADER}
-use Rattle.mbuf_chain.specs.Chain.{Entry}
+use Rattle.mbuf_chain.specs.declared.place.Place.{Place}
+use Rattle.mbuf_chain.specs.Chain.{Entry, ChainView, PoolView, Adds}
+use Rattle.mbuf_chain.specs.Steps.{one_mbuf}
 use Rattle.chain_ops.specs.Rooms.{room_low}
 
 -- a copy of n bytes of an entry after its first `skip`: it shares the cluster, or its bytes start at place `room` of a
@@ -13,6 +15,14 @@ copied_entry room e skip n =
       start = if is_some e.cluster then e.start + skip else room;
       cluster = e.cluster;
     }
+
+-- from p to q, chain d was made: one mbuf, a copy of n bytes of an entry
+abbrev pub AddsCopy : PoolView → PoolView → ℕ → Bool → Entry → ℕ → ℕ → Type 0
+AddsCopy p q d header e skip n = Adds p q d (one_mbuf header (copied_entry (room_low header) e skip n) d)
+
+-- if the copy of the mbuf at a place has a packet header, the mbuf is the first one of a chain that has one
+abbrev pub CanHaveHeader : Bool → ChainView → Place → Type 0
+CanHaveHeader header v at = IsTrue header → IsTrue v.front.header × (at.index ≡ 0)
 
 -- copies of all entries; the plain bytes of the first one start at `room`
 abbrev pub copied_all : ℕ → List Entry → List Entry
@@ -46,3 +56,10 @@ copied header es off len = copied_from (room_low header) (position_of es off).en
 -- whether the copy has a packet header: the copy of a range has one if the range begins at 0
 abbrev pub copy_header : Bool → ℕ → Bool
 copy_header header off = header && (off == 0)
+
+-- the copy of a range of a chain, and that of all of it
+abbrev pub part_copied : ChainView → ℕ → ℕ → List Entry
+part_copied v off len = copied (copy_header v.front.header off) v.entries off len
+
+abbrev pub all_copied : ChainView → List Entry
+all_copied v = copied_all (room_low v.front.header) v.entries

@@ -1,7 +1,8 @@
 -- Chains joined (m_cat; TCP/IP Illustrated, volume 2, chapter 2).
-use Rattle.std.specs.Prelude.{nat_lt, if◌then◌else◌, List, [], ◌∷◌, length}
-use Rattle.mbuf_chain.specs.Chain.{Entry, trailing_space}
+use Rattle.std.specs.Prelude.{ℕ, nat_lt, if◌then◌else◌, List, [], ◌∷◌, length}
+use Rattle.mbuf_chain.specs.Chain.{Entry, PoolView, chain_of, without, trailing_space}
 use Rattle.mbuf_chain.specs.Steps.{with_back}
+use Rattle.chain_ops.specs.Makes.{Makes}
 
 -- an entry, and the entries that follow it: while the next one is shorter than the trailing space, its bytes move into
 -- the entry
@@ -15,3 +16,8 @@ abbrev pub cat : List Entry → List Entry → List Entry
 cat [] fs = fs
 cat (e ∷ []) fs = filled_up e fs
 cat (e ∷ f ∷ es) fs = e ∷ cat (f ∷ es) fs
+
+-- from p to q, chain d was joined to chain c, which keeps its number and its front; all other chains are unchanged
+abbrev pub Concatenates : PoolView → PoolView → ℕ → ℕ → Type 0
+Concatenates p q c d =
+    Makes (without (without p d) c) q c (chain_of p c).front (cat (chain_of p c).entries (chain_of p d).entries)

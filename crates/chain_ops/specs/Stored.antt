@@ -3,10 +3,10 @@
 use Rattle.std.specs.Prelude.{◌≡◌, ℕ, ◌<◌, ◌≤◌, ◌-◌, Bool, true, false, ◌⊎◌, List, [], ◌∷◌, length, take, drop, count_by, Option, Some, None, if◌then◌else◌}
 use Rattle.std.specs.List.{AllByRecursion}
 use Rattle.params.specs.declared.TheConstants.{MBUF_HEADER, MHLEN, MCLBYTES, MINCLSIZE}
-use Rattle.mbuf_chain.specs.Chain.{Entry, PoolView, references, free_clusters}
+use Rattle.mbuf_chain.specs.Chain.{Entry, PoolView, alone, references, free_clusters}
 use Rattle.mbuf_chain.specs.Owners.{times_among}
 use Rattle.flat_model.specs.Amounts.Layout.{Room, Plain, Cluster, filled, or_empty, is_cluster}
-use Rattle.chain_ops.specs.Makes.{LacksMbufs, HasMbufs}
+use Rattle.chain_ops.specs.Makes.{Makes, LacksMbufs, HasMbufs}
 use Rattle.chain_ops.specs.Rooms.{room_low, at_end}
 use Rattle.chain_ops.specs.declared.store.Space.{Space}
 use Rattle.chain_ops.specs.declared.store.Space.TheVariants.{InMbuf, InCluster, InMore}
@@ -49,6 +49,13 @@ abbrev pub IsStoredIn : ℕ → ℕ → Space → Type 0
 IsStoredIn large n InMbuf = (n ≤ MHLEN) × (rooms_for large n ≡ Plain n ∷ [])
 IsStoredIn large n InCluster = (MINCLSIZE ≤ n) × (n ≤ MCLBYTES - large) × (rooms_for large n ≡ Cluster n ∷ [])
 IsStoredIn large n InMore = (MHLEN < n) × (MINCLSIZE ≤ n → MCLBYTES - large < n)
+
+-- from p to q, chain d was made of these bytes, with a packet header, in the mbufs of these rooms; which free clusters
+-- it has is left open
+abbrev pub Stores : PoolView → PoolView → ℕ → ℕ → Bool → List Room → List ℕ → Type 0
+Stores p q d large ends rooms xs =
+    (cs : List ℕ) × AreFree p cs × (length cs ≡ count_by is_cluster rooms)
+    × Makes p q d (alone true) (stored_first large ends cs rooms xs)
 
 -- more buffers are needed than are free, or not
 abbrev pub Lacks : PoolView → List Room → Type 0

@@ -1,8 +1,8 @@
 -- Bytes written over those of a chain (m_copyback; TCP/IP Illustrated, volume 2, chapter 2), and when that is allowed
 -- (this project's own).
-use Rattle.std.specs.Prelude.{ℕ, zero, suc, ◌+◌, ◌-◌, ◌==◌, Bool, true, false, not, ◌&&◌, nat_lt, if◌then◌else◌, List, [], ◌∷◌, ◌++◌, length, take, drop, replicate, Option, None, Some}
+use Rattle.std.specs.Prelude.{◌≡◌, ℕ, zero, suc, ◌+◌, ◌-◌, ◌==◌, Bool, true, false, not, ◌&&◌, nat_lt, if◌then◌else◌, List, [], ◌∷◌, ◌++◌, length, take, drop, replicate, Option, None, Some}
 use Rattle.params.specs.declared.TheConstants.{MBUF_HEADER, MLEN}
-use Rattle.mbuf_chain.specs.Chain.{Entry, flat_bytes}
+use Rattle.mbuf_chain.specs.Chain.{Entry, PoolView, chain_of, references, flat_bytes}
 use Rattle.mbuf_chain.specs.Steps.{overwritten}
 
 -- whether more than one mbuf refers to a cluster
@@ -16,6 +16,10 @@ is_writable counts [] off len = true
 is_writable counts (e ∷ es) off len =
     not (nat_lt 0 len && (nat_lt off (length e.bytes) && is_shared counts e.cluster))
     && is_writable counts es (off - length e.bytes) (len - (length e.bytes - off))
+
+-- a range of a chain may be written to
+abbrev pub IsWritable : PoolView → ℕ → ℕ → ℕ → Type 0
+IsWritable p c off len = is_writable (references p) (chain_of p c).entries off len ≡ true
 
 -- the entries with bytes written over their own from `off` on, up to the end of the entries
 abbrev pub overlaid : List Entry → ℕ → List ℕ → List Entry

@@ -1,6 +1,7 @@
 //! Removing bytes from an end of a chain.
 ghost use Rattle.std.specs.Prelude.{◌≡◌};
-ghost use Rattle.mbuf_chain.specs.Chain.{IsLive, chain_of, string, with_chain};
+ghost use Rattle.mbuf_chain.specs.Chain.{IsLive, chain_of, string_in};
+ghost use Rattle.mbuf_chain.specs.Steps.{with_entries_in};
 ghost use Rattle.chain_ops.specs.Trims.{without_first, only_first, adjusted, adjusted_bytes};
 
 use mbuf_chain::{Chain, Pool};
@@ -8,9 +9,7 @@ use mbuf_chain::{Chain, Pool};
 /// Removes the first `n` bytes of a chain, mbuf by mbuf: see `trim_front`.
 fn trim_walk(pool: &mut Pool, chain: &Chain, n: u32)
     requires { IsLive pool.old chain.now }
-    ensures { pool.new ≡ with_chain pool.old chain.now (record (chain_of pool.old chain.now) {
-      entries = without_first n (chain_of pool.old chain.now).entries;
-    }) }
+    ensures { pool.new ≡ with_entries_in pool.old chain.now (without_first n (chain_of pool.old chain.now).entries) }
 {
     let mut at = pool.first(chain);
     let mut left = n;
@@ -33,9 +32,7 @@ fn trim_walk(pool: &mut Pool, chain: &Chain, n: u32)
 #[inline(always)]
 pub fn trim_front(pool: &mut Pool, chain: &Chain, n: u32)
     requires { IsLive pool.old chain.now }
-    ensures { pool.new ≡ with_chain pool.old chain.now (record (chain_of pool.old chain.now) {
-      entries = without_first n (chain_of pool.old chain.now).entries;
-    }) }
+    ensures { pool.new ≡ with_entries_in pool.old chain.now (without_first n (chain_of pool.old chain.now).entries) }
 {
     let first = pool.first(chain);
     let len = pool.segment(chain, first).len;
@@ -49,9 +46,7 @@ pub fn trim_front(pool: &mut Pool, chain: &Chain, n: u32)
 /// Keeps the first `keep` bytes of a chain, mbuf by mbuf: see `trim_back`.
 fn keep_walk(pool: &mut Pool, chain: &Chain, keep: u32)
     requires { IsLive pool.old chain.now }
-    ensures { pool.new ≡ with_chain pool.old chain.now (record (chain_of pool.old chain.now) {
-      entries = only_first keep (chain_of pool.old chain.now).entries;
-    }) }
+    ensures { pool.new ≡ with_entries_in pool.old chain.now (only_first keep (chain_of pool.old chain.now).entries) }
 {
     let mut at = pool.first(chain);
     let mut left = keep;
@@ -74,9 +69,7 @@ fn keep_walk(pool: &mut Pool, chain: &Chain, keep: u32)
 #[inline(always)]
 pub fn trim_back(pool: &mut Pool, chain: &Chain, keep: u32)
     requires { IsLive pool.old chain.now }
-    ensures { pool.new ≡ with_chain pool.old chain.now (record (chain_of pool.old chain.now) {
-      entries = only_first keep (chain_of pool.old chain.now).entries;
-    }) }
+    ensures { pool.new ≡ with_entries_in pool.old chain.now (only_first keep (chain_of pool.old chain.now).entries) }
 {
     if keep < pool.len(chain) {
         keep_walk(pool, chain, keep);
@@ -91,11 +84,8 @@ pub fn trim_back(pool: &mut Pool, chain: &Chain, keep: u32)
 #[inline(always)]
 pub fn m_adj(pool: &mut Pool, chain: &Chain, n: i32)
     requires { IsLive pool.old chain.now }
-    ensures change { pool.new ≡ with_chain pool.old chain.now (record (chain_of pool.old chain.now) {
-      entries = adjusted n (chain_of pool.old chain.now).entries;
-    }) }
-    ensures string { string (chain_of pool.new chain.now)
-        ≡ adjusted_bytes n (string (chain_of pool.old chain.now)) }
+    ensures change { pool.new ≡ with_entries_in pool.old chain.now (adjusted n (chain_of pool.old chain.now).entries) }
+    ensures string { string_in pool.new chain.now ≡ adjusted_bytes n (string_in pool.old chain.now) }
 {
     if n >= 0 {
         trim_front(pool, chain, n as u32);

@@ -1,8 +1,8 @@
 //! Joining chains.
 ghost use Rattle.std.specs.Prelude.{◌≡◌, ◌≢◌, ◌+◌, ◌-◌, ◌++◌, length, MatchOption, drop, false};
-ghost use Rattle.mbuf_chain.specs.Chain.{IsLive, IsPlace, chain_of, without, alone, string};
+ghost use Rattle.mbuf_chain.specs.Chain.{IsLive, IsPlace, chain_of, without, alone, string_in};
 ghost use Rattle.chain_ops.specs.Makes.{Makes};
-ghost use Rattle.chain_ops.specs.Joins.{cat};
+ghost use Rattle.chain_ops.specs.Joins.{Concatenates};
 
 use mbuf_chain::{Chain, Place, Pool};
 
@@ -46,9 +46,7 @@ fn join(pool: &mut Pool, chain: &Chain, last: Place, second: Chain) -> Place
     requires apart { chain.now ≢ second }
     requires place { IsPlace (chain_of pool.old chain.now) last }
     requires last { last.index + 1 ≡ length (chain_of pool.old chain.now).entries }
-    ensures makes { Makes (without (without pool.old second) chain.now) pool.new chain.now
-        (chain_of pool.old chain.now).front
-        (cat (chain_of pool.old chain.now).entries (chain_of pool.old second).entries) }
+    ensures makes { Concatenates pool.old pool.new chain.now second }
     ensures place { IsPlace (chain_of pool.new chain.now) result }
 {
     let mut back = second;
@@ -74,11 +72,8 @@ pub fn cat_after(pool: &mut Pool, chain: &Chain, last: Place, second: Chain) -> 
     requires apart { chain.now ≢ second }
     requires place { IsPlace (chain_of pool.old chain.now) last }
     requires last { last.index + 1 ≡ length (chain_of pool.old chain.now).entries }
-    ensures makes { Makes (without (without pool.old second) chain.now) pool.new chain.now
-        (chain_of pool.old chain.now).front
-        (cat (chain_of pool.old chain.now).entries (chain_of pool.old second).entries) }
-    ensures string { string (chain_of pool.new chain.now)
-        ≡ string (chain_of pool.old chain.now) ++ string (chain_of pool.old second) }
+    ensures makes { Concatenates pool.old pool.new chain.now second }
+    ensures string { string_in pool.new chain.now ≡ string_in pool.old chain.now ++ string_in pool.old second }
     ensures place { IsPlace (chain_of pool.new chain.now) result }
     ensures last { result.index + 1 ≡ length (chain_of pool.new chain.now).entries }
 {
@@ -99,11 +94,8 @@ pub fn m_cat(pool: &mut Pool, chain: &Chain, second: Chain)
     requires front { IsLive pool.old chain.now }
     requires back { IsLive pool.old second }
     requires apart { chain.now ≢ second }
-    ensures makes { Makes (without (without pool.old second) chain.now) pool.new chain.now
-        (chain_of pool.old chain.now).front
-        (cat (chain_of pool.old chain.now).entries (chain_of pool.old second).entries) }
-    ensures string { string (chain_of pool.new chain.now)
-        ≡ string (chain_of pool.old chain.now) ++ string (chain_of pool.old second) }
+    ensures makes { Concatenates pool.old pool.new chain.now second }
+    ensures string { string_in pool.new chain.now ≡ string_in pool.old chain.now ++ string_in pool.old second }
 {
     let last = pool.last(chain);
     let _ = join(pool, chain, last, second);

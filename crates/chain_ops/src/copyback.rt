@@ -1,9 +1,9 @@
 //! Writing bytes over those of a chain.
 ghost use Rattle.std.specs.Prelude.{◌≡◌, ℕ, ◌+◌, ◌-◌, ◌<◌, ◌≤◌, ◌++◌, Some, None, true, false, length, take, drop, replicate, IfOk, OnOk, OnErr};
-ghost use Rattle.mbuf_chain.specs.Chain.{IsLive, IsPlace, chain_of, entry_in, string, references, without, with_chain, held_mbufs, alone, Adds};
-ghost use Rattle.mbuf_chain.specs.Steps.{one_mbuf, with_entry_in, overwritten};
+ghost use Rattle.mbuf_chain.specs.Chain.{IsLive, IsPlace, chain_of, entry_in, string_in, references, without, held_mbufs, alone, Adds};
+ghost use Rattle.mbuf_chain.specs.Steps.{one_mbuf, with_entry_in, with_entries_in, overwritten};
 ghost use Rattle.chain_ops.specs.Makes.{Makes, HasMbufs, LacksMbufs};
-ghost use Rattle.chain_ops.specs.Writes.{is_shared, is_writable, overlaid, in_plain, copied_back, copyback_need, written_bytes};
+ghost use Rattle.chain_ops.specs.Writes.{is_shared, is_writable, IsWritable, overlaid, in_plain, copied_back, copyback_need, written_bytes};
 
 use mbuf_chain::{Chain, Place, Pool};
 use mbuf_pool::NoBufs;
@@ -25,8 +25,7 @@ fn is_shared(pool: &Pool, cluster: Option<u32>) -> bool
 /// (this project's own).
 pub fn is_writable(pool: &Pool, chain: &Chain, off: u32, len: u32) -> bool
     requires { IsLive pool.now chain.now }
-    ensures { result ≡
-        is_writable (references pool.now) (chain_of pool.now chain.now).entries off len }
+    ensures { result ≡ is_writable (references pool.now) (chain_of pool.now chain.now).entries off len }
 {
     let mut at = pool.first(chain);
     let mut skip = off;
@@ -74,11 +73,9 @@ fn overlay_mbuf(pool: &mut Pool, chain: &Chain, at: Place, skip: u32, bytes: &[u
 /// Writes over the bytes of a chain from `off` on, up to its last byte.
 fn overlay(pool: &mut Pool, chain: &Chain, off: u32, bytes: &[u8])
     requires live { IsLive pool.old chain.now }
-    requires writable { is_writable (references pool.old) (chain_of pool.old chain.now).entries off
-        (length bytes.now) ≡ true }
-    ensures { pool.new ≡ with_chain pool.old chain.now (record (chain_of pool.old chain.now) {
-      entries = overlaid (chain_of pool.old chain.now).entries off bytes.now;
-    }) }
+    requires writable { IsWritable pool.old chain.now off (length bytes.now) }
+    ensures { pool.new ≡ with_entries_in pool.old chain.now
+        (overlaid (chain_of pool.old chain.now).entries off bytes.now) }
 {
     let mut at = pool.first(chain);
     let mut skip = off;
@@ -128,12 +125,9 @@ fn new_piece(pool: &mut Pool, gap: u32, bytes: &[u8]) -> Result<Chain, NoBufs>
 fn new_tail(pool: &mut Pool, gap: u32, bytes: &[u8]) -> Result<Chain, NoBufs>
     requires some { 0 < gap + length bytes.now }
     requires most { gap + length bytes.now ≤ IP_MAX_PACKET }
-    ensures ok { IfOk result (λ d. Makes pool.old pool.new d (alone false)
-        (in_plain (replicate gap 0 ++ bytes.now))) }
-    ensures enough { OnOk result (HasMbufs pool.old
-        (length (in_plain (replicate gap 0 ++ bytes.now)))) }
-    ensures err { OnErr result (LacksMbufs pool.old
-        (length (in_plain (replicate gap 0 ++ bytes.now)))) }
+    ensures ok { IfOk result (λ d. Makes pool.old pool.new d (alone false) (in_plain (replicate gap 0 ++ bytes.now))) }
+    ensures enough { OnOk result (HasMbufs pool.old (length (in_plain (replicate gap 0 ++ bytes.now)))) }
+    ensures err { OnErr result (LacksMbufs pool.old (length (in_plain (replicate gap 0 ++ bytes.now)))) }
     ensures same { OnErr result (pool.new ≡ pool.old) }
 {
     let chain = new_piece(pool, gap, bytes)?;
@@ -162,13 +156,12 @@ fn new_tail(pool: &mut Pool, gap: u32, bytes: &[u8]) -> Result<Chain, NoBufs>
 pub fn m_copyback(pool: &mut Pool, chain: &Chain, off: u32, bytes: &[u8]) -> Result<(), NoBufs>
     requires live { IsLive pool.old chain.now }
     requires most { off + length bytes.now ≤ IP_MAX_PACKET }
-    requires writable { is_writable (references pool.old) (chain_of pool.old chain.now).entries off
-        (length bytes.now) ≡ true }
+    requires writable { IsWritable pool.old chain.now off (length bytes.now) }
     ensures ok { OnOk result (Makes (without pool.old chain.now) pool.new chain.now
         (chain_of pool.old chain.now).front
         (copied_back (chain_of pool.old chain.now).entries off bytes.now)) }
-    ensures string { OnOk result (string (chain_of pool.new chain.now)
-        ≡ written_bytes (string (chain_of pool.old chain.now)) off bytes.now) }
+    ensures string { OnOk result (string_in pool.new chain.now
+        ≡ written_bytes (string_in pool.old chain.now) off bytes.now) }
     ensures enough { OnOk result (HasMbufs pool.old
         (copyback_need (chain_of pool.old chain.now).entries off bytes.now)) }
     ensures err { OnErr result (LacksMbufs pool.old

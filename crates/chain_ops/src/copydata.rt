@@ -1,6 +1,6 @@
 //! Copying bytes out of a chain.
 ghost use Rattle.std.specs.Prelude.{◌≡◌, ◌+◌, ◌≤◌, length, take, drop};
-ghost use Rattle.mbuf_chain.specs.Chain.{IsLive, chain_of, string};
+ghost use Rattle.mbuf_chain.specs.Chain.{IsLive, string_in};
 
 use mbuf_chain::{Chain, Pool};
 
@@ -8,8 +8,8 @@ use mbuf_chain::{Chain, Pool};
 #[tactic(auto, using(mbuf_chain::proofs::Laws::Iterators::concat_pieces))]
 fn copy_pieces(pool: &Pool, chain: &Chain, off: usize, to: &mut [u8])
     requires live { IsLive pool.now chain.now }
-    requires within { off + length to.old ≤ length (string (chain_of pool.now chain.now)) }
-    ensures { to.new ≡ take (length to.old) (drop off (string (chain_of pool.now chain.now))) }
+    requires within { off + length to.old ≤ length (string_in pool.now chain.now) }
+    ensures { to.new ≡ take (length to.old) (drop off (string_in pool.now chain.now)) }
 {
     let mut skip = off;
     let mut at = 0;
@@ -34,8 +34,8 @@ fn copy_pieces(pool: &Pool, chain: &Chain, off: usize, to: &mut [u8])
 #[inline(always)]
 pub fn m_copydata(pool: &Pool, chain: &Chain, off: usize, to: &mut [u8])
     requires live { IsLive pool.now chain.now }
-    requires within { off + length to.old ≤ length (string (chain_of pool.now chain.now)) }
-    ensures { to.new ≡ take (length to.old) (drop off (string (chain_of pool.now chain.now))) }
+    requires within { off + length to.old ≤ length (string_in pool.now chain.now) }
+    ensures { to.new ≡ take (length to.old) (drop off (string_in pool.now chain.now)) }
 {
     let first = pool.bytes(chain, pool.first(chain));
     if off <= first.len() && to.len() <= first.len() - off {

@@ -1,9 +1,8 @@
 //! Copies that share clusters.
 ghost use Rattle.std.specs.Prelude.{◌≡◌, ◌+◌, ◌≤◌, ◌<◌, length, IfOk, OnOk, OnErr};
-ghost use Rattle.mbuf_chain.specs.Chain.{IsLive, chain_of, string, alone};
+ghost use Rattle.mbuf_chain.specs.Chain.{IsLive, chain_of, string_in, alone};
 ghost use Rattle.chain_ops.specs.Makes.{Makes, HasMbufs, LacksMbufs};
-ghost use Rattle.chain_ops.specs.Rooms.{room_low};
-ghost use Rattle.chain_ops.specs.Copies.{copied, copied_all, copy_header};
+ghost use Rattle.chain_ops.specs.Copies.{all_copied, part_copied, copy_header};
 ghost use Rattle.chain_ops.specs.Extents.{IsExtent, extent_header, extent_copied, extent_bytes};
 
 use crate::cursor::{copy_at, cursor_at};
@@ -15,17 +14,12 @@ use mbuf_pool::NoBufs;
 fn copy_range(pool: &mut Pool, chain: &Chain, off: u32, len: u32) -> Result<Chain, NoBufs>
     requires live { IsLive pool.old chain.now }
     requires some { 0 < len }
-    requires within { off + len ≤ length (string (chain_of pool.old chain.now)) }
+    requires within { off + len ≤ length (string_in pool.old chain.now) }
     ensures ok { IfOk result (λ d. Makes pool.old pool.new d
         (alone (copy_header (chain_of pool.old chain.now).front.header off))
-        (copied (copy_header (chain_of pool.old chain.now).front.header off)
-        (chain_of pool.old chain.now).entries off len)) }
-    ensures enough { OnOk result (HasMbufs pool.old
-        (length (copied (copy_header (chain_of pool.old chain.now).front.header off)
-        (chain_of pool.old chain.now).entries off len))) }
-    ensures err { OnErr result (LacksMbufs pool.old
-        (length (copied (copy_header (chain_of pool.old chain.now).front.header off)
-        (chain_of pool.old chain.now).entries off len))) }
+        (part_copied (chain_of pool.old chain.now) off len)) }
+    ensures enough { OnOk result (HasMbufs pool.old (length (part_copied (chain_of pool.old chain.now) off len))) }
+    ensures err { OnErr result (LacksMbufs pool.old (length (part_copied (chain_of pool.old chain.now) off len))) }
     ensures same { OnErr result (pool.new ≡ pool.old) }
 {
     let from = cursor_at(pool, chain, off);
@@ -37,14 +31,9 @@ fn copy_all(pool: &mut Pool, chain: &Chain) -> Result<Chain, NoBufs>
     requires { IsLive pool.old chain.now }
     ensures ok { IfOk result (λ d. Makes pool.old pool.new d
         (alone (chain_of pool.old chain.now).front.header)
-        (copied_all (room_low (chain_of pool.old chain.now).front.header)
-        (chain_of pool.old chain.now).entries)) }
-    ensures enough { OnOk result (HasMbufs pool.old
-        (length (copied_all (room_low (chain_of pool.old chain.now).front.header)
-        (chain_of pool.old chain.now).entries))) }
-    ensures err { OnErr result (LacksMbufs pool.old
-        (length (copied_all (room_low (chain_of pool.old chain.now).front.header)
-        (chain_of pool.old chain.now).entries))) }
+        (all_copied (chain_of pool.old chain.now))) }
+    ensures enough { OnOk result (HasMbufs pool.old (length (all_copied (chain_of pool.old chain.now)))) }
+    ensures err { OnErr result (LacksMbufs pool.old (length (all_copied (chain_of pool.old chain.now)))) }
     ensures same { OnErr result (pool.new ≡ pool.old) }
 {
     let mut at = pool.first(chain);
@@ -81,13 +70,12 @@ pub enum Extent {
 /// step for each mbuf up to the last one that it copies (TCP/IP Illustrated, volume 2, chapter 2).
 pub fn m_copym(pool: &mut Pool, chain: &Chain, extent: Extent) -> Result<Chain, NoBufs>
     requires live { IsLive pool.old chain.now }
-    requires extent { IsExtent extent (length (string (chain_of pool.old chain.now))) }
+    requires extent { IsExtent extent (length (string_in pool.old chain.now)) }
     ensures ok { IfOk result (λ d. Makes pool.old pool.new d
         (alone (extent_header extent (chain_of pool.old chain.now).front.header))
         (extent_copied extent (chain_of pool.old chain.now).front.header
         (chain_of pool.old chain.now).entries)) }
-    ensures string { IfOk result (λ d. string (chain_of pool.new d)
-        ≡ extent_bytes extent (string (chain_of pool.old chain.now))) }
+    ensures string { IfOk result (λ d. string_in pool.new d ≡ extent_bytes extent (string_in pool.old chain.now)) }
     ensures enough { OnOk result (HasMbufs pool.old
         (length (extent_copied extent (chain_of pool.old chain.now).front.header
         (chain_of pool.old chain.now).entries))) }

@@ -1,8 +1,8 @@
 //! Positions of bytes in a chain, and copies that begin at one.
 ghost use Rattle.std.specs.Prelude.{◌≡◌, ◌+◌, ◌≤◌, ◌<◌, length, IfOk, OnOk, OnErr};
-ghost use Rattle.mbuf_chain.specs.Chain.{IsLive, chain_of, string, alone};
+ghost use Rattle.mbuf_chain.specs.Chain.{IsLive, chain_of, string_in, alone};
 ghost use Rattle.chain_ops.specs.Makes.{Makes, HasMbufs, LacksMbufs};
-ghost use Rattle.chain_ops.specs.Copies.{copied, copy_header};
+ghost use Rattle.chain_ops.specs.Copies.{part_copied, copy_header};
 ghost use Rattle.chain_ops.specs.Cursors.{IsCursor};
 
 use crate::step::{append_copy, new_copy};
@@ -25,7 +25,7 @@ pub struct Cursor {
 /// before the byte are passed; at 0 none is. Takes one step for each mbuf that is passed (this project's own).
 pub fn cursor_at(pool: &Pool, chain: &Chain, off: u32) -> Cursor
     requires live { IsLive pool.now chain.now }
-    requires within { off < length (string (chain_of pool.now chain.now)) }
+    requires within { off < length (string_in pool.now chain.now) }
     ensures cursor { IsCursor (chain_of pool.now chain.now) result }
     ensures off { result.off ≡ off }
 {
@@ -50,7 +50,7 @@ pub fn advance(pool: &Pool, chain: &Chain, from: Cursor, by: u32) -> Cursor
     requires cursor { IsCursor (chain_of pool.now chain.now) from }
     requires some { 0 < by }
     requires small { from.off + by ≤ 65535 }
-    requires within { from.off + by < length (string (chain_of pool.now chain.now)) }
+    requires within { from.off + by < length (string_in pool.now chain.now) }
     ensures cursor { IsCursor (chain_of pool.now chain.now) result }
     ensures off { result.off ≡ from.off + by }
 {
@@ -86,17 +86,12 @@ pub fn copy_at(pool: &mut Pool, chain: &Chain, from: Cursor, len: u32) -> Result
     requires live { IsLive pool.old chain.now }
     requires cursor { IsCursor (chain_of pool.old chain.now) from }
     requires some { 0 < len }
-    requires within { from.off + len ≤ length (string (chain_of pool.old chain.now)) }
+    requires within { from.off + len ≤ length (string_in pool.old chain.now) }
     ensures ok { IfOk result (λ d. Makes pool.old pool.new d
         (alone (copy_header (chain_of pool.old chain.now).front.header from.off))
-        (copied (copy_header (chain_of pool.old chain.now).front.header from.off)
-        (chain_of pool.old chain.now).entries from.off len)) }
-    ensures enough { OnOk result (HasMbufs pool.old
-        (length (copied (copy_header (chain_of pool.old chain.now).front.header from.off)
-        (chain_of pool.old chain.now).entries from.off len))) }
-    ensures err { OnErr result (LacksMbufs pool.old
-        (length (copied (copy_header (chain_of pool.old chain.now).front.header from.off)
-        (chain_of pool.old chain.now).entries from.off len))) }
+        (part_copied (chain_of pool.old chain.now) from.off len)) }
+    ensures enough { OnOk result (HasMbufs pool.old (length (part_copied (chain_of pool.old chain.now) from.off len))) }
+    ensures err { OnErr result (LacksMbufs pool.old (length (part_copied (chain_of pool.old chain.now) from.off len))) }
     ensures same { OnErr result (pool.new ≡ pool.old) }
 {
     let mut at = from.place;

@@ -1,6 +1,6 @@
 //! Putting bytes before a chain's first byte.
 ghost use Rattle.std.specs.Prelude.{◌≡◌, ◌<◌, ◌≤◌, ◌++◌, length, OnOk, OnErr};
-ghost use Rattle.mbuf_chain.specs.Chain.{IsLive, chain_of, without, string};
+ghost use Rattle.mbuf_chain.specs.Chain.{IsLive, chain_of, without, string_in};
 ghost use Rattle.chain_ops.specs.Makes.{Makes, HasMbufs, LacksMbufs};
 ghost use Rattle.chain_ops.specs.Rooms.{at_end};
 ghost use Rattle.chain_ops.specs.Prepends.{prepended, prepended_front, prepend_need};
@@ -34,12 +34,9 @@ pub fn m_prepend(pool: &mut Pool, chain: &mut Chain, bytes: &[u8]) -> Result<(),
     ensures ok { OnOk result (Makes (without pool.old chain.old) pool.new chain.new
         (prepended_front (chain_of pool.old chain.old) (length bytes.now))
         (prepended (chain_of pool.old chain.old) bytes.now)) }
-    ensures string { OnOk result (string (chain_of pool.new chain.new)
-        ≡ bytes.now ++ string (chain_of pool.old chain.old)) }
-    ensures enough { OnOk result (HasMbufs pool.old
-        (prepend_need (chain_of pool.old chain.old) (length bytes.now))) }
-    ensures err { OnErr result (LacksMbufs pool.old
-        (prepend_need (chain_of pool.old chain.old) (length bytes.now))) }
+    ensures string { OnOk result (string_in pool.new chain.new ≡ bytes.now ++ string_in pool.old chain.old) }
+    ensures enough { OnOk result (HasMbufs pool.old (prepend_need (chain_of pool.old chain.old) (length bytes.now))) }
+    ensures err { OnErr result (LacksMbufs pool.old (prepend_need (chain_of pool.old chain.old) (length bytes.now))) }
     ensures same { OnErr result ((pool.new ≡ pool.old) × (chain.new ≡ chain.old)) }
 {
     pool.laws();

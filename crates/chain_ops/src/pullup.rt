@@ -1,6 +1,6 @@
 //! Moving the first bytes of a chain into one mbuf.
 ghost use Rattle.std.specs.Prelude.{◌≡◌, ◌≢◌, ◌+◌, ◌-◌, ◌≤◌, ◌++◌, true, None, min, length, take, drop, OnOk, OnErr, IfErr, IsTrue};
-ghost use Rattle.mbuf_chain.specs.Chain.{IsLive, IsPlace, HasTrailingSpace, chain_of, entry_in, entry_of, without, string, alone};
+ghost use Rattle.mbuf_chain.specs.Chain.{IsLive, IsPlace, HasTrailingSpace, chain_of, entry_in, entry_of, without, string_in, alone};
 ghost use Rattle.mbuf_chain.specs.Steps.{empty_entry};
 ghost use Rattle.chain_ops.specs.Rooms.{room_low};
 ghost use Rattle.chain_ops.specs.Makes.{Makes, HasMbufs, LacksMbufs};
@@ -39,7 +39,7 @@ fn pull(pool: &mut Pool, into: &Chain, last: Place, second: Chain, n: u32, count
     requires last { last.index + 1 ≡ length (chain_of pool.old into.now).entries }
     requires plain { (entry_in pool.old into.now last).cluster ≡ None }
     requires room { HasTrailingSpace (entry_in pool.old into.now last) n }
-    requires len { counted ≡ true → len ≡ length (string (chain_of pool.old second)) }
+    requires len { counted ≡ true → len ≡ length (string_in pool.old second) }
     ensures { Makes (without (without pool.old second) into.now) pool.new into.now
         (chain_of pool.old into.now).front
         (take last.index (chain_of pool.old into.now).entries
@@ -83,7 +83,7 @@ fn has_room(pool: &Pool, chain: &Chain, n: u32) -> bool
 fn pull_in_place(pool: &mut Pool, chain: &Chain, n: u32)
     requires live { IsLive pool.old chain.now }
     requires room { IsTrue (has_room (entry_of (chain_of pool.old chain.now) 0) n) }
-    requires some { n ≤ length (string (chain_of pool.old chain.now)) }
+    requires some { n ≤ length (string_in pool.old chain.now) }
     ensures { Makes (without pool.old chain.now) pool.new chain.now
         (chain_of pool.old chain.now).front
         (moved (n - length (entry_of (chain_of pool.old chain.now) 0).bytes)
@@ -134,7 +134,7 @@ fn pull_new(pool: &mut Pool, chain: &mut Chain, n: u32) -> Result<(), NoBufs>
 fn len_up_to(pool: &Pool, chain: &Chain, most: u32) -> u32
     requires live { IsLive pool.now chain.now }
     requires small { most ≤ MHLEN }
-    ensures { result ≡ min most (length (string (chain_of pool.now chain.now))) }
+    ensures { result ≡ min most (length (string_in pool.now chain.now)) }
 {
     if pool.has_header(chain) {
         return pool.len(chain).min(most);
@@ -167,9 +167,8 @@ pub fn m_pullup(pool: &mut Pool, chain: &mut Chain, n: u32) -> Result<(), Refusa
     requires { IsLive pool.old chain.old }
     ensures ok { OnOk result (Makes (without pool.old chain.old) pool.new chain.new
         (pulled_front (chain_of pool.old chain.old) n) (entries_pulled (chain_of pool.old chain.old) n)) }
-    ensures string { OnOk result (string (chain_of pool.new chain.new)
-        ≡ string (chain_of pool.old chain.old)) }
-    ensures fits { OnOk result ((n ≤ MHLEN) × (n ≤ length (string (chain_of pool.old chain.old)))) }
+    ensures string { OnOk result (string_in pool.new chain.new ≡ string_in pool.old chain.old) }
+    ensures fits { OnOk result ((n ≤ MHLEN) × (n ≤ length (string_in pool.old chain.old))) }
     ensures enough { OnOk result (HasMbufs pool.old (pull_need (chain_of pool.old chain.old) n)) }
     ensures err { IfErr result (IsPullRefused pool.old (chain_of pool.old chain.old) n) }
     ensures same { OnErr result ((pool.new ≡ pool.old) × (chain.new ≡ chain.old)) }

@@ -1,6 +1,6 @@
 //! Cutting chains in two.
 ghost use Rattle.std.specs.Prelude.{◌≡◌, ◌+◌, ◌-◌, ◌<◌, ◌≤◌, ◌++◌, ◌∷◌, [], Bool, true, false, None, length, take, drop, IfOk, OnOk, OnErr};
-ghost use Rattle.mbuf_chain.specs.Chain.{IsLive, IsPlace, chain_of, entry_in, string, flat_bytes, alone, held_mbufs, Adds};
+ghost use Rattle.mbuf_chain.specs.Chain.{IsLive, IsPlace, chain_of, entry_in, string_in, flat_bytes, alone, held_mbufs, Adds};
 ghost use Rattle.mbuf_chain.specs.Steps.{one_mbuf, empty_entry};
 ghost use Rattle.chain_ops.specs.Makes.{Makes, Parts, HasMbufs, LacksMbufs};
 ghost use Rattle.chain_ops.specs.Rooms.{room_low, end_entry};
@@ -17,11 +17,11 @@ use params::{MBUF_HEADER, MHLEN};
 /// the remaining offset.
 fn find_cut(pool: &Pool, chain: &Chain, off: u32) -> (Place, u32)
     requires live { IsLive pool.now chain.now }
-    requires within { off < length (string (chain_of pool.now chain.now)) }
+    requires within { off < length (string_in pool.now chain.now) }
     ensures place { IsPlace (chain_of pool.now chain.now) result.0 }
     ensures within { result.1 ≤ length (entry_in pool.now chain.now result.0).bytes }
     ensures left { off + length (flat_bytes (drop result.0.index (chain_of pool.now chain.now).entries))
-        ≡ result.1 + length (string (chain_of pool.now chain.now)) }
+        ≡ result.1 + length (string_in pool.now chain.now) }
     ensures after { result.1 < length (flat_bytes (drop result.0.index (chain_of pool.now chain.now).entries)) }
     ensures front { split_front (chain_of pool.now chain.now).entries off
         ≡ take result.0.index (chain_of pool.now chain.now).entries
@@ -94,8 +94,7 @@ fn new_head(
     requires some { header ≡ false → off < length (entry_in pool.old chain.now at).bytes }
     ensures ok { IfOk result (λ d. Makes pool.old pool.new d (alone header)
         (rest_of header (entry_in pool.old chain.now at) off)) }
-    ensures err { OnErr result (LacksMbufs pool.old
-        (length (rest_of header (entry_in pool.old chain.now at) off))) }
+    ensures err { OnErr result (LacksMbufs pool.old (length (rest_of header (entry_in pool.old chain.now at) off))) }
     ensures same { OnErr result (pool.new ≡ pool.old) }
 {
     let segment = pool.segment(chain, at);
@@ -124,15 +123,13 @@ fn new_head(
 /// 100 becomes `C100x2` and `C200x2`, and `P80` at 30 becomes `P30` and `P50`.
 pub fn m_split(pool: &mut Pool, chain: &Chain, at: u32) -> Result<Chain, NoBufs>
     requires live { IsLive pool.old chain.now }
-    requires within { at < length (string (chain_of pool.old chain.now)) }
+    requires within { at < length (string_in pool.old chain.now) }
     ensures ok { IfOk result (λ d. Parts pool.old pool.new chain.now d
         (chain_of pool.old chain.now).front (split_front (chain_of pool.old chain.now).entries at)
         (alone (chain_of pool.old chain.now).front.header)
         (split_back (chain_of pool.old chain.now).front.header (chain_of pool.old chain.now).entries at)) }
-    ensures front { OnOk result (string (chain_of pool.new chain.now)
-        ≡ take at (string (chain_of pool.old chain.now))) }
-    ensures back { IfOk result (λ d. string (chain_of pool.new d)
-        ≡ drop at (string (chain_of pool.old chain.now))) }
+    ensures front { OnOk result (string_in pool.new chain.now ≡ take at (string_in pool.old chain.now)) }
+    ensures back { IfOk result (λ d. string_in pool.new d ≡ drop at (string_in pool.old chain.now)) }
     ensures enough { OnOk result (HasMbufs pool.old
         (split_need (chain_of pool.old chain.now).front.header (chain_of pool.old chain.now).entries at)) }
     ensures err { OnErr result (LacksMbufs pool.old

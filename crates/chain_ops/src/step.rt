@@ -1,9 +1,9 @@
 //! Steps that several operations share.
-ghost use Rattle.std.specs.Prelude.{◌≡◌, ◌≢◌, ℕ, ◌+◌, ◌≤◌, true, false, None, length, IfOk, OnErr, IsTrue};
-ghost use Rattle.mbuf_chain.specs.Chain.{IsLive, IsPlace, chain_of, entry_in, held_mbufs, with_chain, without, string, Adds};
-ghost use Rattle.mbuf_chain.specs.Steps.{one_mbuf, joined};
+ghost use Rattle.std.specs.Prelude.{◌≡◌, ◌≢◌, ℕ, ◌+◌, ◌≤◌, true, false, None, length, IfOk, OnErr};
+ghost use Rattle.mbuf_chain.specs.Chain.{IsLive, IsPlace, chain_of, entry_in, held_mbufs, with_chain, string_in};
+ghost use Rattle.mbuf_chain.specs.Steps.{one_mbuf, joined, linked};
 ghost use Rattle.chain_ops.specs.Rooms.{room_low};
-ghost use Rattle.chain_ops.specs.Copies.{copied_entry};
+ghost use Rattle.chain_ops.specs.Copies.{copied_entry, AddsCopy, CanHaveHeader};
 
 use mbuf_chain::{Chain, Place, Pool};
 use mbuf_pool::NoBufs;
@@ -32,10 +32,8 @@ fn copy_plain(
     requires place { IsPlace (chain_of pool.old chain.now) at }
     requires plain { (entry_in pool.old chain.now at).cluster ≡ None }
     requires within { skip + n ≤ length (entry_in pool.old chain.now at).bytes }
-    requires headed { IsTrue header →
-        IsTrue (chain_of pool.old chain.now).front.header × (at.index ≡ 0) }
-    ensures ok { IfOk result (λ d. Adds pool.old pool.new d
-        (one_mbuf header (copied_entry (room_low header) (entry_in pool.old chain.now at) skip n) d)) }
+    requires headed { CanHaveHeader header (chain_of pool.old chain.now) at }
+    ensures ok { IfOk result (λ d. AddsCopy pool.old pool.new d header (entry_in pool.old chain.now at) skip n) }
     ensures err { OnErr result (held_mbufs pool.old ≡ pool.old.mbufs) }
     ensures same { OnErr result (pool.new ≡ pool.old) }
 {
@@ -60,10 +58,8 @@ pub(crate) fn new_copy(
     requires live { IsLive pool.old chain.now }
     requires place { IsPlace (chain_of pool.old chain.now) at }
     requires within { skip + n ≤ length (entry_in pool.old chain.now at).bytes }
-    requires headed { IsTrue header →
-        IsTrue (chain_of pool.old chain.now).front.header × (at.index ≡ 0) }
-    ensures ok { IfOk result (λ d. Adds pool.old pool.new d
-        (one_mbuf header (copied_entry (room_low header) (entry_in pool.old chain.now at) skip n) d)) }
+    requires headed { CanHaveHeader header (chain_of pool.old chain.now) at }
+    ensures ok { IfOk result (λ d. AddsCopy pool.old pool.new d header (entry_in pool.old chain.now at) skip n) }
     ensures err { OnErr result (held_mbufs pool.old ≡ pool.old.mbufs) }
     ensures same { OnErr result (pool.new ≡ pool.old) }
 {
@@ -109,7 +105,7 @@ pub(crate) fn append_copy(
 /// Returns how many bytes a chain has if it has a packet header, otherwise 0, so no mbuf is read.
 pub(crate) fn counted_len(pool: &Pool, chain: &Chain) -> (bool, u32)
     requires { IsLive pool.now chain.now }
-    ensures { result.0 ≡ true → result.1 ≡ length (string (chain_of pool.now chain.now)) }
+    ensures { result.0 ≡ true → result.1 ≡ length (string_in pool.now chain.now) }
 {
     if pool.has_header(chain) {
         (true, pool.len(chain))
@@ -133,9 +129,8 @@ pub(crate) fn link_rest(
     requires apart { into.now ≢ rest }
     requires place { IsPlace (chain_of pool.old into.now) last }
     requires last { last.index + 1 ≡ length (chain_of pool.old into.now).entries }
-    requires len { counted ≡ true → len ≡ length (string (chain_of pool.old rest)) }
-    ensures { pool.new ≡ with_chain (without pool.old rest) into.now
-        (joined (chain_of pool.old into.now) (chain_of pool.old rest)) }
+    requires len { counted ≡ true → len ≡ length (string_in pool.old rest) }
+    ensures { pool.new ≡ linked pool.old into.now rest }
 {
     if counted {
         pool.link_counted(into, last, rest, len);

@@ -1,11 +1,10 @@
 //! Storing bytes in new chains.
-ghost use Rattle.std.specs.Prelude.{◌≡◌, ℕ, ◌+◌, ◌-◌, ◌<◌, ◌≤◌, ◌⊎◌, List, true, false, Option, Some, min, nat_le, length, count_by, IfOk, OnOk, OnErr, if◌then◌else◌};
-ghost use Rattle.mbuf_chain.specs.Chain.{alone, held_mbufs, references, free_clusters, string, chain_of, Adds};
+ghost use Rattle.std.specs.Prelude.{◌≡◌, ℕ, ◌+◌, ◌-◌, ◌<◌, ◌≤◌, ◌⊎◌, true, false, Option, min, nat_le, length, IfOk, OnOk, OnErr, if◌then◌else◌};
+ghost use Rattle.mbuf_chain.specs.Chain.{held_mbufs, free_clusters, string_in, Adds};
 ghost use Rattle.mbuf_chain.specs.Steps.{one_mbuf};
-ghost use Rattle.flat_model.specs.Amounts.Layout.{user, wire, is_cluster, need_of, next_room, size_of};
-ghost use Rattle.chain_ops.specs.Makes.{Makes};
+ghost use Rattle.flat_model.specs.Amounts.Layout.{user, wire, need_of, next_room, size_of};
 ghost use Rattle.chain_ops.specs.Rooms.{room_low};
-ghost use Rattle.chain_ops.specs.Stored.{AreFree, IsClusterTaken, IsStoredIn, Lacks, Has, rooms_for, stored_first, first_start};
+ghost use Rattle.chain_ops.specs.Stored.{IsClusterTaken, IsStoredIn, Lacks, Has, Stores, rooms_for, first_start};
 
 use crate::prepend::at_end;
 use crate::step::room_low;
@@ -41,20 +40,6 @@ pub fn space_for(large: u32, n: u32) -> Space
         return Space::InMore;
     }
     Space::InCluster
-}
-
-/// Makes a chain of one mbuf with bytes in a cluster of its own, from `start` on.
-#[inline(always)]
-fn new_cluster(pool: &mut Pool, header: bool, start: u32, bytes: &[u8]) -> Result<Chain, NoBufs>
-    requires { start + length bytes.now ≤ MCLBYTES }
-    ensures ok { IfOk result (λ c. (k : ℕ) × (k < pool.old.clusters) × (references pool.old k ≡ 0)
-        × Adds pool.old pool.new c
-        (one_mbuf header (record { bytes = bytes.now; start = start; cluster = Some k }) c)) }
-    ensures err { OnErr result ((held_mbufs pool.old ≡ pool.old.mbufs) ⊎
-        (free_clusters pool.old ≡ 0)) }
-    ensures same { OnErr result (pool.new ≡ pool.old) }
-{
-    pool.new_cluster_with(header, start, bytes)
 }
 
 /// Returns how many of the remaining bytes go into the next mbuf, and whether it refers to a cluster, which is so from
@@ -112,7 +97,7 @@ fn new_stored(
     ensures same { OnErr result (pool.new ≡ pool.old) }
 {
     if is_large {
-        new_cluster(pool, header, large, bytes)
+        pool.new_cluster_with(header, large, bytes)
     } else {
         pool.new_plain_with(header, plain, bytes)
     }
@@ -122,10 +107,8 @@ fn new_stored(
 fn store_rooms(pool: &mut Pool, bytes: &[u8], large: u32, ends: bool) -> Result<Chain, NoBufs>
     requires large { large ≤ CLUSTER_LEADING_SPACE }
     requires most { length bytes.now ≤ IP_MAX_PACKET }
-    ensures ok { IfOk result (λ d. (cs : List ℕ) × AreFree pool.old cs
-        × (length cs ≡ count_by is_cluster (rooms_for large (length bytes.now)))
-        × Makes pool.old pool.new d (alone true)
-        (stored_first large ends cs (rooms_for large (length bytes.now)) bytes.now)) }
+    ensures ok { IfOk result (λ d. Stores pool.old pool.new d large ends
+        (rooms_for large (length bytes.now)) bytes.now) }
     ensures enough { OnOk result (Has pool.old (rooms_for large (length bytes.now))) }
     ensures err { OnErr result (Lacks pool.old (rooms_for large (length bytes.now))) }
     ensures same { OnErr result (pool.new ≡ pool.old) }
@@ -157,10 +140,8 @@ fn store_rooms(pool: &mut Pool, bytes: &[u8], large: u32, ends: bool) -> Result<
 fn store(pool: &mut Pool, bytes: &[u8], large: u32, ends: bool) -> Result<Chain, NoBufs>
     requires large { large ≤ CLUSTER_LEADING_SPACE }
     requires most { length bytes.now ≤ IP_MAX_PACKET }
-    ensures ok { IfOk result (λ d. (cs : List ℕ) × AreFree pool.old cs
-        × (length cs ≡ count_by is_cluster (rooms_for large (length bytes.now)))
-        × Makes pool.old pool.new d (alone true)
-        (stored_first large ends cs (rooms_for large (length bytes.now)) bytes.now)) }
+    ensures ok { IfOk result (λ d. Stores pool.old pool.new d large ends
+        (rooms_for large (length bytes.now)) bytes.now) }
     ensures enough { OnOk result (Has pool.old (rooms_for large (length bytes.now))) }
     ensures err { OnErr result (Lacks pool.old (rooms_for large (length bytes.now))) }
     ensures same { OnErr result (pool.new ≡ pool.old) }
@@ -182,11 +163,9 @@ fn store(pool: &mut Pool, bytes: &[u8], large: u32, ends: bool) -> Result<Chain,
 #[inline(always)]
 pub fn from_user(pool: &mut Pool, bytes: &[u8]) -> Result<Chain, NoBufs>
     requires { length bytes.now ≤ IP_MAX_PACKET }
-    ensures ok { IfOk result (λ d. (cs : List ℕ) × AreFree pool.old cs
-        × (length cs ≡ count_by is_cluster (user (length bytes.now)))
-        × Makes pool.old pool.new d (alone true)
-        (stored_first CLUSTER_LEADING_SPACE true cs (user (length bytes.now)) bytes.now)) }
-    ensures string { IfOk result (λ d. string (chain_of pool.new d) ≡ bytes.now) }
+    ensures ok { IfOk result (λ d. Stores pool.old pool.new d CLUSTER_LEADING_SPACE true
+        (user (length bytes.now)) bytes.now) }
+    ensures string { IfOk result (λ d. string_in pool.new d ≡ bytes.now) }
     ensures enough { OnOk result (Has pool.old (user (length bytes.now))) }
     ensures err { OnErr result (Lacks pool.old (user (length bytes.now))) }
     ensures same { OnErr result (pool.new ≡ pool.old) }
@@ -201,11 +180,8 @@ pub fn from_user(pool: &mut Pool, bytes: &[u8]) -> Result<Chain, NoBufs>
 #[inline(always)]
 pub fn from_wire(pool: &mut Pool, bytes: &[u8]) -> Result<Chain, NoBufs>
     requires { length bytes.now ≤ IP_MAX_PACKET }
-    ensures ok { IfOk result (λ d. (cs : List ℕ) × AreFree pool.old cs
-        × (length cs ≡ count_by is_cluster (wire (length bytes.now)))
-        × Makes pool.old pool.new d (alone true)
-        (stored_first 0 false cs (wire (length bytes.now)) bytes.now)) }
-    ensures string { IfOk result (λ d. string (chain_of pool.new d) ≡ bytes.now) }
+    ensures ok { IfOk result (λ d. Stores pool.old pool.new d 0 false (wire (length bytes.now)) bytes.now) }
+    ensures string { IfOk result (λ d. string_in pool.new d ≡ bytes.now) }
     ensures enough { OnOk result (Has pool.old (wire (length bytes.now))) }
     ensures err { OnErr result (Lacks pool.old (wire (length bytes.now))) }
     ensures same { OnErr result (pool.new ≡ pool.old) }

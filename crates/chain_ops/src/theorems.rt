@@ -25,8 +25,7 @@ pub fn copy_weight()
 pub fn copy_all()
     ensures layout { (header : Bool) (es : List Entry) →
         layout_entries (copied_all (room_low header) es) ≡ layout_entries es }
-    ensures bytes { (header : Bool) (es : List Entry) →
-        flat_bytes (copied_all (room_low header) es) ≡ flat_bytes es }
+    ensures bytes { (header : Bool) (es : List Entry) → flat_bytes (copied_all (room_low header) es) ≡ flat_bytes es }
 {}
 
 /// A join takes no more mbufs than the two chains have, refers to no other cluster, and has space for its bytes.
@@ -52,8 +51,7 @@ pub fn stored_layout()
 /// The owners' chains after an operation: a new chain, a changed chain, perhaps under another number, and two joined
 /// chains. Every other chain is unchanged.
 pub fn frame()
-    ensures made { (p q : PoolView) (d : ℕ) (f : Front) (es : List Entry) → Makes p q d f es →
-        Moves p [] q (d ∷ []) }
+    ensures made { (p q : PoolView) (d : ℕ) (f : Front) (es : List Entry) → Makes p q d f es → Moves p [] q (d ∷ []) }
     ensures changed { (p q : PoolView) (c d : ℕ) (f : Front) (es : List Entry) → IsLive p c →
         Makes (without p c) q d f es → Moves p (c ∷ []) q (d ∷ []) }
     ensures joined { (p q : PoolView) (c d : ℕ) (f : Front) (es : List Entry) → IsLive p c → IsLive p d →

@@ -1,9 +1,10 @@
 use Rattle.std.proofs.Common.{ℕ, ◌-◌, ◌++◌, List, take, drop, arith, ap, sym, refl, ◌∙◌}
 use Rattle.mbuf_chain.specs.declared.place.Segment.{Segment}
 use Rattle.mbuf_chain.specs.Chain.{Entry, chain_of}
+use Rattle.mbuf_chain.specs.Steps.{with_entries_in}
 use Rattle.mbuf_chain.proofs.Laws.Steps.{live_shown, place_after}
 use Rattle.chain_ops.specs.Trims.{only_first}
-use Rattle.chain_ops.proofs.Trims.{changed, changed_none, changed_step, length_now, walk_end, keep_all}
+use Rattle.chain_ops.proofs.Trims.{changed_none, changed_step, length_now, walk_end, keep_all}
 use Rattle.chain_ops.proofs.adj.keep_walk.Goals as goal
 
 pub next-requires-clause-live : goal.next-requires-clause-live
@@ -42,4 +43,4 @@ returns-in_default c =
     keep_all _ _ _ _ _ _ _ _ c.mbufs.invariant.place (ap (λ (x : Segment). x.len) c.segment-len.ensures.value)
     c.min-kept.ensures c.narrow.ensures refl in
     changed_step _ _ _ _ _ _ c.mbufs.invariant.step c.narrow.ensures
-    ∙ ap (changed c.args.pool.now c.args.chain.now) (sym end ∙ all ∙ c.mbufs.invariant.all)
+    ∙ ap (with_entries_in c.args.pool.now c.args.chain.now) (sym end ∙ all ∙ c.mbufs.invariant.all)

@@ -2,9 +2,10 @@ use Rattle.std.proofs.Common.{◌≡◌, ℕ, ◌-◌, ◌++◌, List, take, dro
 use Rattle.std.proofs.lemmas.List.{take-append-drop}
 use Rattle.mbuf_chain.specs.declared.place.Segment.{Segment}
 use Rattle.mbuf_chain.specs.Chain.{Entry, chain_of}
+use Rattle.mbuf_chain.specs.Steps.{with_entries_in}
 use Rattle.mbuf_chain.proofs.Laws.Steps.{live_shown, place_after}
 use Rattle.chain_ops.specs.Trims.{without_first}
-use Rattle.chain_ops.proofs.Trims.{changed, changed_none, changed_step, length_now, walk_end, trim_all, trim_nothing}
+use Rattle.chain_ops.proofs.Trims.{changed_none, changed_step, length_now, walk_end, trim_all, trim_nothing}
 use Rattle.chain_ops.proofs.adj.trim_walk.Goals as goal
 
 pub next-requires-clause-live : goal.next-requires-clause-live
@@ -43,7 +44,7 @@ returns-in_default c =
     trim_all _ _ _ _ _ _ _ _ c.mbufs.invariant.place (ap (λ (x : Segment). x.len) c.segment-len.ensures.value)
     c.min-skip.ensures c.narrow.ensures refl in
     changed_step _ _ _ _ _ _ c.mbufs.invariant.step c.narrow.ensures
-    ∙ ap (changed c.args.pool.now c.args.chain.now) (sym end ∙ all ∙ c.mbufs.invariant.all)
+    ∙ ap (with_entries_in c.args.pool.now c.args.chain.now) (sym end ∙ all ∙ c.mbufs.invariant.all)
 
 pub returns : goal.returns
 returns c =
@@ -51,6 +52,6 @@ returns c =
     let i : ℕ = c.mbufs.at.index in
     let none : 0 ≡ c.mbufs.left = omega arith in
     c.mbufs.invariant.step
-    ∙ ap (changed c.args.pool.now c.args.chain.now)
+    ∙ ap (with_entries_in c.args.pool.now c.args.chain.now)
     (sym (take-append-drop i es) ∙ ap (λ (xs : List Entry). take i es ++ xs) (sym (trim_nothing (drop i es)))
     ∙ ap (λ (n : ℕ). take i es ++ without_first n (drop i es)) none ∙ c.mbufs.invariant.all)

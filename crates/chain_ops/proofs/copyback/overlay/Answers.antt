@@ -3,10 +3,11 @@ use Rattle.std.proofs.lemmas.Bool.{eqb-true, false≢true}
 use Rattle.std.proofs.lemmas.List.{take-append-drop, drop-set-lt, length-drop}
 use Rattle.mbuf_chain.specs.declared.place.Segment.{Segment}
 use Rattle.mbuf_chain.specs.Chain.{Entry, ChainView, PoolView, chain_of, entry_of, references}
+use Rattle.mbuf_chain.specs.Steps.{with_entries_in}
 use Rattle.mbuf_chain.proofs.Laws.Steps.{live_shown, place_after}
 use Rattle.chain_ops.specs.Writes.{is_shared, is_writable, overlaid}
 use Rattle.chain_ops.proofs.Lists.{at_entry}
-use Rattle.chain_ops.proofs.Trims.{changed, changed_none, changed_step, entries_now, length_now, walk_end}
+use Rattle.chain_ops.proofs.Trims.{changed_none, changed_step, entries_now, length_now, walk_end}
 use Rattle.chain_ops.proofs.Writes.{writable_parts, overlay_all, overlaid-none, counts_stay}
 use Rattle.chain_ops.proofs.copyback.overlay.Goals as goal
 use Rattle.chain_ops.proofs.copyback.overlay.Goals.{After-after-rest, After-segment-len}
@@ -127,7 +128,7 @@ returns-in_default c =
     c.segment-len.result.len c.mbufs.rest.now c.after-rest.result.now c.mbufs.invariant.place
     (len here.After-segment-len) (later here.After-after-rest) c.overlay_mbuf.ensures refl in
     changed_step _ _ _ _ _ _ c.mbufs.invariant.step c.overlay_mbuf.ensures
-    ∙ ap (changed c.args.pool.now c.args.chain.now) (sym end ∙ all ∙ c.mbufs.invariant.all)
+    ∙ ap (with_entries_in c.args.pool.now c.args.chain.now) (sym end ∙ all ∙ c.mbufs.invariant.all)
 
 pub returns : goal.returns
 returns c =
@@ -136,7 +137,7 @@ returns c =
     let xs : List ℕ = c.mbufs.rest.now in
     let none : xs ≡ [] = no_bytes xs (eqb-true (length xs) 0 (sym c.is_empty.ensures ∙ c.mbufs-test.false)) in
     c.mbufs.invariant.step
-    ∙ ap (changed c.args.pool.now c.args.chain.now)
+    ∙ ap (with_entries_in c.args.pool.now c.args.chain.now)
     (sym (take-append-drop i es) ∙ ap (λ (fs : List Entry). take i es ++ fs)
     (sym (overlaid-none (drop i es) c.mbufs.skip))
     ∙ ap (λ (ys : List ℕ). take i es ++ overlaid (drop i es) c.mbufs.skip ys) (sym none) ∙ c.mbufs.invariant.all)

@@ -1,12 +1,12 @@
 use Rattle.std.proofs.Common.{◌≡◌, ℕ, ◌-◌, ◌++◌, true, length, take, drop}
-use Rattle.mbuf_chain.specs.Chain.{IsPlace, chain_of, references, with_chain}
+use Rattle.mbuf_chain.specs.Chain.{IsPlace, chain_of, references}
+use Rattle.mbuf_chain.specs.Steps.{with_entries_in}
 use Rattle.chain_ops.specs.Writes.{is_writable, overlaid}
 use Rattle.chain_ops.proofs.copyback.overlay.Given as goal
 
 abbrev pub invariant-mbufs : goal.invariant-mbufs
 invariant-mbufs l = record {
-  step : l.pool ≡ with_chain l.fn.pool l.chain
-      (record (chain_of l.fn.pool l.chain) { entries = (chain_of l.pool l.chain).entries });
+  step : l.pool ≡ with_entries_in l.fn.pool l.chain (chain_of l.pool l.chain).entries;
   all : take l.at.index (chain_of l.pool l.chain).entries
       ++ overlaid (drop l.at.index (chain_of l.pool l.chain).entries) l.skip l.rest
       ≡ overlaid (chain_of l.fn.pool l.chain).entries l.fn.off l.bytes;

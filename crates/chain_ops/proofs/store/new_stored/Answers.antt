@@ -16,6 +16,6 @@ in_cluster p q d header xs large plain false e k lt none a = absurd (false≢tru
 
 pub returns-then-is_large-clause-ok : goal.returns-then-is_large-clause-ok
 returns-then-is_large-clause-ok c =
-    IfOk-weaker c.new_cluster.result _ _
-    (λ d t. in_cluster c.args.pool.now c.new_cluster.new.pool d c.args.header c.args.bytes.now c.args.large
-    c.args.plain c.args.is_large c.if-is_large.true t.0 t.1 t.2 t.3) c.new_cluster.ensures.ok
+    IfOk-weaker c.new_cluster_with.result _ _
+    (λ d t. in_cluster c.args.pool.now c.new_cluster_with.new.self d c.args.header c.args.bytes.now c.args.large
+    c.args.plain c.args.is_large c.if-is_large.true t.0 t.1 t.2 t.3) c.new_cluster_with.ensures.ok
