@@ -2,11 +2,11 @@
 use Rattle.std.proofs.Common.{◌≡◌, Err, ℕ, List, [], ◌∷◌, refl, sym, ap, ◌∙◌, subst, arith}
 use Rattle.std.specs.List.{AllByRecursion as Each}
 use Rattle.flat_model.specs.Sockets.Fits.{bytes_queued, memory_queued}
-use Rattle.mbuf_chain.specs.Chain.{PoolView, without}
+use Rattle.mbuf_chain.specs.Chain.{PoolView}
 use Rattle.mbuf_chain.specs.Frames.{SameAt}
 use Rattle.mbuf_chain.specs.Owners.{times_among, IsOwned, Moves}
 use Rattle.mbuf_chain.specs.Train.{QueuedPacket}
-use Rattle.mbuf_chain.proofs.Laws.Owners.{times_same, live_at_most, same_beside, same_without}
+use Rattle.mbuf_chain.proofs.Laws.Owners.{times_same, live_at_most, same_beside}
 use Rattle.mbuf_chain.proofs.Laws.Trains.{numbers_same, queued_packets_same, held_same, held_none}
 use Rattle.sockbuf.specs.SockBuf.{SockBufView, IsSockBuf, IsDatagram, datagrams_of, datagrams, chains_of, no_datagrams, AppendsAddr, IsRefused}
 use Rattle.sockbuf.specs.declared.buffer.Refusal.{Refusal}
@@ -49,10 +49,6 @@ pub apart_ready : {p q : PoolView} {c : ℕ} (b : SockBufView) → Moves p [] q 
     → times_among c (chains_of q b) ≡ 0
 apart_ready {p} {q} {c} b m h =
     ap (times_among c) (chains_same p q b (made_beside b m h)) ∙ apart_made (chains_of p b) m h.held.owned
-
-pub ready_freed : {p q : PoolView} (c : ℕ) (b : SockBufView) → IsSockBuf p b → times_among c (chains_of p b) ≡ 0
-    → q ≡ without p c → IsSockBuf q b
-ready_freed {p} {q} c b h apart e = ready_same p q b (same_without p q c (chains_of p b) apart e) h
 
 -- ---- a datagram that was refused
 pub refused : {p q : PoolView} {b d : SockBufView} {c back : ℕ} (sender : Addr) (r : Refusal)

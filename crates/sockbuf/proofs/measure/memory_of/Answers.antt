@@ -18,6 +18,8 @@ mbufs-init c = record {
             (c.into_iter-cluster-iterator.ensures.into_iter_gives ∙ c.layout-cluster-items.ensures),
         references_are (chain_of c.args.pool.now c.args.chain.now).entries,
       );
+  few = chain_few _ _ c.requires c.laws.ensures;
+  bag = bag_few (chain_of c.args.pool.now c.args.chain.now).entries;
 }
 
 pub overflow_add-clusters : goal.overflow_add-clusters
@@ -25,44 +27,8 @@ overflow_add-clusters c =
     omega (
       arith,
       c.mbufs.invariant.count,
-      bag_few (chain_of c.args.pool.now c.args.chain.now).entries,
-      chain_few _ _ c.requires c.laws.ensures,
+      c.mbufs.invariant.few,
+      c.mbufs.invariant.bag,
       ap references_in c.in-Some.ensures.steps,
       ap (λ (b : Bool). cond {A = ℕ} b 1 0) (sym c.is_some.ensures ∙ c.if-is_some.true),
-    )
-
-pub overflow_add-mbufs : goal.overflow_add-mbufs
-overflow_add-mbufs c =
-    omega (arith, c.mbufs.invariant.seen, ap length c.in-Some.ensures.steps, chain_few _ _ c.requires c.laws.ensures)
-
-pub overflow_mul-result : goal.overflow_mul-result
-overflow_mul-result c = omega (arith, c.mbufs.invariant.seen, chain_few _ _ c.requires c.laws.ensures)
-
-pub overflow_mul-result-2 : goal.overflow_mul-result-2
-overflow_mul-result-2 c =
-    omega (
-      arith,
-      c.mbufs.invariant.count,
-      bag_few (chain_of c.args.pool.now c.args.chain.now).entries,
-      chain_few _ _ c.requires c.laws.ensures,
-    )
-
-pub overflow_add-result : goal.overflow_add-result
-overflow_add-result c =
-    omega (
-      arith,
-      c.mbufs.invariant.seen,
-      c.mbufs.invariant.count,
-      bag_few (chain_of c.args.pool.now c.args.chain.now).entries,
-      chain_few _ _ c.requires c.laws.ensures,
-    )
-
-pub returns-clause-bound : goal.returns-clause-bound
-returns-clause-bound c =
-    omega (
-      arith,
-      c.mbufs.invariant.seen,
-      c.mbufs.invariant.count,
-      bag_few (chain_of c.args.pool.now c.args.chain.now).entries,
-      chain_few _ _ c.requires c.laws.ensures,
     )

@@ -1,14 +1,14 @@
-use Rattle.std.proofs.Common.{◌≡◌, ◌+◌, ℕ, List, length, ap, sym, subst, ◌∙◌, arith}
+use Rattle.std.proofs.Common.{◌+◌, ℕ, List, length, ap, sym, subst, ◌∙◌, arith}
 use Rattle.std.specs.List.{insert}
-use Rattle.mbuf_chain.specs.Owners.{times_among}
 use Rattle.mbuf_chain.specs.Chain.{ChainView, chain_of, string}
 use Rattle.mbuf_chain.specs.Train.{QueuedPacket, queued_packets}
 use Rattle.mbuf_chain.proofs.Laws.Owners.{live_adds, kept_with}
 use Rattle.mbuf_chain.proofs.Laws.Steps.{apart, live_beside, count_new}
-use Rattle.sockbuf.specs.SockBuf.{Appended, SockBufView, IsSockBuf, chains_of}
-use Rattle.sockbuf.proofs.Fronts.{with_bytes, addressed}
+use Rattle.sockbuf.specs.SockBuf.{Appended, CanAppend, SockBufView}
+use Rattle.sockbuf.proofs.Fronts.{Addressed, with_bytes, addressed}
 use Rattle.sockbuf.proofs.Queues.{appended, held_beside, apart_beside}
 use Rattle.sockbuf.proofs.buffer.SockBuf.append_sized.Goals as goal
+use Rattle.sockbuf.proofs.buffer.SockBuf.append_sized.Goals.{After-len-end}
 
 pub first-first-requires : goal.first-first-requires
 first-first-requires c = live_adds c.in-Ok.ensures.ok
@@ -26,42 +26,34 @@ link_counted-requires-clause-len c =
     c.requires.can.len ∙ ap (λ (v : ChainView). length (string v))
     (sym (kept_with _ _ _ _ _ a.pool (apart _ _ _ _ a _ c.requires.can.live)))
 
+-- ---- the queue before, in the form of its fields, and the chain after the mbuf with the address
+was : (c : After-len-end) → CanAppend c.args.pool.now
+    (record { train = c.self.inside.train; cc = c.self.inside.cc; mbcnt = c.self.inside.mbcnt }) c.args.chain c.args.len
+was c =
+    subst (λ (v : SockBufView). CanAppend c.args.pool.now v c.args.chain c.args.len) (sym c.self.view_is) c.requires.can
+
+made : (c : After-len-end)
+    → Addressed c.args.pool.now c.args.chain c.args.sender c.link_counted.new.self c.in-Ok.whole
+made c =
+    addressed _ _ _ (with_bytes c.args.sender _ c.in-Ok.ensures.ok c.sockaddr_bytes.ensures) c.requires.can.live
+    c.link_counted.ensures.change
+
 pub insert-requires-clause-held : goal.insert-requires-clause-held
 insert-requires-clause-held c =
-    let ready = subst (IsSockBuf c.args.pool.now) (sym c.self.view_is) c.requires.can.ready in
-    let beside =
-    subst (λ (v : SockBufView). times_among c.args.chain (chains_of c.args.pool.now v) ≡ 0) (sym c.self.view_is)
-    c.requires.can.apart in
-    let made =
-    addressed _ _ _ (with_bytes c.args.sender _ c.in-Ok.ensures.ok c.sockaddr_bytes.ensures) c.requires.can.live
-    c.link_counted.ensures.change in
-    held_beside c.self.inside.train made.moves beside ready.held
+    let at = (goal.at.insert-requires-clause-held c).After-len-end in
+    held_beside c.self.inside.train (made at).moves (was at).apart (was at).ready.held
 
 pub insert-requires-clause-headed : goal.insert-requires-clause-headed
-insert-requires-clause-headed c =
-    (addressed _ _ _ (with_bytes c.args.sender _ c.in-Ok.ensures.ok c.sockaddr_bytes.ensures) c.requires.can.live
-    c.link_counted.ensures.change).headed
+insert-requires-clause-headed c = (made (goal.at.insert-requires-clause-headed c).After-len-end).headed
 
 pub insert-requires-clause-apart : goal.insert-requires-clause-apart
 insert-requires-clause-apart c =
-    let ready = subst (IsSockBuf c.args.pool.now) (sym c.self.view_is) c.requires.can.ready in
-    let beside =
-    subst (λ (v : SockBufView). times_among c.args.chain (chains_of c.args.pool.now v) ≡ 0) (sym c.self.view_is)
-    c.requires.can.apart in
-    let made =
-    addressed _ _ _ (with_bytes c.args.sender _ c.in-Ok.ensures.ok c.sockaddr_bytes.ensures) c.requires.can.live
-    c.link_counted.ensures.change in
-    apart_beside c.self.inside.train made.moves c.requires.can.live beside ready.held
+    let at = (goal.at.insert-requires-clause-apart c).After-len-end in
+    apart_beside c.self.inside.train (made at).moves c.requires.can.live (was at).apart (was at).ready.held
 
 pub returns : goal.returns
 returns c =
-    let ready = subst (IsSockBuf c.args.pool.now) (sym c.self.view_is) c.requires.can.ready in
-    let beside =
-    subst (λ (v : SockBufView). times_among c.args.chain (chains_of c.args.pool.now v) ≡ 0) (sym c.self.view_is)
-    c.requires.can.apart in
-    let made =
-    addressed _ _ _ (with_bytes c.args.sender _ c.in-Ok.ensures.ok c.sockaddr_bytes.ensures) c.requires.can.live
-    c.link_counted.ensures.change in
+    let at = (goal.at.returns c).After-len-end in
     let old : List QueuedPacket = queued_packets c.link_counted.new.self c.self.inside.train in
     let new : QueuedPacket =
     record {
@@ -76,12 +68,12 @@ returns c =
       mbcnt = c.self.inside.mbcnt + (128 + c.args.memory);
     })) c.self.view_is
     (appended {b = record { train = c.self.inside.train; cc = c.self.inside.cc; mbcnt = c.self.inside.mbcnt }}
-    {a = c.args.sender} _ _ ready (record {
+    {a = c.args.sender} _ _ (was at).ready (record {
       live = c.requires.can.live;
       some = c.laws.ensures.some _ c.requires.can.live;
-      apart = beside;
-      entries = made.entries;
-      made = made.moves;
+      apart = (was at).apart;
+      entries = (made at).entries;
+      made = (made at).moves;
       queued_packets = c.insert.ensures.queued_packets ∙ ap (λ (n : ℕ). insert old n new) c.len-end.ensures;
       held = c.insert.ensures.held;
       moves = c.insert.ensures.moves;
