@@ -1,7 +1,7 @@
 -- The blocks of a pcapng file (draft-ietf-opsawg-pcapng, sections 3.1 and 4.1): each has a type, its total length, a
 -- body and again its total length. Numbers are in the byte order of the block's section, which the section's header
 -- gives.
-use Rattle.std.specs.Prelude.{◌≡◌, ℕ, ◌+◌, ◌-◌, ◌%◌, ◌^◌, ◌<◌, ◌⊎◌, List, [], ◌++◌, length, take, drop, Option, Some, None, Result, Ok, Err, nat_lt, not, ◌==◌, if◌then◌else◌}
+use Rattle.std.specs.Prelude.{◌≡◌, ℕ, ◌+◌, ◌-◌, ◌%◌, ◌^◌, ◌<◌, ◌⊎◌, List, ◌++◌, length, take, drop, Option, Some, None, Result, Ok, Err, nat_lt, not, ◌==◌, if◌then◌else◌}
 use Rattle.std.specs.Int.{w32}
 use Rattle.capture.specs.File.{number, number_of}
 use Rattle.capture.specs.declared.pcap.header.Order.{Order}
@@ -94,20 +94,3 @@ pub record IsBlock (b : Part) : Type 0 where
   pub kind : b.kind < 2 ^ 32
   pub size : size b < 2 ^ 32
   pub filled : length b.body % 4 ≡ 0
-
--- ---- a reader, and its steps
-
--- a reader: the order of the section that it is in, the bytes that are left, and their offset in the file
-pub record Reading : Type 0 where
-  pub order : Option Order
-  pub offset : ℕ
-  pub rest : List ℕ
-
--- a step of a reader, from old to new: the end of the file, the next block, or why it can't be read
-abbrev pub Steps : Reading → Reading → Result (Option Part) Fault → Type 0
-Steps old new (Ok None) = (old.rest ≡ []) × (new ≡ old)
-Steps old new (Ok (Some b)) = (next_of old.order old.rest ≡ Ok b) × (old.rest ≡ block_bytes b ++ new.rest)
-    × (new.offset ≡ old.offset + size b) × (new.order ≡ Some b.order)
-Steps old new (Err f) =
-    ((at : ℕ) × (f.offset ≡ old.offset + at) × (next_of old.order old.rest ≡ Err (fault f.why at)))
-    × (0 < length old.rest) × (new ≡ old)

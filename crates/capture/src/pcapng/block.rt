@@ -1,12 +1,11 @@
-//! Blocks, one after another.
+//! Blocks.
 ghost use Rattle.std.specs.Prelude.{◌≡◌, ◌+◌, ◌<◌, ◌≤◌, ◌^◌, ◌++◌, None, Ok, IfOk, IfErr, length};
 ghost use Rattle.capture.specs.File.{ReturnsBy};
-ghost use Rattle.capture.specs.Blocks.{Reading, Steps, block_bytes, head_of, next_of, order_at, size};
-ghost use Rattle.capture.specs.SeenBlocks.{part, stepped};
+ghost use Rattle.capture.specs.Blocks.{block_bytes, head_of, next_of, order_at, size};
+ghost use Rattle.capture.specs.SeenBlocks.{part};
 
 use crate::pcap::{Order, first_u32, u32_at};
 use crate::pcapng::fault::{Fault, Why};
-use std::marker::Model;
 
 /// The type of a section's header (section 4.1). It's the same in both byte orders.
 pub const SECTION_HEADER: u32 = 0x0a0d_0d0a;
@@ -28,25 +27,6 @@ pub struct Block<'a> {
     /// Its type.
     pub kind: u32,
     pub body: &'a [u8],
-}
-
-/// A reader of a file's blocks, in the order of the file. It allocates no memory.
-#[derive(Drop)]
-pub struct Reader<'a> {
-    order: Option<Order>,
-    file_len: usize,
-    rest: &'a [u8],
-}
-
-impl<'a> Model for Reader<'a> {
-    ghost use Rattle.std.specs.Prelude.{◌-◌, ◌≤◌, length};
-    ghost use Rattle.capture.specs.Blocks.{Reading};
-
-    ghost Value = { Reading };
-
-    ghost view = { λ r. record { order = r.order; offset = r.file_len - length r.rest.now; rest = r.rest.now } };
-
-    ghost invariant = { λ r. length r.rest.now ≤ r.file_len };
 }
 
 /// Returns the byte order of the block that begins these bytes, in a section of this order.
@@ -137,45 +117,4 @@ pub fn first_block(current: Option<Order>, bytes: &[u8]) -> Result<(Block<'_>, &
         });
     }
     Ok((Block { order, kind, body }, rest))
-}
-
-impl<'a> Reader<'a> {
-    /// Returns a reader at the start of a file, given all its bytes.
-    pub fn new(file: &'a [u8]) -> Reader<'a>
-        ensures { result ≡ record { order = None; offset = 0; rest = file.now } }
-    {
-        Reader {
-            order: None,
-            file_len: file.len(),
-            rest: file,
-        }
-    }
-
-    /// Returns how many bytes of the file have been read.
-    pub fn offset(&self) -> usize
-        ensures { result ≡ self.now.offset }
-    {
-        self.file_len - self.rest.len()
-    }
-
-    /// Returns the next block, or `None` at the end of the file. Fails with a fault of the block; the reader is then
-    /// unchanged, and returns the same again.
-    pub fn next_block(&mut self) -> Result<Option<Block<'a>>, Fault>
-        ensures { Steps self.old self.new (stepped result) }
-    {
-        if self.rest.is_empty() {
-            return Ok(None);
-        }
-        match first_block(self.order, self.rest) {
-            Ok((block, rest)) => {
-                self.order = Some(block.order);
-                self.rest = rest;
-                Ok(Some(block))
-            }
-            Err(found) => Err(Fault {
-                why: found.why,
-                offset: self.offset() + found.offset,
-            }),
-        }
-    }
 }
