@@ -61,10 +61,6 @@ pub replaced : (n a b : ℕ) → fold16 a ≡ fold16 b → fold16 (n + a) ≡ fo
 replaced n a b same =
     sym (fold16-add_second n a) ∙ ap (λ m. fold16 (n + m)) same ∙ fold16-add_second n b
 
-pub replaced_first : (n a b : ℕ) → fold16 a ≡ fold16 b → fold16 (a + n) ≡ fold16 (b + n)
-replaced_first n a b same =
-    sym (fold16-add_first a n) ∙ ap (λ m. fold16 (m + n)) same ∙ fold16-add_first b n
-
 -- both halves of a number
 pub half_folded : (s low : ℕ) → low ≡ s % 4294967296 → fold16 (low + s / 4294967296) ≡ fold16 s
 half_folded s low is =

@@ -123,9 +123,6 @@ rest_counts s1 s2 s3 s4 v b0 b1 b2 b3 b4 a1 a2 a3 a4 is = record {
   total_is = omega (arith, a1.taken, a2.taken, a3.taken, a4.taken);
 }
 
-pub counts_below : (value total : ℕ) → CountsAs value total → value ≤ 65536 * total
-counts_below value total c = omega (arith, c.value_is, c.total_is)
-
 pub counts_more : (value total n whole : ℕ) → n + total ≡ whole → CountsAs value total → CountsAs (n + value) whole
 counts_more value total n whole is c =
     record {
