@@ -4,7 +4,7 @@ use Rattle.std.specs.Prelude.{IsSome}
 use Rattle.std.proofs.lemmas.List.{get_or-take}
 use Rattle.std.proofs.lemmas.Bool.{eq-eqb, false≢true}
 use Rattle.raw_cells.specs.Over.{over}
-use Rattle.raw_cells.specs.Cells.{Cells, SetsCellHead, IsSized, zero_head, cell_head, changed, head_size, with_arrival, with_head, with_packet_len}
+use Rattle.raw_cells.specs.Cells.{Cells, SetsCellHead, IsChange, IsSized, zero_head, cell_head, changed, head_size, with_arrival, with_head, with_packet_len}
 use Rattle.raw_cells.specs.Inside.Layout.{little_u16_at, little_u32_at, link_of, head_by, cell_head_in, cells_of, IsRegion}
 use Rattle.raw_cells.specs.declared.head.Change.{Change}
 use Rattle.raw_cells.specs.declared.head.Head.{Head}
@@ -283,15 +283,15 @@ sized_packet h f has = go h.packet (is_some h.cluster) has
     go (Some p) true h = lit≤ tt
     go (Some p) false h = lit≤ tt
 
-pub low_field : (h : Head) (n : ℕ) → n ≤ 20 → n ≤ head_size h
+low_field : (h : Head) (n : ℕ) → n ≤ 20 → n ≤ head_size h
 low_field h n few = omega (arith, least_size h)
 
-pub packet_field : (h : Head) (f : PacketHeader → PacketHeader) (n : ℕ) → n ≤ 28 → IsSome h.packet
+packet_field : (h : Head) (f : PacketHeader → PacketHeader) (n : ℕ) → n ≤ 28 → IsSome h.packet
     → n ≤ head_size (record h { packet = option_map f h.packet })
 packet_field h f n few has = omega (arith, sized_packet h f has)
 
 -- the same for an equal change
-pub sets_changed : (v t : Cells) (i : ℕ) (d e : Change) → d ≡ e → SetsCellHead v t i (changed (cell_head v i) e)
+sets_changed : (v t : Cells) (i : ℕ) (d e : Change) → d ≡ e → SetsCellHead v t i (changed (cell_head v i) e)
     → SetsCellHead v t i (changed (cell_head v i) d)
 sets_changed v t i d e is sets = subst (λ (x : Change). SetsCellHead v t i (changed (cell_head v i) x)) (sym is) sets
 
@@ -300,13 +300,13 @@ module _ (r : Inside) (is : IsRegion r) (v : Cells) (e : cells_of r ≡ v) (i : 
   there = let below : i < length (cells_of r).heads = subst (λ (x : Cells). i < length x.heads) (sym e) lt in
       omega (arith, below, length-heads r.mbufs r.block)
 
-  pub field_room : 128 * i + 32 ≤ length r.block
-  field_room = omega (arith, is.0, there)
+  pub room_at : 128 * i + 32 ≤ length r.block
+  room_at = omega (arith, is.0, there)
 
   head_there : cell_head_in r.block (128 * i) ≡ cell_head v i
   head_there = sym (head_at r.mbufs r.block i zero_head there) ∙ ap (λ (x : Cells). cell_head x i) e
 
-  pub field_set : (g : Head → Head) (k n at : ℕ) (ws : List ℕ) → at ≡ 128 * i + k → length ws ≡ n
+  field_set : (g : Head → Head) (k n at : ℕ) (ws : List ℕ) → at ≡ 128 * i + k → length ws ≡ n
       → k + n ≤ head_size (g (cell_head v i))
       → cell_head_in (patched r.block (128 * i) k ws) 0 ≡ g (cell_head_in r.block (128 * i))
       → SetsCellHead v (cells_of (record r { block = over r.block at (take n ws) })) i (g (cell_head v i))
@@ -315,12 +315,12 @@ module _ (r : Inside) (is : IsRegion r) (v : Cells) (e : cells_of r ≡ v) (i : 
       let o : ℕ = 128 * i in
       let fits : k + length ws ≤ 32 = omega (arith, head_size_le h) in
       let p = patched r.block o k ws in
-      let p_long = patched_long r.block o k ws field_room fits in
+      let p_long = patched_long r.block o k ws room_at fits in
       let b = take (head_size h) p in
       let whole : take n ws ≡ ws = take_all n ws (omega arith) in
       let same : over r.block at (take n ws) ≡ over r.block o b =
       (λ t. over r.block (place t) (whole t))
-      ∙ patch_over r.block o k ws field_room fits (head_size h) (omega arith) (head_size_le h) in (
+      ∙ patch_over r.block o k ws room_at fits (head_size h) (omega arith) (head_size_le h) in (
         b,
         length-take-le (head_size h) p (omega (arith, p_long, head_size_le h)),
         (λ t. cells_of (record r { block = same t }))
@@ -333,6 +333,37 @@ module _ (r : Inside) (is : IsRegion r) (v : Cells) (e : cells_of r ≡ v) (i : 
             ∙ ap (λ (x : Cells). with_head x i h b) e,
       )
 
+  -- the change d, which is known as e, made by bytes that are written over those from index k on
+  change_made : (d e : Change) → d ≡ e → (k n at : ℕ) (ws : List ℕ) → at ≡ 128 * i + k → length ws ≡ n
+      → k + n ≤ head_size (changed (cell_head v i) e)
+      → (128 * i + 32 ≤ length r.block
+      → cell_head_in (patched r.block (128 * i) k ws) 0 ≡ changed (cell_head_in r.block (128 * i)) e)
+      → SetsCellHead v (cells_of (record r { block = over r.block at (take n ws) })) i (changed (cell_head v i) d)
+  change_made d e is k n at ws place long few decoded =
+      sets_changed v _ i d e is (field_set (λ (h : Head). changed h e) k n at ws place long few (decoded room_at))
+
+  -- of a field that each head has
+  pub low_change : (d e : Change) → d ≡ e → (k n at : ℕ) (ws : List ℕ) → k + n ≤ 20 → at ≡ 128 * i + k → length ws ≡ n
+      → (128 * i + 32 ≤ length r.block
+      → cell_head_in (patched r.block (128 * i) k ws) 0 ≡ changed (cell_head_in r.block (128 * i)) e)
+      → SetsCellHead v (cells_of (record r { block = over r.block at (take n ws) })) i (changed (cell_head v i) d)
+  low_change d e is k n at ws low place long =
+      change_made d e is k n at ws place long (low_field (changed (cell_head v i) e) (k + n) low)
+
+  -- of a field of the packet header
+  pub packet_change : (d e : Change) → d ≡ e → (f : PacketHeader → PacketHeader)
+      → changed (cell_head v i) e ≡ record (cell_head v i) { packet = option_map f (cell_head v i).packet }
+      → (k n at : ℕ) (ws : List ℕ) → k + n ≤ 28 → (IsChange (cell_head v i) e → IsSome (cell_head v i).packet)
+      → IsChange (cell_head v i) d → at ≡ 128 * i + k → length ws ≡ n
+      → (128 * i + 32 ≤ length r.block
+      → cell_head_in (patched r.block (128 * i) k ws) 0 ≡ changed (cell_head_in r.block (128 * i)) e)
+      → SetsCellHead v (cells_of (record r { block = over r.block at (take n ws) })) i (changed (cell_head v i) d)
+  packet_change d e is f same k n at ws low has possible place long =
+      change_made d e is k n at ws place long
+      (subst (λ (h : Head). k + n ≤ head_size h) (sym same)
+      (packet_field (cell_head v i) f (k + n) low
+      (has (subst (λ (x : Change). IsChange (cell_head v i) x) is possible))))
+
   pub field_sized : (h : Head) (t : Cells) → SetsCellHead v t i h → IsSized t
   field_sized h t sets = sized_after_head v t i h (subst IsSized e (region_sized r is)) lt sets
 
@@ -340,7 +371,7 @@ module _ (r : Inside) (is : IsRegion r) (v : Cells) (e : cells_of r ≡ v) (i : 
       → IsRegion (record r { block = over r.block at (take n ws) })
   field_kept k n at ws place long few =
       let whole = take_all n ws (omega arith) in
-      (length_over r.block at (take n ws) (omega (arith, field_room)) ∙ is.0, is.1, is.2, is.3)
+      (length_over r.block at (take n ws) (omega (arith, room_at)) ∙ is.0, is.1, is.2, is.3)
 
 -- the flags are the same in the two bytes lent
 pub flags_read : (bs : List ℕ) (at : ℕ) (lent : List ℕ) → lent ≡ take 2 (drop at bs)
