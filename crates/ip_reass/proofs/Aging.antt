@@ -205,6 +205,18 @@ table_reordered p r xs ys zs same m =
 pub lent : (n : ℕ) (xs ys : List Datagram) → length ys ≡ n → take n (ys ++ drop (length ys) xs) ≡ ys
 lent n xs ys e = take_at ys (drop (length ys) xs) n e
 
+-- and one of them was changed
+pub lent_back : (n : ℕ) (xs slice ys : List Datagram) (i : ℕ) (d : Datagram) → length slice ≡ n → slice ≡ xs
+    → ys ≡ set xs i d → take n (ys ++ drop (length ys) xs) ≡ ys
+lent_back n xs slice ys i d size was change =
+    lent n xs ys (omega (
+      arith,
+      ap (λ (zs : List Datagram). length zs) change,
+      length-set xs i d,
+      ap (λ (zs : List Datagram). length zs) was,
+      size,
+    ))
+
 -- ---- a tick in the flat machine
 abbrev pub older : List Unfinished → List Unfinished
 older us = map (λ (u : Unfinished). record u { ticks = u.ticks - 1 }) us

@@ -6,7 +6,7 @@ use Rattle.mbuf_chain.specs.Train.{TrainView, IsHeld}
 use Rattle.chain_ops.proofs.Laws.Strings.{without_first_bytes}
 use Rattle.ip_reass.specs.Fragments.{QueuedFragment, queued, queued_end, cut, cut_to, fragment_of, fragments, bytes_held}
 use Rattle.ip_reass.specs.Inside.Walks.{queued_at}
-use Rattle.ip_reass.proofs.Steps.{fragments_are, length-queued}
+use Rattle.ip_reass.proofs.Steps.{IsNext, fragments_are, length-queued}
 
 abbrev pub queue_held : List QueuedFragment → ℕ
 queue_held qs = bytes_held (map fragment_of qs)
@@ -29,10 +29,19 @@ queue_removed [] i l = absurd (omega arith)
 queue_removed (q ∷ qs) zero l = omega arith
 queue_removed (q ∷ qs) (suc i) l = omega (arith, queue_removed qs i (omega arith))
 
-pub held_removed : (p q : PoolView) (t u : TrainView) (i : ℕ) → i < length (queued p t)
-    → queued q u ≡ remove (queued p t) i
-    → bytes_held (fragments q u) + length (flat_bytes (queued_at (queued p t) i).entries) ≡ bytes_held (fragments p t)
-held_removed p q t u i l e = omega (arith, held_is p t, held_is q u, ap queue_held e, queue_removed (queued p t) i l)
+pub held_removed : {p : PoolView} {t : TrainView} {i b e : ℕ} (q : PoolView) (u : TrainView) → IsNext p t i b
+    → queued_end (queued_at (queued p t) i) ≡ e → queued q u ≡ remove (queued p t) i
+    → bytes_held (fragments q u) + (e - b) ≡ bytes_held (fragments p t)
+held_removed {p} {t} {i} q u next end is =
+    omega (
+      arith,
+      next.begin,
+      end,
+      held_is p t,
+      held_is q u,
+      ap queue_held is,
+      queue_removed (queued p t) i next.within,
+    )
 
 -- one fragment loses its first n bytes
 queue_cut : (n : ℕ) (qs : List QueuedFragment) (i : ℕ) → i < length qs
@@ -47,11 +56,18 @@ queue_cut n (q ∷ qs) zero l m =
     )
 queue_cut n (q ∷ qs) (suc i) l m = omega (arith, queue_cut n qs i (omega arith) m)
 
-pub held_cut : (p q : PoolView) (t u : TrainView) (n i : ℕ) → i < length (queued p t)
-    → n ≤ length (flat_bytes (queued_at (queued p t) i).entries)
-    → queued q u ≡ set (queued p t) i (cut n (queued_at (queued p t) i))
-    → bytes_held (fragments q u) + n ≡ bytes_held (fragments p t)
-held_cut p q t u n i l m e = omega (arith, held_is p t, held_is q u, ap queue_held e, queue_cut n (queued p t) i l m)
+pub held_cut : {p : PoolView} {t : TrainView} {i b : ℕ} (q : PoolView) (u : TrainView) (e : ℕ) → IsNext p t i b
+    → e < queued_end (queued_at (queued p t) i) → queued q u ≡ set (queued p t) i (cut (e - b) (queued_at (queued p t) i))
+    → bytes_held (fragments q u) + (e - b) ≡ bytes_held (fragments p t)
+held_cut {p} {t} {i} {b} q u e next end is =
+    omega (
+      arith,
+      next.begin,
+      held_is p t,
+      held_is q u,
+      ap queue_held is,
+      queue_cut (e - b) (queued p t) i next.within (omega (arith, next.begin, end)),
+    )
 
 -- one fragment is inserted
 queue_between : (xs ys : List QueuedFragment) (q : QueuedFragment)

@@ -124,9 +124,9 @@ module _ (k : Key) (f : QueuedFragment) where
   left_once qs now q (Dropped why) left once j = omega (arith, ap (count_by (has_queue_key j)) left, once j)
 
 -- **no key occurs twice after an arrival**
-pub distinct_after : (p q : PoolView) (ds es : List Datagram) (k : Key) (f : QueuedFragment) (result : Arrival)
+pub distinct_after : {p q : PoolView} {ds es : List Datagram} {k : Key} {f : QueuedFragment} {result : Arrival}
     → HasLayout p ds k f result q es → AreDistinct p ds → AreDistinct q es
-distinct_after p q ds es k f result l distinct =
+distinct_after {p} {q} {ds} {es} {k} {f} {result} l distinct =
     λ j. omega (arith, keys_are q j es, left_once k f l.waited (queues q es) q result l.leaves waited j)
   where
     waited : HoldOnce l.waited

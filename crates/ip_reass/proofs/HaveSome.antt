@@ -59,9 +59,9 @@ module _ (k : Key) (f : QueuedFragment) where
   left_hold qs now q (Dropped why) left h = subst HoldSome (sym left) h
 
 -- **each datagram has a fragment after an arrival**
-pub fragments_after : (p q : PoolView) (ds es : List Datagram) (k : Key) (f : QueuedFragment) (result : Arrival)
+pub fragments_after : {p q : PoolView} {ds es : List Datagram} {k : Key} {f : QueuedFragment} {result : Arrival}
     → HasLayout p ds k f result q es → IsTable p ds → HaveFragments ds → IsTable q es → HaveFragments es
-fragments_after p q ds es k f result l is some now =
+fragments_after {p} {q} {ds} {es} {k} {f} {result} l is some now =
     datagrams_some q es now.each (left_hold k f l.waited (queues q es) q result l.leaves waited)
   where
     waited : HoldSome l.waited

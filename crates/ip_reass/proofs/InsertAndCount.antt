@@ -24,7 +24,7 @@ use Rattle.mbuf_chain.specs.Owners.{Moves}
 use Rattle.mbuf_chain.specs.Frames.{IsBounded}
 use Rattle.mbuf_chain.proofs.Laws.Owners.{moves_trans}
 use Rattle.ip_reass.specs.Table.{IsUnfinished, held_all}
-use Rattle.ip_reass.proofs.Aging.{lent}
+use Rattle.ip_reass.proofs.Aging.{lent_back}
 use Rattle.ip_reass.proofs.Fitting.{all_fit, all_some}
 use Rattle.ip_reass.proofs.Joined.{join_is, joined_bytes, joined_len}
 use Rattle.ip_reass.proofs.Places.{each_at, map_one, filter_one}
@@ -134,32 +134,39 @@ pub record Lent (p : PoolView) (ds : List Datagram) (i c : ℕ) (f : QueuedFragm
   pub queue : IsQueue q inserts.train
 
 pub lent_table : {p q : PoolView} {ds slice es : List Datagram} {i c : ℕ} (n : ℕ) {f : QueuedFragment} {answer : Bool}
-    {back : List Datagram} → i < length ds → n ≡ length ds → slice ≡ ds → answer ≡ true
+    {back : List Datagram} → i < length ds → length slice ≡ n → slice ≡ ds → answer ≡ true
     → InsertsIn p slice i c f answer q es → back ≡ take n (es ++ drop (length es) ds) → Lent p ds i c f q es back
-lent_table {p} {q} {ds} {slice} {es} {i} {c} n {f} {answer} {back} l n_is was agrees la back_is =
+lent_table {p} {q} {ds} {slice} {es} {i} {c} n {f} {answer} {back} l size was agrees la back_is =
     let here : InsertsIn p ds i c f true q es =
     subst (λ (zs : List Datagram). InsertsIn p zs i c f true q es) was
     (subst (λ (b : Bool). InsertsIn p slice i c f b q es) agrees la) in
-    let long : length es ≡ n =
-    omega (
-      arith,
-      ap (λ (zs : List Datagram). length zs) here.change,
-      length-set ds i (record (datagram_at ds i) { fragments = here.train; bytes = here.bytes }),
-      n_is,
-    ) in
-    let within : i < length es = omega (arith, long, n_is) in
+    let put : Datagram = record (datagram_at ds i) { fragments = here.train; bytes = here.bytes } in
+    let within : i < length es =
+    omega (arith, ap (λ (zs : List Datagram). length zs) here.change, length-set ds i put) in
     let one : IsUnfinished q (datagram_at es i) = (each_at q es i no_datagram within here.table.each).0 in
     let at : (datagram_at es i).fragments ≡ here.train =
     ap (λ (zs : List Datagram). (get_or zs i no_datagram).fragments) here.change
-    ∙ ap (λ (d : Datagram). d.fragments)
-    (get_or-set_same ds i (record (datagram_at ds i) { fragments = here.train; bytes = here.bytes }) no_datagram l)
-    in
+    ∙ ap (λ (d : Datagram). d.fragments) (get_or-set_same ds i put no_datagram l) in
     record {
       inserts = here;
-      back_is = back_is ∙ lent n ds es long;
+      back_is = back_is ∙ lent_back n ds slice es i put size was here.change;
       train_is = at;
       queue = subst (IsQueue q) at one.queue;
     }
+
+-- the datagram was whole, m bytes: from p, its fragments went to chain out of r
+pub record Reassembled (p : PoolView) (ds : List Datagram) (i n : ℕ) (f : QueuedFragment) (r : PoolView)
+    (hs : List Datagram) (out m : ℕ) : Type 0 where
+  pub step : (rest : State) (held : Weight) (k : Key) (c d : Counters) (new : State)
+      → is_key k (unfinished_of p (datagram_at ds i)) ≡ true → count_by (is_key k) (unfinished p ds) ≤ 1
+      → d ≡ counts_more IpReassembled 1 c
+      → WholeArrives exact_ledger held k.source k.destination k.protocol (item_at r out) (with_waiting r hs d rest) new
+      → Inserts exact_ledger held k (fragment_of f) (unfinished_of p (datagram_at ds i)) (with_waiting p ds c rest) new
+  pub leaves : ((chain_of r out).entries
+      ≡ joined_fragments (inserted_into f (keyed_queue_at (queues p ds) i).fragments))
+      × (queues r hs ≡ remove (queues p ds) i)
+  pub len : m ≡ length (string (chain_of r out))
+  pub moves : Moves p (n ∷ held_all p ds) r (out ∷ held_all r hs)
 
 module _ {p q : PoolView} {ds es back : List Datagram} {i n : ℕ} {f : QueuedFragment} (e : Lent p ds i n f q es back)
   where
@@ -183,43 +190,29 @@ module _ {p q : PoolView} {ds es back : List Datagram} {i n : ℕ} {f : QueuedFr
     whole_short m w = whole_most (fragments q e.inserts.train) m e.queue.apart e.queue.small (whole_here m w)
 
     -- the datagram is whole
-    module _ (l : i < length ds) {r : PoolView} {hs : List Datagram} {out : ℕ} (m : ℕ) (bounded : IsBounded q)
-        (w : IsWhole (map_of (fragments q (datagram_at es i).fragments)) m) (takes : TakesOut q back i out r hs) where
-      taken : TakesOut q es i out r hs
-      taken = subst (λ (zs : List Datagram). TakesOut q zs i out r hs) e.back_is takes
-
-      pub lent_entries : (chain_of r out).entries ≡ joined_fragments (queued q e.inserts.train)
-      lent_entries = taken.entries ∙ ap (λ (t : TrainView). joined_fragments (queued q t)) e.train_is
-
-      pub lent_whole : (rest : State) (held : Weight) (k : Key) (c d : Counters) (new : State)
-          → is_key k (unfinished_of p (datagram_at ds i)) ≡ true → count_by (is_key k) (unfinished p ds) ≤ 1
-          → d ≡ counts_more IpReassembled 1 c
-          → WholeArrives exact_ledger held k.source k.destination k.protocol (item_at r out) (with_waiting r hs d rest)
-          new
-          → Inserts exact_ledger held k (fragment_of f) (unfinished_of p (datagram_at ds i)) (with_waiting p ds c rest)
-          new
-      lent_whole rest held k c d new here most counts goes =
-          let whole : IsWhole (map_of (fragments q e.inserts.train)) m = whole_here m w in
-          settles_whole rest held k p q r ds es hs c d i n out m f new l here most e.inserts taken whole
-          (join_is q e.inserts.train m e.queue (all_some q e.inserts.train bounded e.queue.held)
-          (all_fit q e.inserts.train bounded e.queue.held) whole)
-          (joined_bytes q e.inserts.train m e.queue whole) lent_entries counts goes
-
-      pub lent_leaves : ((chain_of r out).entries
-          ≡ joined_fragments (inserted_into f (keyed_queue_at (queues p ds) i).fragments))
-          × (queues r hs ≡ remove (queues p ds) i)
-      lent_leaves =
-          let here : keyed_queue_at (queues p ds) i ≡ queue_of p (datagram_at ds i) =
-          get_or-map (queue_of p) ds i no_datagram no_queue l in (
-            lent_entries ∙ (ap joined_fragments e.inserts.queue
+    pub reassembled : i < length ds → {r : PoolView} {hs : List Datagram} {out m : ℕ} → IsBounded q
+        → IsWhole (map_of (fragments q (datagram_at es i).fragments)) m → TakesOut q back i out r hs
+        → Reassembled p ds i n f r hs out m
+    reassembled l {r} {hs} {out} {m} bounded w takes =
+        let taken : TakesOut q es i out r hs = subst (λ (zs : List Datagram). TakesOut q zs i out r hs) e.back_is takes in
+        let whole : IsWhole (map_of (fragments q e.inserts.train)) m = whole_here m w in
+        let entries : (chain_of r out).entries ≡ joined_fragments (queued q e.inserts.train) =
+        taken.entries ∙ ap (λ (t : TrainView). joined_fragments (queued q t)) e.train_is in
+        let here : keyed_queue_at (queues p ds) i ≡ queue_of p (datagram_at ds i) =
+        get_or-map (queue_of p) ds i no_datagram no_queue l in
+        record {
+          step = λ rest held k c d new key most counts goes.
+              settles_whole rest held k p q r ds es hs c d i n out m f new l key most e.inserts taken whole
+              (join_is q e.inserts.train m e.queue (all_some q e.inserts.train bounded e.queue.held)
+              (all_fit q e.inserts.train bounded e.queue.held) whole)
+              (joined_bytes q e.inserts.train m e.queue whole) entries counts goes;
+          leaves = (
+            entries ∙ (ap joined_fragments e.inserts.queue
                 ∙ ap (λ (y : KeyedQueue). joined_fragments (inserted_into f y.fragments)) (sym here)),
             taken.rows ∙ (ap (λ (ys : List KeyedQueue). remove ys i) e.inserts.rows ∙ remove-set (queues p ds) i _),
-          )
-
-      pub lent_len : m ≡ length (string (chain_of r out))
-      lent_len =
-          joined_len q e.inserts.train m e.queue (whole_here m w)
-          ∙ ap (λ (xs : List Entry). length (flat_bytes xs)) (sym lent_entries)
-
-      pub lent_moves : Moves p (n ∷ held_all p ds) r (out ∷ held_all r hs)
-      lent_moves = moves_trans e.inserts.moves taken.moves
+          );
+          len =
+              joined_len q e.inserts.train m e.queue whole
+              ∙ ap (λ (xs : List Entry). length (flat_bytes xs)) (sym entries);
+          moves = moves_trans e.inserts.moves taken.moves;
+        }

@@ -1,7 +1,7 @@
 -- The queues of the table's fragments, with their mbufs, at an arrival.
 use Rattle.std.proofs.Common.{◌≡◌, ℕ, zero, suc, ◌-◌, ◌*◌, ◌<◌, Bool, true, false, List, [], ◌∷◌, ◌++◌, length, map, find, get_or, set, remove, take, drop, None, refl, sym, ap, ◌∙◌, subst, arith, inl, inr}
 use Rattle.std.proofs.lemmas.Bool.{false≢true, cond-true, cond-false, cases_Bool}
-use Rattle.std.proofs.lemmas.List.{get_or-map, length-map, length-set, take-map}
+use Rattle.std.proofs.lemmas.List.{get_or-map, length-map, take-map}
 use Rattle.std.proofs.lemmas.Option.{none-some}
 use Rattle.flat_model.specs.Fragments.Overlay.{Fragment, is_covered}
 use Rattle.flat_model.specs.Machine.State.{Key}
@@ -25,7 +25,7 @@ use Rattle.ip_reass.specs.declared.arrival.Arrival.TheVariants.{Kept, Whole, Dro
 use Rattle.ip_reass.proofs.Overlays.{covered_no}
 use Rattle.ip_reass.proofs.Places.{found_passes}
 use Rattle.ip_reass.proofs.Steps.{fragments_are}
-use Rattle.ip_reass.proofs.Aging.{lent}
+use Rattle.ip_reass.proofs.Aging.{lent_back}
 use Rattle.ip_reass.proofs.ArriveLemmas.{slice_at}
 
 -- ---- by key and by place
@@ -316,23 +316,18 @@ arrived_cause p r n n' h held result good entries x =
     ∙ sym (cond-false _ _ _ good)) x
 
 -- **a fragment whose bytes are all covered**
-pub covered_layout : (p q : PoolView) (ds slice es back : List Datagram) (i c n : ℕ) (f : QueuedFragment)
-    (answer : Bool) → i < length ds → n ≡ length ds → slice ≡ ds → answer ≡ false → InsertsIn p slice i c f answer q es
-    → back ≡ take n (es ++ drop (length es) ds)
+pub covered_layout : {p q : PoolView} {ds slice es back : List Datagram} {i c : ℕ} (n : ℕ) {f : QueuedFragment}
+    {answer : Bool} → i < length ds → length slice ≡ n → slice ≡ ds → answer ≡ false
+    → InsertsIn p slice i c f answer q es → back ≡ take n (es ++ drop (length es) ds)
     → (queues q back ≡ queues p ds)
     × (is_covered (map_of (map fragment_of (keyed_queue_at (queues p ds) i).fragments)) (fragment_of f) ≡ true)
-covered_layout p q ds slice es back i c n f answer l n_is was refused la back_is =
+covered_layout {p} {q} {ds} {slice} {es} {back} {i} {c} n {f} {answer} l size was refused la back_is =
     let here : InsertsIn p ds i c f false q es =
     subst (λ (zs : List Datagram). InsertsIn p zs i c f false q es) was
     (subst (λ (b : Bool). InsertsIn p slice i c f b q es) refused la) in
-    let long : length es ≡ n =
-    omega (
-      arith,
-      ap (λ (zs : List Datagram). length zs) here.change,
-      length-set ds i (record (datagram_at ds i) { fragments = here.train; bytes = here.bytes }),
-      n_is,
-    ) in
-    let same : back ≡ es = back_is ∙ lent n ds es long in
+    let same : back ≡ es =
+    back_is ∙ lent_back n ds slice es i (record (datagram_at ds i) { fragments = here.train; bytes = here.bytes }) size
+    was here.change in
     let at : map fragment_of (keyed_queue_at (queues p ds) i).fragments ≡ fragments p (datagram_at ds i).fragments =
     ap (λ (q : KeyedQueue). map fragment_of q.fragments) (get_or-map (queue_of p) ds i no_datagram no_queue l)
     ∙ sym (fragments_are p (datagram_at ds i).fragments) in (

@@ -4,9 +4,9 @@ use Rattle.std.proofs.lemmas.Bool.{cond-true, cond-false, le-leb, lt-leb}
 use Rattle.std.proofs.lemmas.List.{get_or-map, drop_all, set_split, length-map, take-append-drop}
 use Rattle.flat_model.specs.Fragments.Overlay.{Fragment}
 use Rattle.mbuf_chain.specs.Chain.{Entry, flat_bytes, ChainView, PoolView, IsLive, chain_of, with_chain}
-use Rattle.mbuf_chain.specs.Owners.{times_among, Moves}
+use Rattle.mbuf_chain.specs.Owners.{IsOwned, times_among, Moves}
 use Rattle.mbuf_chain.specs.Train.{TrainView, QueuedPacket, no_queued_packet, queued_packet_at, numbers, queued_packets, IsHeld}
-use Rattle.mbuf_chain.proofs.Laws.Owners.{moves_trans, moves_beside, moves_with, live_with, shown_with}
+use Rattle.mbuf_chain.proofs.Laws.Owners.{apart_first, live_first, moves_trans, moves_beside, moves_with, live_with, shown_with}
 use Rattle.mbuf_chain.proofs.Laws.Trains.{Beside, beside_with, FreedPacket, length-queued_packets}
 use Rattle.chain_ops.specs.Trims.{without_first}
 use Rattle.ip_reass.specs.Fragments.{QueuedFragment, queued_of, queued, queued_end, cut, cut_to, fragment_of, fragment_in, fragments, end_of_fragment, AllEnd}
@@ -89,9 +89,9 @@ pub record Changed (q : PoolView) (u : TrainView) (c : ℕ) (v : ChainView) (r :
   pub queued_packets_are : queued_packets r u ≡ queued_packets q u
   pub moves : Moves q (c ∷ numbers q u) r (c ∷ numbers r u)
 
-pub changed : (q r : PoolView) (u : TrainView) (c : ℕ) (v : ChainView) → IsLive q c → times_among c (numbers q u) ≡ 0
+pub changed : {q r : PoolView} {u : TrainView} {c : ℕ} {v : ChainView} → IsLive q c → times_among c (numbers q u) ≡ 0
     → IsHeld q u → r ≡ with_chain q c v → Changed q u c v r
-changed q r u c v live apart holds is =
+changed {q} {r} {u} {c} {v} live apart holds is =
     let b : Beside q r u = beside_with q r c v u is apart holds in
     record {
       live = live_with q r c v c is live;
@@ -104,12 +104,17 @@ changed q r u c v live apart holds is =
           (λ k. omega (arith, ap (times_among k) b.numbers));
     }
 
+pub changed_first : {q r : PoolView} {u : TrainView} {c : ℕ} {v : ChainView} → IsOwned q (c ∷ numbers q u)
+    → IsHeld q u → r ≡ with_chain q c v → Changed q u c v r
+changed_first {q} {r} {u} {c} owned holds is =
+    changed (live_first q c (numbers q u) owned) (apart_first q c (numbers q u) owned) holds is
+
 -- ---- a fragment is cut
 pub record Trimmed (p : PoolView) (t : TrainView) (i n : ℕ) (s : PoolView) (w : TrainView) : Type 0 where
   pub queue_is : queued s w ≡ set (queued p t) i (cut n (queued_at (queued p t) i))
   pub moves : Moves p (numbers p t) s (numbers s w)
 
-pub trimmed_at : (p q r s : PoolView) (t u w : TrainView) (c i n tag : ℕ) → i < t.len → IsHeld p t
+pub trimmed_at : {p q r s : PoolView} {t u w : TrainView} {c i n tag : ℕ} → i < t.len → IsHeld p t
     → queued_packets q u ≡ remove (queued_packets p t) i
     → queued_packet_at p t i ≡ record { number = c; entries = (chain_of q c).entries; tag = tag }
     → Moves p (numbers p t) q (c ∷ numbers q u)
@@ -117,7 +122,7 @@ pub trimmed_at : (p q r s : PoolView) (t u w : TrainView) (c i n tag : ℕ) → 
     → queued_packets s w ≡ insert (queued_packets r u) i
     (record { number = c; entries = (chain_of r c).entries; tag = tag + 2 * n })
     → Moves r (c ∷ numbers r u) s (numbers s w) → Trimmed p t i n s w
-trimmed_at p q r s t u w c i n tag place held gone took moved change put moves =
+trimmed_at {p} {q} {r} {s} {t} {u} {w} {c} {i} {n} {tag} place held gone took moved change put moves =
     let within : i < length (queued_packets p t) = omega (arith, length-queued_packets p t held) in
     let within' : i < length (queued p t) = omega (arith, length-queued p t held) in
     let was : queued_at (queued p t) i
@@ -157,14 +162,19 @@ cut_to_cut : (e : ℕ) (p : QueuedFragment) (ps : List QueuedFragment) → p.off
     → cut_to e (p ∷ ps) ≡ cut (e - p.offset) p ∷ ps
 cut_to_cut e p ps a b = cond-false _ _ _ (lt-leb e p.offset a) ∙ cond-false _ _ _ (lt-leb (queued_end p) e b)
 
+-- a fragment, and the offset at which it begins
+pub record IsNext (p : PoolView) (t : TrainView) (i b : ℕ) : Type 0 where
+  pub within : i < length (queued p t)
+  pub begin : (queued_at (queued p t) i).offset ≡ b
+
 -- the loop that clears: the fragments before are unchanged, and so is the rest of the others from offset e on
 pub record Clearing (e i : ℕ) (old now : List QueuedFragment) : Type 0 where
   pub front : take i now ≡ take i old
   pub rest : cut_to e (drop i now) ≡ cut_to e (drop i old)
 
-pub clearing_more : (e i : ℕ) (old now next : List QueuedFragment) → Clearing e i old now → i < length now
+pub clearing_more : {e i : ℕ} {old now next : List QueuedFragment} → Clearing e i old now → i < length now
     → (queued_at now i).offset < e → queued_end (queued_at now i) ≤ e → next ≡ remove now i → Clearing e i old next
-clearing_more e i old now next c l a b is = subst (Clearing e i old) (sym is) (record {
+clearing_more {e} {i} {old} {now} {next} c l a b is = subst (Clearing e i old) (sym is) (record {
   front = take-remove now i l ∙ c.front;
   rest =
       ap (cut_to e) (drop-remove now i l)
@@ -173,23 +183,23 @@ clearing_more e i old now next c l a b is = subst (Clearing e i old) (sym is) (r
 })
 
 -- the three ways in which the loop ends
-pub cleared_all : (e i : ℕ) (old now : List QueuedFragment) → Clearing e i old now → length now ≤ i
+pub cleared_all : {e i : ℕ} {old now : List QueuedFragment} → Clearing e i old now → length now ≤ i
     → now ≡ take i old ++ cut_to e (drop i old)
-cleared_all e i old now c l =
+cleared_all {e} {i} {old} {now} c l =
     sym (take-append-drop i now) ∙ (λ j. c.front j
     ++ (drop_all i now l ∙ (ap (cut_to e) (sym (drop_all i now l)) ∙ c.rest)) j)
 
-pub cleared_whole : (e i : ℕ) (old now : List QueuedFragment) → Clearing e i old now → i < length now
+pub cleared_whole : {e i : ℕ} {old now : List QueuedFragment} → Clearing e i old now → i < length now
     → e ≤ (queued_at now i).offset → now ≡ take i old ++ cut_to e (drop i old)
-cleared_whole e i old now c l a =
+cleared_whole {e} {i} {old} {now} c l a =
     sym (take-append-drop i now) ∙ (λ j. c.front j
     ++ (rest_at now i l ∙ (sym (cut_to_whole e (queued_at now i) (drop (suc i) now) a)
     ∙ (ap (cut_to e) (sym (rest_at now i l)) ∙ c.rest))) j)
 
-pub cleared_cut : (e i n : ℕ) (old now next : List QueuedFragment) → Clearing e i old now → i < length now
+pub cleared_cut : {e i : ℕ} (n : ℕ) {old now next : List QueuedFragment} → Clearing e i old now → i < length now
     → (queued_at now i).offset < e → e < queued_end (queued_at now i) → n ≡ e - (queued_at now i).offset
     → next ≡ set now i (cut n (queued_at now i)) → next ≡ take i old ++ cut_to e (drop i old)
-cleared_cut e i n old now next c l a b n_is is =
+cleared_cut {e} {i} n {old} {now} {next} c l a b n_is is =
     is ∙ (set_split now i (cut n (queued_at now i)) l
     ∙ (λ j. c.front j ++ (ap (λ (m : ℕ). cut m (queued_at now i) ∷ drop (suc i) now) n_is
     ∙ (sym (cut_to_cut e (queued_at now i) (drop (suc i) now) a b)

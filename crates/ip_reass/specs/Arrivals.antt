@@ -1,6 +1,6 @@
 -- An arrival compared with that of the flat machine (`ip_reass` of TCP/IP Illustrated, volume 2, chapter 10): the
 -- clauses hold whatever the rest of the machine is.
-use Rattle.std.specs.Prelude.{◌≡◌, ◌⊎◌, ℕ, ◌+◌, ◌<◌, ◌≤◌, Bool, true, false, is_some, nat_le, if◌then◌else◌, List, [], ◌∷◌, length, drop, None}
+use Rattle.std.specs.Prelude.{◌≡◌, ◌⊎◌, ℕ, ◌+◌, ◌<◌, ◌≤◌, Bool, true, false, is_some, nat_le, if◌then◌else◌, List, [], ◌∷◌, ◌++◌, length, drop, None}
 use Rattle.params.specs.declared.TheConstants.{IP_HEADER, MINCLSIZE, MAX_PROTOCOL_HEADER}
 use Rattle.flat_model.specs.Amounts.Weight.{Weight, Item, ◌⊕◌}
 use Rattle.flat_model.specs.Packets.Header.{Head}
@@ -11,11 +11,12 @@ use Rattle.flat_model.specs.Machine.Arrival.{Origin, By_wire, Looped, WholeArriv
 use Rattle.flat_model.specs.declared.counters.Counters.{Counters}
 use Rattle.flat_model.specs.declared.counters.Why.TheVariants.{NoBufs}
 use Rattle.mbuf_chain.specs.Chain.{ChainView, Entry, PoolView, alone, chain_of, entry_of, string}
+use Rattle.mbuf_chain.specs.Owners.{Moves}
 use Rattle.chain_ops.specs.Pulls.{entries_pulled}
 use Rattle.chain_ops.specs.Trims.{without_first}
 use Rattle.ledger.specs.Accounts.{item_at, weight_at}
 use Rattle.ip_out.specs.declared.head.IpHead.{IpHead}
-use Rattle.ip_reass.specs.Table.{unfinished}
+use Rattle.ip_reass.specs.Table.{held_all, unfinished}
 use Rattle.ip_reass.specs.declared.datagram.Datagram.{Datagram}
 use Rattle.ip_reass.specs.declared.arrival.Arrival.{Arrival}
 use Rattle.ip_reass.specs.declared.arrival.Arrival.TheVariants.{Kept, Whole, Dropped}
@@ -57,6 +58,10 @@ abbrev pub in_hand : Arrival → List ℕ
 in_hand Kept = []
 in_hand (Whole c h) = c ∷ []
 in_hand (Dropped why) = []
+
+-- from p and ds to q and es these chains came to the table; what the result has is in the caller's hand
+abbrev pub ArrivalMoves : PoolView → List ℕ → List Datagram → Arrival → PoolView → List Datagram → Type 0
+ArrivalMoves p chains ds result q es = Moves p (chains ++ held_all p ds) q (in_hand result ++ held_all q es)
 
 -- a whole datagram that is returned: its chain has a packet header and is in no train, and its header is that of the
 -- fragment that came last, with the total length of the whole, offset 0 and no "more fragments"

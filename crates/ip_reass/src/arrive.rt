@@ -7,7 +7,7 @@ ghost use Rattle.flat_model.specs.Machine.Arrival.{Joins, is_bad_fragment};
 ghost use Rattle.mbuf_chain.specs.Chain.{chain_of, entry_of, string};
 ghost use Rattle.mbuf_chain.specs.Owners.{IsOwned, Moves};
 ghost use Rattle.ledger.specs.Accounts.{IsAccounted, weight_at, weight_owned};
-ghost use Rattle.ip_reass.specs.Arrivals.{GoesOn, HasWhole, IsPulled, flat_head, in_hand, key_in, with_waiting, pulled_entries};
+ghost use Rattle.ip_reass.specs.Arrivals.{ArrivalMoves, GoesOn, HasWhole, IsPulled, flat_head, in_hand, key_in, with_waiting, pulled_entries};
 ghost use Rattle.ip_reass.specs.Fragments.{fragment_of};
 ghost use Rattle.ip_reass.specs.Layouts.{ChainArrives, HasCause, HasLayout, WaitOrNone, cause_among, cause_of, fragment_carried, queues, under};
 ghost use Rattle.ip_reass.specs.Table.{IsReady, held_all};
@@ -103,8 +103,7 @@ impl Reass {
         ensures cause { HasCause (cause_among (under (key_in head) (queues pool.new self.new.datagrams))
             (arrived pool.old chain head.offset head.more)) result }
         ensures ready { IsReady pool.new self.new }
-        ensures moves { Moves pool.old (chain ∷ held_all pool.old self.old.datagrams) pool.new
-            (in_hand result ++ held_all pool.new self.new.datagrams) }
+        ensures moves { ArrivalMoves pool.old (chain ∷ []) self.old.datagrams result pool.new self.new.datagrams }
     {
         pool.laws();
         let Some(i) = self.place_of(pool, counters, key_of(&head)) else {
@@ -213,8 +212,7 @@ impl Reass {
         ensures cause { HasCause (cause_of (chain_of pool.old chain) head
             (under (key_in head) (queues pool.new self.new.datagrams))) result }
         ensures ready { IsReady pool.new self.new }
-        ensures moves { Moves pool.old (chain ∷ held_all pool.old self.old.datagrams) pool.new
-            (in_hand result ++ held_all pool.new self.new.datagrams) }
+        ensures moves { ArrivalMoves pool.old (chain ∷ []) self.old.datagrams result pool.new self.new.datagrams }
     {
         let len = pool.len(&chain) - IP_HEADER;
         if is_bad(&head, len) {

@@ -1,15 +1,14 @@
 //! A fragment that is queued directly, from the bytes of its packet.
-ghost use Rattle.std.specs.Prelude.{◌≡◌, ℕ, ◌+◌, ◌<◌, ◌≤◌, ◌++◌, true, length};
+ghost use Rattle.std.specs.Prelude.{◌≡◌, ℕ, ◌+◌, ◌<◌, ◌≤◌, [], true, length};
 ghost use Rattle.flat_model.specs.Amounts.Weight.{Weight, ◌⊕◌};
 ghost use Rattle.flat_model.specs.Machine.State.{State};
 ghost use Rattle.mbuf_chain.specs.Chain.{alone, references};
-ghost use Rattle.mbuf_chain.specs.Owners.{Moves};
 ghost use Rattle.chain_ops.specs.Makes.{HasMbufs, Makes};
 ghost use Rattle.ledger.specs.Accounts.{IsAccounted, weight_owned};
-ghost use Rattle.ip_reass.specs.Arrivals.{HasWhole, carried_entries, in_hand, with_waiting};
+ghost use Rattle.ip_reass.specs.Arrivals.{ArrivalMoves, HasWhole, carried_entries, in_hand, with_waiting};
 ghost use Rattle.ip_reass.specs.AtOnce.{ArrivesAtOnce, TakesFree, as_stored, fits_at_once, in_cluster, in_mbufs, is_sound};
 ghost use Rattle.ip_reass.specs.Inside.Place.{HasRoomFor};
-ghost use Rattle.ip_reass.specs.Table.{IsReady, held_all};
+ghost use Rattle.ip_reass.specs.Table.{IsReady};
 
 use crate::arrival::Arrival;
 use crate::arrive::is_bad;
@@ -121,8 +120,7 @@ impl Reass {
             (held ⊕ weight_owned pool.new (in_hand result)) }
         ensures whole { HasWhole pool.new head result }
         ensures ready { IsReady pool.new self.new }
-        ensures moves { Moves pool.old (held_all pool.old self.old.datagrams) pool.new
-            (in_hand result ++ held_all pool.new self.new.datagrams) }
+        ensures moves { ArrivalMoves pool.old [] self.old.datagrams result pool.new self.new.datagrams }
     {
         counters.count(Counter::IpFragments);
         let chain = store_carried(pool, packet);

@@ -5,12 +5,11 @@ ghost use Rattle.flat_model.specs.Amounts.Weight.{Weight};
 ghost use Rattle.flat_model.specs.Machine.Ledger.{exact_ledger};
 ghost use Rattle.flat_model.specs.Machine.Arrival.{Inserts};
 ghost use Rattle.flat_model.specs.declared.counters.Why.TheVariants.{FragmentDropped};
-ghost use Rattle.mbuf_chain.specs.Chain.{chain_of, string};
-ghost use Rattle.mbuf_chain.specs.Owners.{IsOwned, Moves};
-ghost use Rattle.ip_reass.specs.Arrivals.{GoesOn, HasWhole, in_hand, key_in, with_waiting};
+ghost use Rattle.ip_reass.specs.Arrivals.{ArrivalMoves, GoesOn, HasWhole, key_in, with_waiting};
 ghost use Rattle.ip_reass.specs.Fragments.{fragment_of, fragments, map_of};
 ghost use Rattle.ip_reass.specs.Layouts.{HasCause, LeavesAt, queues};
-ghost use Rattle.ip_reass.specs.Table.{IsTable, held_all, unfinished, unfinished_of};
+ghost use Rattle.ip_reass.specs.Table.{IsTable, unfinished, unfinished_of};
+ghost use Rattle.ip_reass.specs.Inside.Place.{CanInsertAt};
 ghost use Rattle.ip_reass.specs.Inside.Walks.{ReportsWhole, arrived, is_left};
 ghost use Rattle.ip_reass.specs.Inside.Steps.{InsertsIn, TakesOut, datagram_at};
 
@@ -21,7 +20,7 @@ use crate::span::Span;
 use flat_model::{Counter, Counters, Why};
 use ip_out::IpHead;
 use mbuf_chain::{Chain, Pool};
-use params::{IP_HEADER, IP_MAX_DATA};
+use params::IP_HEADER;
 
 /// Puts a fragment among those of the datagram at a place.
 #[inline(always)]
@@ -32,12 +31,7 @@ pub(crate) fn insert_in(
     chain: Chain,
     span: Span,
 ) -> Insertion
-    requires table { IsTable pool.old table.old }
-    requires place { i < length table.old }
-    requires owned { IsOwned pool.old (chain ∷ held_all pool.old table.old) }
-    requires headed { (chain_of pool.old chain).front.header ≡ true }
-    requires some { 0 < length (string (chain_of pool.old chain)) }
-    requires small { span.offset + length (string (chain_of pool.old chain)) ≤ IP_MAX_DATA }
+    requires { CanInsertAt pool.old table.old i chain span.offset }
     ensures inserts { InsertsIn pool.old table.old i chain (arrived pool.old chain span.offset span.more)
         (is_left result) pool.new table.new }
     ensures whole { ReportsWhole (map_of (fragments pool.new (datagram_at table.new i).fragments)) result }
@@ -112,12 +106,7 @@ pub(crate) fn insert_and_count(
     i: usize,
     fragment: Fragment,
 ) -> Arrival
-    requires table { IsTable pool.old table.old.items }
-    requires place { i < length table.old.items }
-    requires owned { IsOwned pool.old (fragment.chain ∷ held_all pool.old table.old.items) }
-    requires headed { (chain_of pool.old fragment.chain).front.header ≡ true }
-    requires some { 0 < length (string (chain_of pool.old fragment.chain)) }
-    requires small { fragment.head.offset + length (string (chain_of pool.old fragment.chain)) ≤ IP_MAX_DATA }
+    requires { CanInsertAt pool.old table.old.items i fragment.chain fragment.head.offset }
     ensures step { (rest : State) (held : Weight) (new : State) →
         is_key (key_in fragment.head) (unfinished_of pool.old (datagram_at table.old.items i)) ≡ true →
         count_by (is_key (key_in fragment.head)) (unfinished pool.old table.old.items) ≤ 1 →
@@ -132,8 +121,7 @@ pub(crate) fn insert_and_count(
         pool.new result (queues pool.new table.new.items) }
     ensures cause { HasCause FragmentDropped result }
     ensures table { IsTable pool.new table.new.items }
-    ensures moves { Moves pool.old (fragment.chain ∷ held_all pool.old table.old.items) pool.new
-        (in_hand result ++ held_all pool.new table.new.items) }
+    ensures moves { ArrivalMoves pool.old (fragment.chain ∷ []) table.old.items result pool.new table.new.items }
     ensures len { vec_len table.new ≤ vec_len table.old }
     ensures capacity { vec_capacity table.new ≡ vec_capacity table.old }
 {

@@ -12,7 +12,7 @@ use Rattle.chain_ops.specs.Makes.{HasMbufs}
 use Rattle.ledger.specs.Accounts.{IsAccounted}
 use Rattle.ip_reass.specs.Arrivals.{with_waiting}
 use Rattle.ip_reass.specs.Layouts.{WaitOrNone, queues}
-use Rattle.ip_reass.specs.Table.{TableView, IsReady, has_key, held_all, new_datagram}
+use Rattle.ip_reass.specs.Table.{TableView, IsReady, IsTable, has_key, held_all, new_datagram}
 use Rattle.ip_reass.specs.declared.datagram.Datagram.{Datagram}
 
 -- the packet has at least this many bytes, and what it carries fits in an mbuf and a cluster that are free
@@ -26,6 +26,15 @@ pub record HasRoomFor (least : ℕ) (p : PoolView) (packet : List ℕ) : Type 0 
 pub record CanJoin (p : PoolView) (r : TableView) (c offset : ℕ) : Type 0 where
   pub ready : IsReady p r
   pub owned : IsOwned p (c ∷ held_all p r.datagrams)
+  pub headed : (chain_of p c).front.header ≡ true
+  pub some : 0 < length (string (chain_of p c))
+  pub small : offset + length (string (chain_of p c)) ≤ IP_MAX_DATA
+
+-- the same for datagram i of the table
+pub record CanInsertAt (p : PoolView) (ds : List Datagram) (i c offset : ℕ) : Type 0 where
+  pub table : IsTable p ds
+  pub place : i < length ds
+  pub owned : IsOwned p (c ∷ held_all p ds)
   pub headed : (chain_of p c).front.header ≡ true
   pub some : 0 < length (string (chain_of p c))
   pub small : offset + length (string (chain_of p c)) ≤ IP_MAX_DATA

@@ -1,10 +1,10 @@
-use Rattle.std.proofs.Common.{refl, sym, ap, ◌∙◌, arith, ℕ, ◌++◌, ◌∷◌, take, drop, ◌≡◌}
-use Rattle.ip_reass.specs.Fragments.{fragment_of, fragments, cut, cut_to, queued, queued_end}
+use Rattle.std.proofs.Common.{refl, sym, ap, ◌∙◌, arith, ℕ, ◌+◌, ◌-◌, ◌++◌, ◌∷◌, take, drop, ◌≡◌}
+use Rattle.ip_reass.specs.Fragments.{bytes_held, fragment_of, fragments, cut, cut_to, queued, queued_end}
 use Rattle.ip_reass.specs.Inside.Walks.{arrived, after, reach}
 use Rattle.ip_reass.proofs.Counted.{held_as, fragments_as}
 use Rattle.ip_reass.proofs.Inserts.{Covered, covered_in, Inserted, inserted_in, Settled, reaches}
 use Rattle.ip_reass.proofs.Whole.{held_within}
-use Rattle.ip_reass.proofs.queue.insert_between.Goals.{After-insert_trimmed-gone}
+use Rattle.ip_reass.proofs.queue.insert_between.Goals.{After-from, After-insert_trimmed-gone}
 use Rattle.ip_reass.proofs.queue.insert_between.Goals as goal
 
 none : (c : goal.After-free_chain)
@@ -67,33 +67,10 @@ some c =
     (arrived c.args.pool.now c.args.chain c.args.span.offset c.args.span.more) c.requires.queue
     c.walk_to-before.ensures.upto c.walk_to-before.ensures.above (omega arith) (omega arith) c.requires.small (done c)
 
-pub returns-clause-inserted : goal.returns-clause-inserted
-returns-clause-inserted c = record {
-  same = refl;
-  covered = (some c.before.before).covered;
-  map = (some c.before.before).map_is;
-  inserted = (some c.before.before).queue_is;
-  none = tt;
-  queue =
-      record {
-        held = c.insert_trimmed-gone.ensures.left.held;
-        apart = (some c.before.before).apart;
-        small = (some c.before.before).small;
-      };
-  counted =
-      omega (
-        arith,
-        c.from.ensures,
-        c.requires.counted,
-        c.insert_trimmed-gone.ensures.gone,
-        c.saturating_sub-lost.ensures,
-        c.len-len.ensures,
-      );
-  moves = c.insert_trimmed-gone.ensures.left.moves;
-}
-
-pub overflow_cast-datagram : goal.overflow_cast-datagram
-overflow_cast-datagram c =
+counted : (c : After-from)
+    → c.from.result + (c.len-len.result - c.saturating_sub-lost.result) - c.insert_trimmed-gone.result
+    ≡ bytes_held (fragments c.insert_trimmed-gone.new.pool c.insert_trimmed-gone.new.train)
+counted c =
     omega (
       arith,
       c.from.ensures,
@@ -101,8 +78,31 @@ overflow_cast-datagram c =
       c.insert_trimmed-gone.ensures.gone,
       c.saturating_sub-lost.ensures,
       c.len-len.ensures,
-      held_within (fragments c.insert_trimmed-gone.new.pool c.insert_trimmed-gone.new.train)
-          (some c.before).apart (some c.before).small,
+    )
+
+pub returns-clause-inserted : goal.returns-clause-inserted
+returns-clause-inserted c =
+    let at = goal.at.returns-clause-inserted c in
+    let now = some at.After-insert_trimmed-gone in
+    record {
+      same = refl;
+      covered = now.covered;
+      map = now.map_is;
+      inserted = now.queue_is;
+      none = tt;
+      queue = record { held = c.insert_trimmed-gone.ensures.left.held; apart = now.apart; small = now.small };
+      counted = counted at.After-from;
+      moves = c.insert_trimmed-gone.ensures.left.moves;
+    }
+
+pub overflow_cast-datagram : goal.overflow_cast-datagram
+overflow_cast-datagram c =
+    let at = goal.at.overflow_cast-datagram c in
+    let now = some at.After-insert_trimmed-gone in
+    omega (
+      arith,
+      counted at.After-from,
+      held_within (fragments c.insert_trimmed-gone.new.pool c.insert_trimmed-gone.new.train) now.apart now.small,
     )
 
 pub overflow_add-bytes : goal.overflow_add-bytes
@@ -128,4 +128,4 @@ returns-then-len-lost-clause-reach c =
 pub returns-clause-reach : goal.returns-clause-reach
 returns-clause-reach c =
     reaches _ _ _ _ _ _ _ _ (omega (arith, c.saturating_sub-lost.ensures, c.walk_to-before.ensures.end))
-    (omega (arith, c.len-len.ensures)) (done c.before.before)
+    (omega (arith, c.len-len.ensures)) (done (goal.at.returns-clause-reach c).After-insert_trimmed-gone)

@@ -8,30 +8,25 @@ use Rattle.ip_reass.proofs.Fronts.{front_beside, front_within}
 use Rattle.ip_reass.proofs.Steps.{Changed, changed}
 use Rattle.ip_reass.proofs.Counted.{held_between}
 use Rattle.ip_reass.proofs.Inserts.{Waits, waits, Settled, settled}
+use Rattle.ip_reass.proofs.queue.insert_trimmed.Goals.{After-clear-gone, After-insert_after, After-trim_front}
 use Rattle.ip_reass.proofs.queue.insert_trimmed.Goals as goal
 
 -- the trimmed chain, as `clear` needs it
-change : (c : goal.After-clear-arg-2-1)
+change : (c : After-trim_front)
     → Changed c.args.pool.now c.args.train.now c.args.chain
     (record (chain_of c.args.pool.now c.args.chain) {
       entries = without_first c.saturating_sub-skip.result (chain_of c.args.pool.now c.args.chain).entries;
     }) c.trim_front.new.pool
 change c =
-    changed c.args.pool.now c.trim_front.new.pool c.args.train.now c.args.chain _ c.requires.live c.requires.apart
-    c.requires.clear.at.held c.trim_front.ensures
+    changed c.requires.live c.requires.apart c.requires.clear.at.held c.trim_front.ensures
 
-wait : (c : goal.After-insert_after-arg-2-1)
+wait : (c : After-clear-gone)
     → Waits c.args.chain (record (chain_of c.args.pool.now c.args.chain) {
       entries = without_first c.saturating_sub-skip.result (chain_of c.args.pool.now c.args.chain).entries;
     }) c.clear-gone.new.pool c.clear-gone.new.train
 wait c =
-    let v : ChainView =
-    record (chain_of c.args.pool.now c.args.chain)
-    { entries = without_first c.saturating_sub-skip.result (chain_of c.args.pool.now c.args.chain).entries } in
-    let change =
-    changed c.args.pool.now c.trim_front.new.pool c.args.train.now c.args.chain v c.requires.live c.requires.apart
-    c.requires.clear.at.held c.trim_front.ensures in
-    waits c.trim_front.new.pool c.clear-gone.new.pool c.args.train.now c.clear-gone.new.train c.args.chain v change.live
+    let change = changed c.requires.live c.requires.apart c.requires.clear.at.held c.trim_front.ensures in
+    waits c.trim_front.new.pool c.clear-gone.new.pool c.args.train.now c.clear-gone.new.train c.args.chain _ change.live
     change.shown change.apart c.clear-gone.ensures.left.moves
 
 pub insert_after-requires-clause-at : goal.insert_after-requires-clause-at
@@ -39,15 +34,17 @@ insert_after-requires-clause-at c =
     record { front = c.clear-gone.ensures.left.front; held = c.clear-gone.ensures.left.held }
 
 pub insert_after-requires-clause-live : goal.insert_after-requires-clause-live
-insert_after-requires-clause-live c = (wait c).live
+insert_after-requires-clause-live c = (wait (goal.at.insert_after-requires-clause-live c).After-clear-gone).live
 
 pub insert_after-requires-clause-headed : goal.insert_after-requires-clause-headed
-insert_after-requires-clause-headed c = ap (λ (v : ChainView). v.front.header) ((wait c).shown) ∙ c.requires.headed
+insert_after-requires-clause-headed c =
+    ap (λ (v : ChainView). v.front.header)
+    (wait (goal.at.insert_after-requires-clause-headed c).After-clear-gone).shown ∙ c.requires.headed
 
 pub insert_after-requires-clause-apart : goal.insert_after-requires-clause-apart
-insert_after-requires-clause-apart c = (wait c).apart
+insert_after-requires-clause-apart c = (wait (goal.at.insert_after-requires-clause-apart c).After-clear-gone).apart
 
-all : (c : goal.After-insert_after)
+all : (c : After-insert_after)
     → Settled c.args.pool.now c.args.train.now (after c.args.before.front) c.saturating_sub-skip.result c.args.chain
     (arrived c.args.pool.now c.args.chain c.args.span.offset c.args.span.more) c.insert_after.new.pool
     c.insert_after.new.train
@@ -57,8 +54,7 @@ all c =
     c.saturating_sub-skip.result c.args.span.offset (c.args.span.offset + c.len.result) c.new-tag.result.bits
     c.args.span.more
     (front_within c.args.pool.now c.args.train.now c.args.before.front c.requires.clear.at.front) c.requires.clear.at.held
-    (changed c.args.pool.now c.trim_front.new.pool c.args.train.now c.args.chain _ c.requires.live c.requires.apart
-    c.requires.clear.at.held c.trim_front.ensures)
+    (changed c.requires.live c.requires.apart c.requires.clear.at.held c.trim_front.ensures)
     c.clear-gone.ensures.queue c.clear-gone.ensures.left.moves (ap (λ (n : ℕ). c.args.span.offset + n) c.len.ensures)
     c.new-tag.ensures.half c.new-tag.ensures.odd c.insert_after.ensures.queued_packets c.insert_after.ensures.left.moves
 
@@ -77,7 +73,7 @@ returns-clause-left c = record {
   moves = (all c).moves;
 }
 
-counted : (c : goal.After-insert_after)
+counted : (c : After-insert_after)
     → bytes_held (fragments c.insert_after.new.pool c.insert_after.new.train)
     ≡ bytes_held (fragments c.clear-gone.new.pool c.clear-gone.new.train)
     + (length (flat_bytes (chain_of c.args.pool.now c.args.chain).entries) - c.saturating_sub-skip.result)
@@ -86,8 +82,8 @@ counted c =
     let i = after c.args.before.front in
     let were = queued c.args.pool.now c.args.train.now in
     let is : queued c.trim_front.new.pool c.args.train.now ≡ queued c.args.pool.now c.args.train.now =
-    ap (map queued_of) (changed c.args.pool.now c.trim_front.new.pool c.args.train.now c.args.chain _ c.requires.live
-    c.requires.apart c.requires.clear.at.held c.trim_front.ensures).queued_packets_are in
+    ap (map queued_of) (changed c.requires.live c.requires.apart c.requires.clear.at.held
+    c.trim_front.ensures).queued_packets_are in
     held_between c.clear-gone.new.pool c.insert_after.new.pool c.clear-gone.new.train c.insert_after.new.train
     c.saturating_sub-skip.result (take i were) (cut_to (c.args.span.offset + c.len.result) (drop i were))
     here (c.clear-gone.ensures.queue ∙ λ j. take i (is j) ++ cut_to (c.args.span.offset + c.len.result) (drop i (is j)))
@@ -95,22 +91,25 @@ counted c =
     ∷ cut_to (c.args.span.offset + n) (drop i were)) (sym c.len.ensures))
 
 -- trimming the chain didn't change the fragments of the train
-kept : (c : goal.After-clear-arg-2-1)
+kept : (c : After-trim_front)
     → bytes_held (fragments c.trim_front.new.pool c.args.train.now)
     ≡ bytes_held (fragments c.args.pool.now c.args.train.now)
 kept c = ap (λ (cs : List QueuedPacket). bytes_held (map fragment_in cs)) (change c).queued_packets_are
 
 pub clear-gone-requires : goal.clear-gone-requires
-clear-gone-requires c = record {
-  at = record {
-    front =
-        front_beside c.args.pool.now c.trim_front.new.pool c.args.train.now c.args.before.front
-        ((change c).queued_packets_are) c.requires.clear.at.front;
-    held = (change c).held;
-  };
-  small = subst (AllEnd 65515) (sym (ap (map fragment_in) (change c).queued_packets_are)) c.requires.clear.small;
-  few = omega (arith, kept c, c.requires.clear.few);
-}
+clear-gone-requires c =
+    let at = (goal.at.clear-gone-requires c).After-trim_front in
+    let now = change at in
+    record {
+      at = record {
+        front =
+            front_beside c.args.pool.now c.trim_front.new.pool c.args.train.now c.args.before.front
+            now.queued_packets_are c.requires.clear.at.front;
+        held = now.held;
+      };
+      small = subst (AllEnd 65515) (sym (ap (map fragment_in) now.queued_packets_are)) c.requires.clear.small;
+      few = omega (arith, kept at, c.requires.clear.few);
+    }
 
 pub returns-clause-gone : goal.returns-clause-gone
 returns-clause-gone c =
@@ -118,10 +117,7 @@ returns-clause-gone c =
       arith,
       counted c,
       c.clear-gone.ensures.gone,
-      ap (λ (cs : List QueuedPacket). bytes_held (map fragment_in cs))
-          (changed c.args.pool.now c.trim_front.new.pool c.args.train.now c.args.chain _ c.requires.live
-          c.requires.apart
-          c.requires.clear.at.held c.trim_front.ensures).queued_packets_are,
+      kept (goal.at.returns-clause-gone c).After-trim_front,
       c.len.ensures,
       c.saturating_sub-skip.ensures,
     )

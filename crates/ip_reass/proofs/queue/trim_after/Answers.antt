@@ -1,13 +1,12 @@
-use Rattle.std.proofs.Common.{◌∷◌, ℕ, insert, ap, ◌∙◌, arith}
+use Rattle.std.proofs.Common.{ℕ, insert, ap, ◌∙◌, arith}
 use Rattle.mbuf_chain.specs.Chain.{ChainView, chain_of}
-use Rattle.mbuf_chain.specs.Owners.{IsOwned}
-use Rattle.mbuf_chain.specs.Train.{numbers, queued_packets}
-use Rattle.mbuf_chain.proofs.Laws.Owners.{owned_after, live_first, apart_first}
+use Rattle.mbuf_chain.specs.Train.{queued_packets}
+use Rattle.mbuf_chain.proofs.Laws.Owners.{owned_after}
 use Rattle.chain_ops.specs.Trims.{without_first}
 use Rattle.ip_reass.specs.Fragments.{QueuedFragment, queued, queued_of}
 use Rattle.ip_reass.specs.Inside.Walks.{after}
 use Rattle.ip_reass.proofs.Fronts.{front_beside}
-use Rattle.ip_reass.proofs.Steps.{Changed, changed, Trimmed, trimmed_at, end_at, queued_is, length-queued, within_of}
+use Rattle.ip_reass.proofs.Steps.{Changed, changed_first, Trimmed, trimmed_at, end_at, queued_is, length-queued, within_of}
 use Rattle.ip_reass.proofs.queue.trim_after.Goals as goal
 
 pub moved-moved-requires : goal.moved-moved-requires
@@ -27,15 +26,8 @@ change : (c : goal.After-insert_after-arg-2-1)
       entries = without_first c.args.n (chain_of c.take_after-chain.new.pool c.take_after-chain.result.0).entries;
     }) c.trim_front.new.pool
 change c =
-    let o : IsOwned c.take_after-chain.new.pool
-    (c.take_after-chain.result.0 ∷ numbers c.take_after-chain.new.pool c.take_after-chain.new.train) =
-    owned_after c.take_after-chain.ensures.moves c.requires.next.at.held.owned in
-    changed c.take_after-chain.new.pool c.trim_front.new.pool c.take_after-chain.new.train c.take_after-chain.result.0 _
-    (live_first c.take_after-chain.new.pool c.take_after-chain.result.0
-    (numbers c.take_after-chain.new.pool c.take_after-chain.new.train) o)
-    (apart_first c.take_after-chain.new.pool c.take_after-chain.result.0
-    (numbers c.take_after-chain.new.pool c.take_after-chain.new.train)
-    o) c.take_after-chain.ensures.held c.trim_front.ensures
+    changed_first (owned_after c.take_after-chain.ensures.moves c.requires.next.at.held.owned)
+    c.take_after-chain.ensures.held c.trim_front.ensures
 
 pub insert_after-requires-clause-live : goal.insert_after-requires-clause-live
 insert_after-requires-clause-live c = (change c).live
@@ -51,28 +43,16 @@ all : (c : goal.After-insert_after)
     → Trimmed c.args.pool.now c.args.train.now (after c.args.front) c.args.n c.insert_after.new.pool
     c.insert_after.new.train
 all c =
-    let o : IsOwned c.take_after-chain.new.pool
-    (c.take_after-chain.result.0 ∷ numbers c.take_after-chain.new.pool c.take_after-chain.new.train) =
-    owned_after c.take_after-chain.ensures.moves c.requires.next.at.held.owned in
-    trimmed_at c.args.pool.now c.take_after-chain.new.pool c.trim_front.new.pool c.insert_after.new.pool
-    c.args.train.now c.take_after-chain.new.train c.insert_after.new.train c.take_after-chain.result.0
-    (after c.args.front) c.args.n c.take_after-chain.result.1
-    c.requires.next.more c.requires.next.at.held c.take_after-chain.ensures.queued_packets c.take_after-chain.ensures.taken
-    c.take_after-chain.ensures.moves
-    (changed c.take_after-chain.new.pool c.trim_front.new.pool c.take_after-chain.new.train c.take_after-chain.result.0
-    _ (live_first c.take_after-chain.new.pool c.take_after-chain.result.0
-    (numbers c.take_after-chain.new.pool c.take_after-chain.new.train) o)
-    (apart_first c.take_after-chain.new.pool c.take_after-chain.result.0
-    (numbers c.take_after-chain.new.pool c.take_after-chain.new.train)
-    o) c.take_after-chain.ensures.held c.trim_front.ensures)
+    trimmed_at c.requires.next.more c.requires.next.at.held c.take_after-chain.ensures.queued_packets
+    c.take_after-chain.ensures.taken c.take_after-chain.ensures.moves
+    (changed_first (owned_after c.take_after-chain.ensures.moves c.requires.next.at.held.owned)
+    c.take_after-chain.ensures.held c.trim_front.ensures)
     (c.insert_after.ensures.queued_packets
     ∙ ap (λ (n : ℕ). insert (queued_packets c.trim_front.new.pool c.take_after-chain.new.train) (after c.args.front)
     (record {
       number = c.take_after-chain.result.0;
-      entries =
-          (chain_of c.trim_front.new.pool c.take_after-chain.result.0).entries;
-      tag =
-          n;
+      entries = (chain_of c.trim_front.new.pool c.take_after-chain.result.0).entries;
+      tag = n;
     })) c.moved-moved.ensures) c.insert_after.ensures.left.moves
 
 pub returns-clause-queue : goal.returns-clause-queue

@@ -1,24 +1,31 @@
-use Rattle.std.proofs.Common.{◌≡◌, ◌+◌, ℕ, drop, refl, sym, ◌∙◌, subst, arith}
+use Rattle.std.proofs.Common.{◌≡◌, ◌+◌, ◌<◌, ℕ, drop, length, refl, sym, ◌∙◌, subst, arith}
 use Rattle.ip_reass.specs.Fragments.{fragments, end_of_fragment}
 use Rattle.ip_reass.specs.Inside.Walks.{AllAbove, fragment_at}
 use Rattle.ip_reass.proofs.Steps.{begin_is, end_is}
 use Rattle.ip_reass.proofs.Walks.{Found, found_none, found_more, length-fragments, end_at, above_from}
+use Rattle.ip_reass.proofs.queue.walk_to.Goals.{In-Some}
 use Rattle.ip_reass.proofs.queue.walk_to.Goals as goal
 
 pub fragments-init : goal.fragments-init
 fragments-init c =
     record { place = tt; found = found_none c.args.offset 0 (fragments c.args.pool.now c.args.train.now) refl }
 
+inside : (c : In-Some) → c.in-Some.at.index < length (fragments c.args.pool.now c.args.train.now)
+inside c =
+    omega (
+      arith,
+      c.in-Some.ensures.1.within,
+      length-fragments c.args.pool.now c.args.train.now c.requires.held,
+    )
+
 pub returns-then-begin-offset-clause-above : goal.returns-then-begin-offset-clause-above
 returns-then-begin-offset-clause-above c =
-    let l = length-fragments c.args.pool.now c.args.train.now c.requires.held in
-    let more = c.in-Some.ensures.1.within in
     subst (λ (n : ℕ). AllAbove c.args.offset (drop n (fragments c.args.pool.now c.args.train.now))) c.in-Some.ensures.0
     (above_from c.args.offset 0 c.in-Some.at.index (fragments c.args.pool.now c.args.train.now) c.requires.apart
-    (omega arith)
+    (inside (goal.at.returns-then-begin-offset-clause-above c).In-Some)
     (omega (
       arith,
-      begin_is c.args.pool.now c.args.train.now c.in-Some.at.index c.requires.held more,
+      begin_is c.args.pool.now c.args.train.now c.in-Some.at.index c.requires.held c.in-Some.ensures.1.within,
       c.begins-begin.ensures,
     )))
 
@@ -31,28 +38,23 @@ ended c =
 
 pub overflow_add-found : goal.overflow_add-found
 overflow_add-found c =
-    let l = length-fragments c.args.pool.now c.args.train.now c.requires.held in
-    let more = c.in-Some.ensures.1.within in
     omega (
       arith,
       ended c,
       end_at 65515 (fragments c.args.pool.now c.args.train.now) c.in-Some.at.index c.requires.small
-          (omega arith),
+          (inside (goal.at.overflow_add-found c).In-Some),
     )
 
 pub fragments-preserved : goal.fragments-preserved
-fragments-preserved c =
-    let l = length-fragments c.args.pool.now c.args.train.now c.requires.held in
-    let more = c.in-Some.ensures.1.within in
-    record {
-      place = c.in-Some.ensures.1;
-      found =
-          found_more c.args.offset c.in-Some.at.index (c.in-Some.at.index + 1) c.begins-begin.result
-          c.fragments.found.end
-          (c.begins-begin.result + c.len_at.result) (fragments c.args.pool.now c.args.train.now)
-          (subst (λ (n : ℕ). Found c.args.offset n c.fragments.found.end (fragments c.args.pool.now c.args.train.now))
-          (sym c.in-Some.ensures.0) c.fragments.invariant.found) (omega arith)
-          (c.begins-begin.ensures ∙ begin_is c.args.pool.now c.args.train.now c.in-Some.at.index c.requires.held more)
-          c.if-begin-offset.false
-          (ended c) refl;
-    }
+fragments-preserved c = record {
+  place = c.in-Some.ensures.1;
+  found =
+      found_more c.args.offset c.in-Some.at.index (c.in-Some.at.index + 1) c.begins-begin.result c.fragments.found.end
+      (c.begins-begin.result + c.len_at.result) (fragments c.args.pool.now c.args.train.now)
+      (subst (λ (n : ℕ). Found c.args.offset n c.fragments.found.end (fragments c.args.pool.now c.args.train.now))
+      (sym c.in-Some.ensures.0) c.fragments.invariant.found)
+      (inside (goal.at.fragments-preserved c).In-Some)
+      (c.begins-begin.ensures ∙ begin_is c.args.pool.now c.args.train.now c.in-Some.at.index c.requires.held
+      c.in-Some.ensures.1.within)
+      c.if-begin-offset.false (ended c) refl;
+}

@@ -59,14 +59,20 @@ returns-then-is_bad-clause-moves c =
     (bad (goal.at.returns-then-is_bad-clause-moves c).After-free_chain).moves
 
 -- it isn't malformed
+good : (c : After-pull_up) → is_bad_fragment (flat_head c.args.head) (c.len-len.result - 20) ≡ false
+good c = sym c.is_bad.ensures ∙ c.if-is_bad.false
+
 sound : (c : After-pull_up) → is_bad_fragment (flat_head c.args.head) (c.args.head.total - 20) ≡ false
 sound c =
     ap (λ (n : ℕ). is_bad_fragment (flat_head c.args.head) (n - 20)) (sym c.requires.total ∙ sym c.len-len.ensures)
-    ∙ (sym c.is_bad.ensures ∙ c.if-is_bad.false)
+    ∙ good c
+
+long : (c : After-pull_up) → length (string (chain_of c.args.pool.now c.args.chain)) ≡ 20 + (c.len-len.result - 20)
+long c = omega (arith, c.len-len.ensures, c.requires.total, c.requires.header)
 
 pub returns-in_default-clause-step : goal.returns-in_default-clause-step
 returns-in_default-clause-step c = λ rest held new acc is.
-    let good = sound (goal.at.returns-in_default-clause-step c).After-pull_up in
+    let is_sound = sound (goal.at.returns-in_default-clause-step c).After-pull_up in
     elim (cases_Bool (is_some (entry_of (chain_of c.args.pool.now c.args.chain) 0).cluster)) [
       | inr plain ↦ absurd (none-some c.args.chain (sym c.in_default.is ∙ (c.pull_up.ensures.plain plain).3))
       | inl cluster ↦
@@ -76,7 +82,7 @@ returns-in_default-clause-step c = λ rest held new acc is.
           (held ⊕ weight_at c.args.pool.now c.args.chain) acc) in
           none_cluster rest held new c.args.head c.args.pool.now c.pull_up.new.pool c.args.self.now.datagrams
           c.pull_up.new.self.datagrams c.args.counters.now c.count.new.self c.pull_up.new.counters c.args.chain
-          (is_some c.pull_up.result) good c.count.ensures cluster tested (ap is_some c.in_default.is) is
+          (is_some c.pull_up.result) is_sound c.count.ensures cluster tested (ap is_some c.in_default.is) is
     ]
 
 pub returns-in_default-clause-accounts : goal.returns-in_default-clause-accounts
@@ -109,12 +115,9 @@ trimmed c =
 pub insert_or_begin-requires : goal.insert_or_begin-requires
 insert_or_begin-requires c =
     let at = (goal.at.insert_or_begin-requires c).After-trim_front in
-    let long : length (string (chain_of c.args.pool.now c.args.chain)) ≡ 20 + (c.len-len.result - 20) =
-    omega (arith, c.len-len.ensures, c.requires.total, c.requires.header) in
-    let good : is_bad_fragment (flat_head c.args.head) (c.len-len.result - 20) ≡ false =
-    sym c.is_bad.ensures ∙ c.if-is_bad.false in
+    let before = (goal.at.insert_or_begin-requires c).After-pull_up in
     let size =
-    carried_len c.args.pool.now c.trim_front.new.pool c.args.chain c.in-Some.chain (c.len-len.result - 20) long
+    carried_len c.args.pool.now c.trim_front.new.pool c.args.chain c.in-Some.chain (c.len-len.result - 20) (long before)
     (ap (λ (v : ChainView). v.entries) (trimmed at).chain ∙ ap (without_first 20) c.in-Some.ensures.entries) in
     record {
       ready = record {
@@ -127,14 +130,14 @@ insert_or_begin-requires c =
       };
       owned = (trimmed at).owned;
       headed = ap (λ (v : ChainView). v.front.header) (trimmed at).chain ∙ c.in-Some.ensures.headed;
-      some = omega (arith, size, good_some c.args.head (c.len-len.result - 20) good);
-      small = omega (arith, size, good_small c.args.head (c.len-len.result - 20) good);
+      some = omega (arith, size, good_some c.args.head (c.len-len.result - 20) (good before));
+      small = omega (arith, size, good_small c.args.head (c.len-len.result - 20) (good before));
     }
 
 pub returns-clause-step : goal.returns-clause-step
 returns-clause-step c = λ rest held new acc goes.
     let at = (goal.at.returns-clause-step c).After-trim_front in
-    let good = sound (goal.at.returns-clause-step c).After-pull_up in
+    let is_sound = sound (goal.at.returns-clause-step c).After-pull_up in
     let acc' =
     accounts c.args.pool.now c.trim_front.new.pool (c.args.chain ∷ []) (c.in-Some.chain ∷ []) rest held
     (weight_at c.args.pool.now c.args.chain) (weight_at c.trim_front.new.pool c.in-Some.chain)
@@ -147,7 +150,7 @@ returns-clause-step c = λ rest held new acc goes.
           let same = c.pull_up.ensures.plain plain in
           some_plain rest held new c.args.head c.args.pool.now c.pull_up.new.pool c.trim_front.new.pool
           c.args.self.now.datagrams c.pull_up.new.self.datagrams c.args.counters.now c.count.new.self
-          c.pull_up.new.counters c.args.chain c.in-Some.chain good c.count.ensures c.in-Some.ensures.entries (trimmed at) joins
+          c.pull_up.new.counters c.args.chain c.in-Some.chain is_sound c.count.ensures c.in-Some.ensures.entries (trimmed at) joins
           plain
           same.0 (ap (λ (r : TableView). r.datagrams) same.1) same.2
       | inl cluster ↦
@@ -160,7 +163,7 @@ returns-clause-step c = λ rest held new acc goes.
           (held ⊕ weight_at c.args.pool.now c.args.chain) acc)) in
           some_cluster rest held new c.args.head c.args.pool.now c.pull_up.new.pool c.trim_front.new.pool
           c.args.self.now.datagrams c.pull_up.new.self.datagrams c.args.counters.now c.count.new.self
-          c.pull_up.new.counters c.args.chain c.in-Some.chain good c.count.ensures c.in-Some.ensures.entries (trimmed at) joins
+          c.pull_up.new.counters c.args.chain c.in-Some.chain is_sound c.count.ensures c.in-Some.ensures.entries (trimmed at) joins
           cluster
           tested
     ]
@@ -209,21 +212,17 @@ returns-then-is_bad-clause-cause c =
 
 pub returns-in_default-clause-cause : goal.returns-in_default-clause-cause
 returns-in_default-clause-cause c =
-    let long : length (string (chain_of c.args.pool.now c.args.chain)) ≡ 20 + (c.len-len.result - 20) =
-    omega (arith, c.len-len.ensures, c.requires.total, c.requires.header) in
-    let good : is_bad_fragment (flat_head c.args.head) (c.len-len.result - 20) ≡ false =
-    sym c.is_bad.ensures ∙ c.if-is_bad.false in
+    let at = (goal.at.returns-in_default-clause-cause c).After-pull_up in
     let some : 0 < length (flat_bytes (carried_entries (chain_of c.args.pool.now c.args.chain))) =
     omega (
       arith,
-      carried_size c.args.pool.now c.args.chain (c.len-len.result - 20) long,
-      good_some c.args.head (c.len-len.result - 20) good,
+      carried_size c.args.pool.now c.args.chain (c.len-len.result - 20) (long at),
+      good_some c.args.head (c.len-len.result - 20) (good at),
     ) in
     cause_lacking (key_in c.args.head) (fragment_carried (chain_of c.args.pool.now c.args.chain) c.args.head)
     (queues c.pull_up.new.pool c.pull_up.new.self.datagrams) some
     (c.pull_up.ensures.none (ap is_some c.in_default.is))
-    ∙ sym (cond-false _ _ _ (ap (λ (n : ℕ). is_bad_fragment (flat_head c.args.head) (n - 20))
-    (sym c.requires.total ∙ sym c.len-len.ensures) ∙ good))
+    ∙ sym (cond-false _ _ _ (sound at))
 
 pub returns-clause-cause : goal.returns-clause-cause
 returns-clause-cause c =

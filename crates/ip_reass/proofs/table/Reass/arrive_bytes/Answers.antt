@@ -3,13 +3,16 @@ use Rattle.mbuf_chain.specs.Chain.{Front}
 use Rattle.mbuf_chain.proofs.Laws.Owners.{moves_trans}
 use Rattle.ip_reass.proofs.ArriveLemmas.{good_small}
 use Rattle.ip_reass.proofs.ArriveBytes.{Fits, at_once, end_accounts, fits_is, inserted_len, stored}
+use Rattle.ip_reass.proofs.table.Reass.arrive_bytes.Goals.{After-count}
 use Rattle.ip_reass.proofs.table.Reass.arrive_bytes.Goals as goal
+
+fits_here : (c : After-count) → Fits c.args.pool.now c.args.head c.args.packet.now
+fits_here c = fits_is c.args.pool.now c.args.head c.args.packet.now c.requires.fits
 
 pub insert_or_begin-requires : goal.insert_or_begin-requires
 insert_or_begin-requires c =
     let s = stored c.args.self.now c.requires.ready c.store_carried-chain.ensures.2.adds in
-    let fits : Fits c.args.pool.now c.args.head c.args.packet.now =
-    fits_is c.args.pool.now c.args.head c.args.packet.now c.requires.fits in
+    let fits = fits_here (goal.at.insert_or_begin-requires c).After-count in
     let len =
     inserted_len c.args.packet.now c.store_carried-chain.ensures.0 fits.many c.store_carried-chain.ensures.2 in
     record {
@@ -23,8 +26,7 @@ insert_or_begin-requires c =
 
 pub returns-clause-arrives : goal.returns-clause-arrives
 returns-clause-arrives c =
-    let fits : Fits c.args.pool.now c.args.head c.args.packet.now =
-    fits_is c.args.pool.now c.args.head c.args.packet.now c.requires.fits in
+    let fits = fits_here (goal.at.returns-clause-arrives c).After-count in
     at_once c.args.pool.now c.store_carried-chain.new.pool c.args.self.now c.args.counters.now c.count.new.self
     c.args.packet.now c.args.head c.store_carried-chain.ensures.0 c.store_carried-chain.result c.insert_or_begin.result
     c.insert_or_begin.new.pool c.insert_or_begin.new.self c.insert_or_begin.new.counters
@@ -33,8 +35,7 @@ returns-clause-arrives c =
 
 pub returns-clause-accounts : goal.returns-clause-accounts
 returns-clause-accounts c =
-    let fits : Fits c.args.pool.now c.args.head c.args.packet.now =
-    fits_is c.args.pool.now c.args.head c.args.packet.now c.requires.fits in
+    let fits = fits_here (goal.at.returns-clause-accounts c).After-count in
     end_accounts c.args.pool.now c.store_carried-chain.new.pool c.args.self.now c.args.counters.now c.count.new.self
     c.args.packet.now c.args.head c.store_carried-chain.ensures.0 c.store_carried-chain.result c.insert_or_begin.result
     c.insert_or_begin.new.pool c.insert_or_begin.new.self c.insert_or_begin.new.counters

@@ -5,7 +5,6 @@ use Rattle.mbuf_chain.proofs.Laws.Owners.{moves_trans}
 use Rattle.ip_reass.specs.Arrivals.{GoesOn, in_hand, key_in, with_waiting}
 use Rattle.ip_reass.specs.Layouts.{HasLayout, LeavesAt, queues}
 use Rattle.ip_reass.specs.declared.arrival.Arrival.{Arrival}
-use Rattle.ip_reass.specs.declared.arrival.Arrival.TheVariants.{Kept}
 use Rattle.ip_reass.specs.Inside.Walks.{arrived}
 use Rattle.ip_reass.specs.Inside.Index.{buckets_of}
 use Rattle.ip_reass.specs.Table.{held_all}
@@ -65,27 +64,19 @@ there c =
     (record { datagrams = c.self.inside.datagrams.items; room = c.self.inside.index.room })
     c.place_of.new.counters c.place_of.result c.key_of.ensures c.self.view_is c.in-Some.is c.place_of.ensures
 
-pub insert_and_count-arrival-requires-clause-table : goal.insert_and_count-arrival-requires-clause-table
-insert_and_count-arrival-requires-clause-table c = (there c).table
-
-pub insert_and_count-arrival-requires-clause-place : goal.insert_and_count-arrival-requires-clause-place
-insert_and_count-arrival-requires-clause-place c = (there c).within
-
-pub insert_and_count-arrival-requires-clause-owned : goal.insert_and_count-arrival-requires-clause-owned
-insert_and_count-arrival-requires-clause-owned c = (there c).stays.owned
-
-pub insert_and_count-arrival-requires-clause-headed : goal.insert_and_count-arrival-requires-clause-headed
-insert_and_count-arrival-requires-clause-headed c =
-    ap (λ (v : ChainView). v.front.header) (there c).stays.chain ∙ c.requires.headed
-
-pub insert_and_count-arrival-requires-clause-some : goal.insert_and_count-arrival-requires-clause-some
-insert_and_count-arrival-requires-clause-some c =
-    subst (λ (v : ChainView). 0 < length (string v)) (sym (there c).stays.chain) c.requires.some
-
-pub insert_and_count-arrival-requires-clause-small : goal.insert_and_count-arrival-requires-clause-small
-insert_and_count-arrival-requires-clause-small c =
-    subst (λ (v : ChainView). c.args.head.offset + length (string v) ≤ 65515) (sym (there c).stays.chain)
-    c.requires.small
+pub insert_and_count-arrival-requires : goal.insert_and_count-arrival-requires
+insert_and_count-arrival-requires c =
+    let s = there c in
+    record {
+      table = s.table;
+      place = s.within;
+      owned = s.stays.owned;
+      headed = ap (λ (v : ChainView). v.front.header) s.stays.chain ∙ c.requires.headed;
+      some = subst (λ (v : ChainView). 0 < length (string v)) (sym s.stays.chain) c.requires.some;
+      small =
+          subst (λ (v : ChainView). c.args.head.offset + length (string v) ≤ 65515) (sym s.stays.chain)
+          c.requires.small;
+    }
 
 -- ---- it's kept
 pub returns-in-Kept-clause-layout : goal.returns-in-Kept-clause-layout
@@ -113,17 +104,10 @@ returns-in-Kept-clause-ready c =
     record {
       table = c.insert_and_count-arrival.ensures.table;
       fragments =
-          fragments_after c.args.pool.now c.insert_and_count-arrival.new.pool c.args.self.now.datagrams
-          c.insert_and_count-arrival.new.table.items (key_in c.args.head)
-          (arrived c.args.pool.now c.args.chain c.args.head.offset c.args.head.more) Kept
-          (returns-in-Kept-clause-layout c) c.requires.ready.table c.requires.ready.fragments
+          fragments_after (returns-in-Kept-clause-layout c) c.requires.ready.table c.requires.ready.fragments
           c.insert_and_count-arrival.ensures.table;
       room = omega (arith, c.insert_and_count-arrival.ensures.moves.mbufs, s.room);
-      distinct =
-          distinct_after c.args.pool.now c.insert_and_count-arrival.new.pool c.args.self.now.datagrams
-          c.insert_and_count-arrival.new.table.items (key_in c.args.head)
-          (arrived c.args.pool.now c.args.chain c.args.head.offset c.args.head.more) Kept
-          (returns-in-Kept-clause-layout c) c.requires.ready.distinct;
+      distinct = distinct_after (returns-in-Kept-clause-layout c) c.requires.ready.distinct;
     }
 
 pub returns-in-Kept-clause-moves : goal.returns-in-Kept-clause-moves
@@ -187,17 +171,11 @@ returns-clause-ready c =
     record {
       table = c.insert_and_count-arrival.ensures.table;
       fragments =
-          fragments_after c.args.pool.now c.insert_and_count-arrival.new.pool c.args.self.now.datagrams
-          c.insert_and_count-arrival.new.table.items (key_in c.args.head)
-          (arrived c.args.pool.now c.args.chain c.args.head.offset c.args.head.more) c.insert_and_count-arrival.result
-          (inserted c) c.requires.ready.table c.requires.ready.fragments c.insert_and_count-arrival.ensures.table;
+          fragments_after (inserted c) c.requires.ready.table c.requires.ready.fragments
+          c.insert_and_count-arrival.ensures.table;
       room =
           omega (arith, c.insert_and_count-arrival.ensures.moves.mbufs, s.room, c.follow.ensures.room);
-      distinct =
-          distinct_after c.args.pool.now c.insert_and_count-arrival.new.pool c.args.self.now.datagrams
-          c.insert_and_count-arrival.new.table.items (key_in c.args.head)
-          (arrived c.args.pool.now c.args.chain c.args.head.offset c.args.head.more) c.insert_and_count-arrival.result
-          (inserted c) c.requires.ready.distinct;
+      distinct = distinct_after (inserted c) c.requires.ready.distinct;
     }
 
 pub returns-clause-moves : goal.returns-clause-moves

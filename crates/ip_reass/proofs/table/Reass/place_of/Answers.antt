@@ -1,4 +1,4 @@
-use Rattle.std.proofs.Common.{◌≡◌, ◌++◌, ◌∷◌, [], ℕ, Bool, List, length, find, sym, ap, ◌∙◌, subst, arith, inr}
+use Rattle.std.proofs.Common.{◌≡◌, ◌*◌, ◌<◌, ◌++◌, ◌∷◌, [], ℕ, Bool, List, None, length, find, sym, ap, ◌∙◌, subst, arith, inr}
 use Rattle.std.specs.Prelude.{count_by}
 use Rattle.ip_reass.specs.Inside.Index.{buckets_of}
 use Rattle.ip_reass.specs.Inside.Place.{RequestsMbuf}
@@ -7,34 +7,56 @@ use Rattle.ip_reass.specs.declared.datagram.Datagram.{Datagram}
 use Rattle.ip_reass.proofs.IndexAfter.{length_buckets, once_held, pushed}
 use Rattle.ip_reass.proofs.PlaceOf.{asks}
 use Rattle.ip_reass.proofs.Queues.{few_reserved}
+use Rattle.ip_reass.proofs.table.Reass.place_of.Goals.{After-as_slice, After-as_slice-i, After-reserve, In_default}
 use Rattle.ip_reass.proofs.table.Reass.place_of.Goals as goal
 
+-- the table is searched
+rows : (c : After-as_slice) → c.as_slice.result.now ≡ c.args.self.now.datagrams
+rows c = c.as_slice.ensures.value ∙ ap (λ (r : TableView). r.datagrams) c.self.view_is
+
 pub find-requires : goal.find-requires
-find-requires c =
-    let now = c.as_slice.ensures.value ∙ ap (λ (r : TableView). r.datagrams) c.self.view_is in
-    record {
-      some = c.self.invariant.2.some;
-      indexed =
-          c.self.invariant.2.rows ∙ ap (buckets_of c.self.inside.index.count) (sym c.as_slice.ensures.value);
-      once =
-          omega (
-            arith,
-            ap (λ (ds : List Datagram). count_by (has_key c.args.key) ds) now,
-            once_held c.args.pool.now c.args.key c.args.self.now.datagrams,
-            c.requires.ready.distinct c.args.key,
-          );
-    }
+find-requires c = record {
+  some = c.self.invariant.2.some;
+  indexed = c.self.invariant.2.rows ∙ ap (buckets_of c.self.inside.index.count) (sym c.as_slice.ensures.value);
+  once =
+      omega (
+        arith,
+        ap (λ (ds : List Datagram). count_by (has_key c.args.key) ds) (rows (goal.at.find-requires c).After-as_slice),
+        once_held c.args.pool.now c.args.key c.args.self.now.datagrams,
+        c.requires.ready.distinct c.args.key,
+      );
+}
+
+fresh : (c : In_default) → c.as_slice.result.now ≡ c.args.self.now.datagrams
+    → find (has_key c.args.key) c.args.self.now.datagrams ≡ None
+fresh c rows = ap (λ (ds : List Datagram). find (has_key c.args.key) ds) (sym rows) ∙ c.in_default.ensures
+
+-- an mbuf is requested
+asked : (c : After-reserve) (answer : Bool) → c.reserve.result ≡ answer
+    → RequestsMbuf c.args.pool.now c.args.self.now c.args.counters.now answer c.reserve.new.pool c.reserve.new.waiting
+    c.reserve.new.counters
+asked c answer is =
+    subst (λ (b : Bool). RequestsMbuf c.args.pool.now c.args.self.now c.args.counters.now b c.reserve.new.pool
+    c.reserve.new.waiting c.reserve.new.counters) is
+    (asks c.args.pool.now c.reserve.new.pool c.args.self.now c.reserve.new.waiting c.args.counters.now
+    c.reserve.new.counters c.reserve.result c.reserve.ensures.reserves c.reserve.ensures.moves
+    c.reserve.ensures.ready c.reserve.ensures.answer c.reserve.ensures.kept c.reserve.ensures.none)
+
+few : (c : After-reserve) → 2 * length c.reserve.new.waiting.datagrams < c.reserve.new.pool.mbufs
+few c =
+    few_reserved c.args.pool.now c.reserve.new.pool c.args.self.now c.reserve.new.waiting c.args.counters.now
+    c.reserve.new.counters _ c.reserve.ensures.kept c.reserve.ensures.none c.reserve.ensures.moves.mbufs c.requires.few
 
 pub returns-then-not-reserve : goal.returns-then-not-reserve
-returns-then-not-reserve c = (
-  ap (λ (ds : List Datagram). find (has_key c.args.key) ds)
-      (sym (c.as_slice.ensures.value ∙ ap (λ (r : TableView). r.datagrams) c.self.view_is)) ∙ c.in_default.ensures,
-  subst (λ (b : Bool). RequestsMbuf c.args.pool.now c.args.self.now c.args.counters.now b c.reserve.new.pool
-      c.reserve.new.waiting c.reserve.new.counters) c.if-not-reserve.true
-      (asks c.args.pool.now c.reserve.new.pool c.args.self.now c.reserve.new.waiting c.args.counters.now
-      c.reserve.new.counters c.reserve.result c.reserve.ensures.reserves c.reserve.ensures.moves
-      c.reserve.ensures.ready c.reserve.ensures.answer c.reserve.ensures.kept c.reserve.ensures.none),
-)
+returns-then-not-reserve c =
+    let at = goal.at.returns-then-not-reserve c in (
+      fresh at.In_default (rows at.After-as_slice),
+      asked at.After-reserve _ c.if-not-reserve.true,
+    )
+
+-- the datagram is added
+len_is : (c : After-as_slice-i) → c.as_slice-i.result.now ≡ c.reserve.new.waiting.datagrams
+len_is c = c.as_slice-i.ensures.value ∙ ap (λ (r : TableView). r.datagrams) c.self-2.view_is
 
 pub add-requires-clause-room : goal.add-requires-clause-room
 add-requires-clause-room c =
@@ -45,44 +67,32 @@ add-requires-clause-room c =
       ap (λ (r : TableView). length r.datagrams) c.self-2.view_is,
       ap (λ (r : TableView). r.room) c.self-2.view_is,
       c.reserve.ensures.ready.room,
-      few_reserved c.args.pool.now c.reserve.new.pool c.args.self.now c.reserve.new.waiting c.args.counters.now
-          c.reserve.new.counters _ c.reserve.ensures.kept c.reserve.ensures.none c.reserve.ensures.moves.mbufs
-          c.requires.few,
+      few (goal.at.add-requires-clause-room c).After-reserve,
     )
 
 pub begin-requires : goal.begin-requires
 begin-requires c =
-    let same : c.self-2.inside.datagrams.len ≡ length c.reserve.new.waiting.datagrams =
+    let at = goal.at.begin-requires c in
     omega (
       arith,
       c.as_slice-i.ensures.len,
-      ap (λ (ds : List Datagram). length ds)
-          (c.as_slice-i.ensures.value ∙ ap (λ (r : TableView). r.datagrams) c.self-2.view_is),
-    ) in
-    omega (
-      arith,
-      same,
-      c.reserve.ensures.ready.room,
+      ap (λ (ds : List Datagram). length ds) (len_is at.After-as_slice-i),
       ap (λ (r : TableView). r.room) c.self-2.view_is,
-      few_reserved c.args.pool.now c.reserve.new.pool c.args.self.now c.reserve.new.waiting c.args.counters.now
-          c.reserve.new.counters _ c.reserve.ensures.kept c.reserve.ensures.none c.reserve.ensures.moves.mbufs
-          c.requires.few,
+      c.reserve.ensures.ready.room,
+      few at.After-reserve,
     )
 
 pub invariant_of-self : goal.invariant_of-self
 invariant_of-self c =
-    let few =
-    few_reserved c.args.pool.now c.reserve.new.pool c.args.self.now c.reserve.new.waiting c.args.counters.now
-    c.reserve.new.counters _ c.reserve.ensures.kept c.reserve.ensures.none c.reserve.ensures.moves.mbufs
-    c.requires.few in
-    let same : c.self-2.inside.datagrams.len ≡ length c.reserve.new.waiting.datagrams =
-    omega (
-      arith,
-      c.as_slice-i.ensures.len,
-      ap (λ (ds : List Datagram). length ds)
-          (c.as_slice-i.ensures.value ∙ ap (λ (r : TableView). r.datagrams) c.self-2.view_is),
-    ) in (
-      omega (arith, c.begin.ensures.len, few, same, c.laws.ensures.small),
+    let at = goal.at.invariant_of-self c in (
+      omega (
+        arith,
+        c.begin.ensures.len,
+        c.as_slice-i.ensures.len,
+        ap (λ (ds : List Datagram). length ds) (len_is at.After-as_slice-i),
+        few at.After-reserve,
+        c.laws.ensures.small,
+      ),
       omega (arith, c.add.ensures.room, c.begin.ensures.capacity, c.self-2.invariant.1),
       record {
         some = omega (arith, c.add.ensures.count, c.self-2.invariant.2.some);
@@ -96,26 +106,20 @@ invariant_of-self c =
     )
 
 pub returns : goal.returns
-returns c = inr (
-  ap (λ (ds : List Datagram). find (has_key c.args.key) ds)
-      (sym (c.as_slice.ensures.value ∙ ap (λ (r : TableView). r.datagrams) c.self.view_is)) ∙ c.in_default.ensures,
-  record {
-    mid = c.reserve.new.pool;
-    left = c.reserve.new.waiting;
-    holder = c.in-Ok.holder;
-    asked =
-        subst (λ (b : Bool). RequestsMbuf c.args.pool.now c.args.self.now c.args.counters.now b c.reserve.new.pool
-        c.reserve.new.waiting c.reserve.new.counters) c.if-not-reserve.false
-        (asks c.args.pool.now c.reserve.new.pool c.args.self.now c.reserve.new.waiting c.args.counters.now
-        c.reserve.new.counters c.reserve.result c.reserve.ensures.reserves c.reserve.ensures.moves
-        c.reserve.ensures.ready c.reserve.ensures.answer c.reserve.ensures.kept c.reserve.ensures.none);
-    adds = c.in-Ok.ensures.ok;
-    change =
-        c.begin.ensures.items
-        ∙ (λ j. (ap (λ (r : TableView). r.datagrams) c.self-2.view_is) j ++ new_datagram c.args.key c.in-Ok.holder ∷ []);
-    room = c.add.ensures.room ∙ ap (λ (r : TableView). r.room) c.self-2.view_is;
-    place =
-        ap (λ (ds : List Datagram). length ds)
-        (c.as_slice-i.ensures.value ∙ ap (λ (r : TableView). r.datagrams) c.self-2.view_is);
-  },
-)
+returns c =
+    let at = goal.at.returns c in
+    inr (
+      fresh at.In_default (rows at.After-as_slice),
+      record {
+        mid = c.reserve.new.pool;
+        left = c.reserve.new.waiting;
+        holder = c.in-Ok.holder;
+        asked = asked at.After-reserve _ c.if-not-reserve.false;
+        adds = c.in-Ok.ensures.ok;
+        change =
+            c.begin.ensures.items ∙ (λ j. (ap (λ (r : TableView). r.datagrams) c.self-2.view_is) j
+            ++ new_datagram c.args.key c.in-Ok.holder ∷ []);
+        room = c.add.ensures.room ∙ ap (λ (r : TableView). r.room) c.self-2.view_is;
+        place = ap (λ (ds : List Datagram). length ds) (len_is at.After-as_slice-i);
+      },
+    )
