@@ -43,10 +43,17 @@ weighs : (k m : ℕ) → flat.weight_of (entries_on (k ∷ []) (Cluster m ∷ []
 unfolding entries_on
 weighs k m = refl
 
+-- a packet with header h is a fragment for the machine, and can be stored directly; it was counted
+pub record IsCounted (p : PoolView) (s : SocksView) (r : TableView) (a c : Counters) (packet : List ℕ) (h : IpHead)
+    : Type 0 where
+  pub head : IsHeaded packet h
+  pub part : is_fragment (flat_head h) ≡ true
+  pub ours : (rest : State) → is_for_us (with_net p s (unfinished p r.datagrams) a rest).config h.dst ≡ true
+  pub fits : Fits p h packet
+  pub counts : c ≡ counts_more IpTotal 1 a
+
 module _ (p : PoolView) (s : SocksView) (r : TableView) (a c : Counters) (packet : List ℕ) (h : IpHead)
-    (head : IsHeaded packet h) (part : is_fragment (flat_head h) ≡ true)
-    (ours : (rest : State) → is_for_us (with_net p s (unfinished p r.datagrams) a rest).config h.dst ≡ true)
-    (fits : Fits p h packet) (counts : c ≡ counts_more IpTotal 1 a) where
+    (i : IsCounted p s r a c packet h) where
   -- the machine before, and after the packet is counted
   abbrev old : State → State
   old rest = with_net p s (unfinished p r.datagrams) a rest
@@ -55,7 +62,7 @@ module _ (p : PoolView) (s : SocksView) (r : TableView) (a c : Counters) (packet
   mid rest = reass.with_waiting p r.datagrams c (with_sockets p s rest)
 
   mid_is : (rest : State) → mid rest ≡ counts_packet (old rest)
-  mid_is rest = λ i. with_net p s (unfinished p r.datagrams) (counts i) rest
+  mid_is rest = λ j. with_net p s (unfinished p r.datagrams) (i.counts j) rest
 
   mid_accounts : (rest : State) (held : Weight) → IsAccounted p (old rest) held → IsAccounted p (mid rest) held
   mid_accounts rest held acc =
@@ -68,8 +75,8 @@ module _ (p : PoolView) (s : SocksView) (r : TableView) (a c : Counters) (packet
   enough rest rooms acc are few most =
       ap (λ (rooms : List Room). has_enough (old rest) nothing (need_of rooms)) are
       ∙ test_is p (old rest) nothing (need_of rooms) acc
-      ∙ (λ i. le-leb (length rooms) (p.mbufs - held_mbufs p) (omega (arith, fits.mbufs, few)) i
-      && le-leb (count_by is_cluster rooms) (free_clusters p) (omega (arith, fits.clusters, most)) i)
+      ∙ (λ j. le-leb (length rooms) (p.mbufs - held_mbufs p) (omega (arith, i.fits.mbufs, few)) j
+      && le-leb (count_by is_cluster rooms) (free_clusters p) (omega (arith, i.fits.clusters, most)) j)
 
   -- the packet arrives if its fragment arrives with the decoded header
   arrives : (rest new : State) (w : Weight)
@@ -77,27 +84,27 @@ module _ (p : PoolView) (s : SocksView) (r : TableView) (a c : Counters) (packet
       (record { bytes = drop 20 packet; weight = w }) (counts_packet (old rest)) new
       → Arrives exact_ledger (By_wire (length packet)) nothing (record { bytes = packet; weight = w }) (old rest) new
   arrives rest new w step =
-      let total : total_of packet ≡ length packet = sym (ap (λ (x : IpHead). x.total) head.says) ∙ fits.total in
+      let total : total_of packet ≡ length packet = sym (ap (λ (x : IpHead). x.total) i.head.says) ∙ i.fits.total in
       let all : take (total_of packet) packet ≡ packet = take_all (total_of packet) packet (omega (arith, total)) in
       let item : carried (record { bytes = packet; weight = w }) ≡ record { bytes = drop 20 packet; weight = w } =
-      λ i. record { bytes = drop 20 (all i); weight = w } in
+      λ j. record { bytes = drop 20 (all j); weight = w } in
       let now : FragmentArrives exact_ledger (By_wire (length packet)) nothing (flat_head h)
       (carried (record { bytes = packet; weight = w })) (counts_packet (old rest)) new =
       subst (λ (x : Item). FragmentArrives exact_ledger (By_wire (length packet)) nothing (flat_head h) x
       (counts_packet (old rest)) new) (sym item) step in
-      passes packet (By_wire (length packet)) nothing w (old rest) new head.none (record {
+      passes packet (By_wire (length packet)) nothing w (old rest) new i.head.none (record {
         yes = λ e. subst (λ (x : IpHead). Choice (is_fragment (flat_head x))
             (FragmentArrives exact_ledger (By_wire (length packet)) nothing (flat_head x)
             (carried (record { bytes = packet; weight = w })) (counts_packet (old rest)) new)
             (WholeArrives exact_ledger nothing x.src x.dst x.proto (carried (record { bytes = packet; weight = w }))
-            (counts_packet (old rest)) new)) head.says
-            (record { yes = λ _. now; no = λ f. absurd (true≢false (sym part ∙ f)) });
-        no = λ e. absurd (true≢false (sym (ours rest) ∙ ap (λ (x : IpHead). is_for_us (old rest).config x.dst) head.says
-            ∙ e));
+            (counts_packet (old rest)) new)) i.head.says
+            (record { yes = λ _. now; no = λ f. absurd (true≢false (sym i.part ∙ f)) });
+        no = λ e. absurd (true≢false (sym (i.ours rest)
+            ∙ ap (λ (x : IpHead). is_for_us (old rest).config x.dst) i.head.says ∙ e));
       })
 
   once : (k j : ℕ) → bag_times j (k ∷ []) ≤ 1
-  once k j = omega (arith, count_cons (λ (i : ℕ). i == j) k [], most (k == j))
+  once k j = omega (arith, count_cons (λ (x : ℕ). x == j) k [], most (k == j))
     where
       most : (b : Bool) → cond {A = ℕ} b 1 0 ≤ 1
       most true = omega arith
@@ -140,7 +147,7 @@ module _ (p : PoolView) (s : SocksView) (r : TableView) (a c : Counters) (packet
         (record { bytes = drop 20 packet; weight = w }) (counts_packet (old rest)) new =
         subst (λ (m : State). FragmentArrives exact_ledger (By_wire (length packet)) nothing (flat_head h)
         (record { bytes = drop 20 packet; weight = w }) m new) (mid_is rest)
-        (stored_arrives nothing h packet is.cluster (mid rest) new fits.many fits.total chain) in
+        (stored_arrives nothing h packet is.cluster (mid rest) new i.fits.many i.fits.total chain) in
         by_size (nat_le 208 (length packet)) refl fragment
       where
         k : ℕ
@@ -154,14 +161,14 @@ module _ (p : PoolView) (s : SocksView) (r : TableView) (a c : Counters) (packet
             let many : 208 ≤ length packet = leb-true 208 (length packet) large in
             let free = is.free many in
             comes_in rest new (k ∷ []) (Cluster (length packet) ∷ []) (record { mbufs = 1; bag = k ∷ [] }) acc
-            (one_cluster 0 (length packet) (omega arith) many (omega (arith, fits.few))) (omega arith) (omega arith)
+            (one_cluster 0 (length packet) (omega arith) many (omega (arith, i.fits.few))) (omega arith) (omega arith)
             refl
             (weighs k (length packet)) (once k)
             (All-from_recursion (IsFree (old rest) nothing) (k ∷ [])
             (free_each p (old rest) (k ∷ []) acc (free.0, tt) (free.1, tt))) fragment
         by_size false small fragment =
             comes_in rest new [] (Plain 100 ∷ Plain (length packet - 100) ∷ []) (record { mbufs = 2; bag = [] }) acc
-            (two_plain (length packet) fits.many (leb-false 208 (length packet) small)) (omega arith) (omega arith)
+            (two_plain (length packet) i.fits.many (leb-false 208 (length packet) small)) (omega arith) (omega arith)
             refl
             (two_weigh 100 (length packet - 100)) (λ j. omega arith) (All-from_recursion (IsFree (old rest) nothing) [] tt)
             fragment
@@ -178,8 +185,8 @@ module _ (p : PoolView) (s : SocksView) (r : TableView) (a c : Counters) (packet
 
       now : (rest : State) → then_net rest ≡ reass.with_waiting q t.datagrams b (with_sockets p s rest)
       now rest =
-          λ i. machine (record rest { unfinished = unfinished q t.datagrams; counters = b })
-          (λ fd. beside.socks.shows fd i) s.pcbs
+          λ j. machine (record rest { unfinished = unfinished q t.datagrams; counters = b })
+          (λ fd. beside.socks.shows fd j) s.pcbs
 
       -- the parts are kept
       pub placed : KeepsParts (host_view p s r a) [] (host_view q s t b) (in_hand result)
@@ -202,25 +209,22 @@ module _ (p : PoolView) (s : SocksView) (r : TableView) (a c : Counters) (packet
 
 -- its datagram is complete, and was delivered to the sockets
 pub came_whole : {p q : PoolView} {s : SocksView} (r t : TableView) {a b c : Counters} {packet : List ℕ} {h : IpHead}
-    {d : ℕ} {u : NetView} (g : IpHead) (head : IsHeaded packet h) (part : is_fragment (flat_head h) ≡ true)
-    → ((rest : State) → is_for_us (with_net p s (unfinished p r.datagrams) a rest).config h.dst ≡ true)
-    → Fits p h packet → c ≡ counts_more IpTotal 1 a
+    {d : ℕ} {u : NetView} (g : IpHead) → IsCounted p s r a c packet h
     → ArrivesAtOnce p r.datagrams c packet h (Whole d g) q t.datagrams b → IsSocks p s
     → IsOwned p (held_all p r.datagrams ++ queued_chains p s.queues)
     → Moves p (held_all p r.datagrams) q (d ∷ held_all q t.datagrams)
     → ((rest : State) (held : Weight) → IsAccounted p (reass.with_waiting p r.datagrams c rest) held
     → IsAccounted q (reass.with_waiting q t.datagrams b rest) (held ⊕ weight_owned q (d ∷ [])))
     → IsInput (host_view q s t b) d g.src g.dst g.proto u → HasCome (host_view p s r a) packet u
-came_whole {p} {q} {s} r t {a} {b} {c} {packet} {h} {d} {u} g head part ours fits counts is socks owned moves accounts
-    input =
+came_whole {p} {q} {s} r t {a} {b} {c} {packet} {h} {d} {u} g i is socks owned moves accounts input =
     let kept : KeepsParts (host_view p s r a) [] (host_view q s t b) (d ∷ []) =
-    placed p s r a c packet h head part ours fits counts (Whole d g) q t b is socks owned moves accounts in
+    placed p s r a c packet h i (Whole d g) q t b is socks owned moves accounts in
     let same : (rest : State) → with_net q s (unfinished q t.datagrams) b rest
     ≡ reass.with_waiting q t.datagrams b (with_sockets p s rest) =
-    now p s r a c packet h head part ours fits counts (Whole d g) q t b is socks owned moves accounts in
+    now p s r a c packet h i (Whole d g) q t b is socks owned moves accounts in
     record {
       step = λ rest acc.
-          comes p s r a c packet h head part ours fits counts (Whole d g) q t b is rest (net_state u rest) acc
+          comes p s r a c packet h i (Whole d g) q t b is rest (net_state u rest) acc
           (subst (λ (m : State). WholeArrives exact_ledger nothing g.src g.dst g.proto (item_at q d) m
           (net_state u rest))
           (same rest) (input.step rest nothing (kept.accounts rest nothing acc)));

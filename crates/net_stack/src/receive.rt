@@ -9,7 +9,7 @@ ghost use Rattle.ip_out.specs.Headings.{head_in};
 ghost use Rattle.ip_reass.specs.Arrivals.{flat_head};
 ghost use Rattle.ip_reass.specs.AtOnce.{fits_at_once};
 ghost use Rattle.ip_reass.specs.Table.{IsReady};
-ghost use Rattle.sock_calls.specs.Whole.{HasSpace};
+ghost use Rattle.sock_calls.specs.Whole.{HasSpace, HasWire};
 ghost use Rattle.net_stack.specs.Inside.Arrivals.{IsPacketStored, IsWholeForUs, is_ours_or_all};
 ghost use Rattle.net_stack.specs.Inside.Hosts.{CanStore, HasAsked, PacketArrives, PartsFit, IsProcessed};
 
@@ -51,8 +51,7 @@ fn count_dropped(counters: &mut Counters, why: Why)
 
 /// Copies a packet into a new chain. Its buffers must be free.
 fn put_packet(pool: &mut Pool, packet: &[u8]) -> Chain
-    requires most { length packet.now ≤ IP_MAX_PACKET }
-    requires free { Has pool.old (wire (length packet.now)) }
+    requires wire { HasWire pool.old (length packet.now) }
     ensures { IsPacketStored pool.old packet.now pool.new result }
 {
     stored_layout();

@@ -28,7 +28,7 @@ use Rattle.ledger.proofs.Laws.{accounted_after}
 use Rattle.sockbuf.specs.SockBuf.{SockBufView}
 use Rattle.udp.specs.Datagrams as udp
 use Rattle.udp.proofs.Laws.{delivered_arrives, dropped_arrives, data_weight}
-use Rattle.sock_calls.specs.Sockets.{SocksView, IsSocks, queues_of, queued_chains, with_net}
+use Rattle.sock_calls.specs.Sockets.{SocksFit, SocksView, queues_of, queued_chains, with_net}
 use Rattle.sock_calls.specs.Delivery.{net_view, IsDelivered, IsInput, socket_named, sockets_named}
 use Rattle.sock_calls.proofs.Frames.{Kept, kept}
 use Rattle.sock_calls.proofs.Delivered.{freed, freed_accounts, ends_here, shows_same}
@@ -74,38 +74,30 @@ all_open t destination q fds h =
 -- ---- the preconditions of the delivery
 pub record Reached (p : PoolView) (c : ℕ) (xs : List ℕ) (s : SocksView) (q : PoolView) (d : ℕ) : Type 0 where
   pub same : SameAt p q xs
-  pub socks : Kept p q s
-  pub owned : IsOwned q (d ∷ (xs ++ queued_chains q s.queues))
+  pub shows : (fd : ℕ) → queues_of q s.queues fd ≡ queues_of p s.queues fd
+  pub fit : SocksFit q s (d ∷ xs)
   pub moves : Moves p (c ∷ (xs ++ queued_chains p s.queues)) q (d ∷ (xs ++ queued_chains q s.queues))
 
-pub reached : (p q : PoolView) (c d : ℕ) (xs : List ℕ) (s : SocksView)
-    → IsOwned p (c ∷ (xs ++ queued_chains p s.queues)) → IsSocks p s → Moves p (c ∷ []) q (d ∷ [])
-    → Reached p c xs s q d
-reached p q c d xs s o r m =
+pub reached : {p q : PoolView} {c d : ℕ} {xs : List ℕ} {s : SocksView} → SocksFit p s (c ∷ xs)
+    → Moves p (c ∷ []) q (d ∷ []) → Reached p c xs s q d
+reached {p} {q} {c} {d} {xs} {s} fit m =
+    let o = fit.owned in
     let ys : List ℕ = queued_chains p s.queues in
     let all : SameAt p q (xs ++ ys) = same_beside (xs ++ ys) m (λ k. omega (arith, o k))
     (λ k h. omega (arith, o k, h, live_at_most p k)) in
     let k : Kept p q s = kept p q s (record {
       same = λ j h. all.same j (omega (arith, h, times-append j xs ys));
       mbufs = all.mbufs;
-    }) r in
+    }) fit.socks in
     let mv : Moves p (c ∷ (xs ++ ys)) q (d ∷ (xs ++ queued_chains q s.queues)) =
     subst (λ (l : List ℕ). Moves p (c ∷ (xs ++ ys)) q (d ∷ (xs ++ l))) (sym k.chains)
     (moves_beside (c ∷ (xs ++ ys)) (d ∷ (xs ++ ys)) (xs ++ ys) m (λ k. omega arith) (λ k. omega arith)) in
     record {
       same = record { same = λ j h. all.same j (omega (arith, h, times-append j xs ys)); mbufs = all.mbufs };
-      socks = k;
-      owned = owned_after mv o;
+      shows = k.shows;
+      fit = record { socks = k.ready; owned = owned_after mv o };
       moves = mv;
     }
-
--- the same for the sockets that a view shows
-pub reached_in : (p q : PoolView) (c d : ℕ) (xs : List ℕ) (s v : SocksView) → s ≡ v
-    → IsOwned p (c ∷ (xs ++ queued_chains p v.queues)) → IsSocks p v → Moves p (c ∷ []) q (d ∷ [])
-    → Reached p c xs s q d
-reached_in p q c d xs s v e o r m =
-    reached p q c d xs s (subst (λ (t : SocksView). IsOwned p (c ∷ (xs ++ queued_chains p t.queues))) (sym e) o)
-    (subst (IsSocks p) (sym e) r) m
 
 -- ---- both outcomes
 same_accounts : {p q : PoolView} {s : State} (held : Weight) (c d : ℕ) → IsAccounted p s (held ⊕ weight_at p c)
@@ -128,25 +120,25 @@ same_accounts {p} {q} {s} held c d a o m e =
 
 pub delivered_input : {p q r : PoolView} {t u : Table} {bs cs : List SockBufView} {us vs ws : List Unfinished}
     {xs ys zs : List ℕ} {c e : Counters} {chain d : ℕ} {h : IpHead} {to : List ℕ} {from : Addr}
-    → IsSocks p (record { pcbs = t; queues = bs }) → IsOwned p (chain ∷ (xs ++ queued_chains p bs))
+    → SocksFit p (record { pcbs = t; queues = bs }) (chain ∷ xs)
     → udp.IsForSockets p chain h t q to from d → Moves p (chain ∷ []) q (d ∷ []) → vs ≡ us → ys ≡ xs
     → IsDelivered (net_view q (record { pcbs = t; queues = bs }) vs ys c) d to from
     (net_view r (record { pcbs = u; queues = cs }) ws zs e)
     → IsInput (net_view p (record { pcbs = t; queues = bs }) us xs c) chain h.src h.dst h.proto
     (net_view r (record { pcbs = u; queues = cs }) ws zs e)
-delivered_input {p} {q} {r} {t} {u} {bs} {cs} {us} {vs} {ws} {xs} {ys} {zs} {c} {e} {chain} {d} {h} {to} {from} socks
-    owned is m same_vs same_ys done =
+delivered_input {p} {q} {r} {t} {u} {bs} {cs} {us} {vs} {ws} {xs} {ys} {zs} {c} {e} {chain} {d} {h} {to} {from} fit
+    is m same_vs same_ys done =
     let s : SocksView = record { pcbs = t; queues = bs } in
-    let x = reached p q chain d xs s owned socks m in
+    let x = reached fit m in
     let heavy : weight_at q d ≡ weight_at p chain = kept_weight is in
     let now : (rest : State) → with_net q s vs c rest ≡ with_net p s us c rest =
-    λ rest. shows_same p q t bs c rest x.socks.shows same_vs in
+    λ rest. shows_same p q t bs c rest x.shows same_vs in
     let item : item_at q d ≡ record { bytes = udp_bytes (string (chain_of p chain)); weight = weight_at p chain } =
     λ i. record { bytes = (ap (λ (k : ℕ). string (chain_of q k)) is.same ∙ is.bytes) i; weight = heavy i } in
     let accounts : (rest : State) (held : Weight) → IsAccounted p (with_net p s us c rest) (held ⊕ weight_at p chain)
     → IsAccounted q (with_net q s vs c rest) (held ⊕ weight_at q d) = λ rest held a.
     subst (λ (m : State). IsAccounted q m (held ⊕ weight_at q d)) (sym (now rest))
-    (same_accounts held chain d a (λ k. omega (arith, owned k)) m heavy) in
+    (same_accounts held chain d a (λ k. omega (arith, fit.owned k)) m heavy) in
     let named : (f : Queues) → sockets_named f t to ≡ map (socket_with f) is.matched.found = λ f.
     ap (sockets_named f t) is.matched.named
     ∙ sym (sockets_are f t is.matched.found (recursion_from_All (λ (b : Block). block_at b.fd t ≡ Some b)
@@ -176,13 +168,13 @@ delivered_input {p} {q} {r} {t} {u} {bs} {cs} {us} {vs} {ws} {xs} {ys} {zs} {c} 
 
 pub dropped_input : {p q : PoolView} {t : Table} {bs : List SockBufView} {us vs : List Unfinished} {xs ys : List ℕ}
     {c e : Counters} {chain : ℕ} {h : IpHead} (why : Why)
-    → IsSocks p (record { pcbs = t; queues = bs }) → IsOwned p (chain ∷ (xs ++ queued_chains p bs))
+    → SocksFit p (record { pcbs = t; queues = bs }) (chain ∷ xs)
     → udp.IsDropped p chain h t q why → (SameAt p q xs → vs ≡ us) → (SameAt p q xs → ys ≡ xs) → e ≡ counted why c
     → IsInput (net_view p (record { pcbs = t; queues = bs }) us xs c) chain h.src h.dst h.proto
     (net_view q (record { pcbs = t; queues = bs }) vs ys e)
-dropped_input {p} {q} {t} {bs} {us} {vs} {xs} {ys} {c} {e} {chain} {h} why socks owned is same_vs same_ys is_e =
+dropped_input {p} {q} {t} {bs} {us} {vs} {xs} {ys} {c} {e} {chain} {h} why fit is same_vs same_ys is_e =
     let s : SocksView = record { pcbs = t; queues = bs } in
-    let gone = freed p q chain xs s owned socks is.freed in
+    let gone = freed fit is.freed in
     let now : (rest : State) → with_net q s vs e rest ≡ ends why (with_net p s us c rest) =
     λ rest. ends_here p q t bs c why rest gone.socks.shows (same_vs gone.same) is_e in
     record {
@@ -193,7 +185,7 @@ dropped_input {p} {q} {t} {bs} {us} {vs} {xs} {ys} {c} {e} {chain} {h} why socks
           (record rest { unfinished = us; counters = c }) (queues_of p bs));
       parts = record {
         accounts = λ rest held a. subst (λ (x : State). IsAccounted q x held) (sym (now rest))
-            (freed_accounts chain why a (λ k. omega (arith, owned k)) is.freed);
+            (freed_accounts chain why a (λ k. omega (arith, fit.owned k)) is.freed);
         ready = gone.socks.ready;
         pcbs = refl;
         moves = subst (λ (zs : List ℕ). Moves p (chain ∷ (xs ++ queued_chains p bs)) q (zs ++ queued_chains q bs))
@@ -204,7 +196,7 @@ dropped_input {p} {q} {t} {bs} {us} {vs} {xs} {ys} {c} {e} {chain} {h} why socks
 -- the lookup leaves the table the same
 pub delivered_to : {p q r : PoolView} {t t' u : Table} {bs cs : List SockBufView} {us vs ws : List Unfinished}
     {xs ys zs : List ℕ} {c e : Counters} {chain d : ℕ} {h : IpHead} {to fds : List ℕ} {from : Addr}
-    → IsSocks p (record { pcbs = t; queues = bs }) → IsOwned p (chain ∷ (xs ++ queued_chains p bs))
+    → SocksFit p (record { pcbs = t; queues = bs }) (chain ∷ xs)
     → udp.IsForSockets p chain h t q to from d → Moves p (chain ∷ []) q (d ∷ []) → vs ≡ us → ys ≡ xs → t' ≡ t
     → fds ≡ to
     → IsDelivered (net_view q (record { pcbs = t'; queues = bs }) vs ys c) d fds from
@@ -212,22 +204,21 @@ pub delivered_to : {p q r : PoolView} {t t' u : Table} {bs cs : List SockBufView
     → IsInput (net_view p (record { pcbs = t; queues = bs }) us xs c) chain h.src h.dst h.proto
     (net_view r (record { pcbs = u; queues = cs }) ws zs e)
 delivered_to {p} {q} {r} {t} {t'} {u} {bs} {cs} {us} {vs} {ws} {xs} {ys} {zs} {c} {e} {chain} {d} {h} {to} {fds} {from}
-    socks owned is m same_vs same_ys same_t same_to done =
+    fit is m same_vs same_ys same_t same_to done =
     let then = net_view r (record { pcbs = u; queues = cs }) ws zs e in
-    delivered_input socks owned is m same_vs same_ys
+    delivered_input fit is m same_vs same_ys
     (subst (λ (l : List ℕ). IsDelivered (net_view q (record { pcbs = t; queues = bs }) vs ys c) d l from then) same_to
     (subst (λ (x : Table). IsDelivered (net_view q (record { pcbs = x; queues = bs }) vs ys c) d fds from then) same_t
     done))
 
 pub dropped_to : {p q : PoolView} {t t' : Table} {bs : List SockBufView} {us vs : List Unfinished} {xs ys : List ℕ}
     {c e : Counters} {chain : ℕ} {h : IpHead} (why : Why)
-    → IsSocks p (record { pcbs = t; queues = bs }) → IsOwned p (chain ∷ (xs ++ queued_chains p bs))
+    → SocksFit p (record { pcbs = t; queues = bs }) (chain ∷ xs)
     → udp.IsDropped p chain h t q why → (SameAt p q xs → vs ≡ us) → (SameAt p q xs → ys ≡ xs) → t' ≡ t
     → e ≡ counted why c
     → IsInput (net_view p (record { pcbs = t; queues = bs }) us xs c) chain h.src h.dst h.proto
     (net_view q (record { pcbs = t'; queues = bs }) vs ys e)
-dropped_to {p} {q} {t} {t'} {bs} {us} {vs} {xs} {ys} {c} {e} {chain} {h} why socks owned is same_vs same_ys same_t
-    is_e =
+dropped_to {p} {q} {t} {t'} {bs} {us} {vs} {xs} {ys} {c} {e} {chain} {h} why fit is same_vs same_ys same_t is_e =
     subst (λ (u : Table). IsInput (net_view p (record { pcbs = t; queues = bs }) us xs c) chain h.src h.dst h.proto
     (net_view q (record { pcbs = u; queues = bs }) vs ys e)) (sym same_t)
-    (dropped_input why socks owned is same_vs same_ys is_e)
+    (dropped_input why fit is same_vs same_ys is_e)

@@ -27,7 +27,7 @@ use Rattle.pcb_table.specs.Table.{Table, Queues, IsDescriptor, IsOpen, block_at,
 use Rattle.ledger.specs.Accounts.{item_of, item_at, entries_weight, weight_at, IsAccounted}
 use Rattle.ledger.proofs.Laws.{accounted_after}
 use Rattle.sockbuf.specs.SockBuf.{SockBufView}
-use Rattle.sock_calls.specs.Sockets.{SocksView, IsSocks, queues_of, queued_chains, with_net}
+use Rattle.sock_calls.specs.Sockets.{SocksFit, SocksView, IsSocks, queues_of, queued_chains, with_net}
 use Rattle.sock_calls.specs.Delivery.{NetView, net_view, net_state, queues_at, Offers, IsAppended, IsOffered, IsDelivered, no_block, socket_named, sockets_named}
 use Rattle.sock_calls.specs.Inside.Delivering.{IsUnderWay}
 use Rattle.sock_calls.proofs.Frames.{Kept, kept, keeps_none, keeps_trans}
@@ -59,15 +59,16 @@ record Copied (p : PoolView) (c : ℕ) (ys : List ℕ) (s : SocksView) (q : Pool
   moves : Moves p (c ∷ (ys ++ queued_chains p s.queues)) q (c ∷ d ∷ (ys ++ queued_chains q s.queues))
   owned : IsOwned q (c ∷ d ∷ (ys ++ queued_chains q s.queues))
 
-copy_came : (p q : PoolView) (c d : ℕ) (ys : List ℕ) (s : SocksView) → IsOwned p (c ∷ (ys ++ queued_chains p s.queues))
-    → IsSocks p s → Moves p [] q (d ∷ []) → Copied p c ys s q d
-copy_came p q c d ys s o r m =
+copy_came : {p q : PoolView} {c d : ℕ} {ys : List ℕ} {s : SocksView} → SocksFit p s (c ∷ ys) → Moves p [] q (d ∷ [])
+    → Copied p c ys s q d
+copy_came {p} {q} {c} {d} {ys} {s} fit m =
+    let o = fit.owned in
     let zs : List ℕ = queued_chains p s.queues in
     let all : SameAt p q (c ∷ (ys ++ zs)) = same_beside (c ∷ (ys ++ zs)) m o (λ k h. refl) in
     let k : Kept p q s = kept p q s (record {
       same = λ j h. all.same j (omega (arith, h, times-append j ys zs));
       mbufs = all.mbufs;
-    }) r in
+    }) fit.socks in
     let mv : Moves p (c ∷ (ys ++ zs)) q (c ∷ d ∷ (ys ++ queued_chains q s.queues)) =
     subst (λ (l : List ℕ). Moves p (c ∷ (ys ++ zs)) q (c ∷ d ∷ (ys ++ l))) (sym k.chains)
     (moves_beside (c ∷ (ys ++ zs)) (c ∷ d ∷ (ys ++ zs)) (c ∷ (ys ++ zs)) m (λ k. omega arith) (λ k. omega arith)) in
@@ -153,44 +154,41 @@ pub lacking_offer : {p q : PoolView} {t : Table} {bs : List SockBufView} {us vs 
     (net_view q (record { pcbs = t; queues = bs }) vs ys e)
 lacking_offer {p} {q} {t} {bs} {us} {vs} {xs} {ys} {c} {d} {e} {chain} {n} fd sender i is_n is_e =
     let s : SocksView = record { pcbs = t; queues = bs } in
-    let x = tested p q chain xs ys s i.owned i.socks i.moves in
+    let x = tested i.fit i.moves in
     let ended : (rest : State) → with_net q s vs e rest ≡ ends NoBufs (with_net p s vs d rest) =
-    λ rest. ends_here p q t bs d NoBufs rest x.socks.shows refl is_e in
+    λ rest. ends_here p q t bs d NoBufs rest x.shows refl is_e in
     record {
       step = λ rest held b at a.
           lacking_offers held sender (item_at p chain) (socket_with (queues_of p bs) b) (with_net p s us c rest)
           (with_net p s vs d rest) (with_net q s vs e rest) n is_n
-          (i.reserves rest (held ⊕ weight_at p chain) a).has_buffers (ended rest);
-      others = λ k ne. x.socks.shows k;
+          (i.reserves (with_net p s us c rest) (held ⊕ weight_at p chain) refl refl a).has_buffers (ended rest);
+      others = λ k ne. x.shows k;
       chain = x.chain;
       parts = record {
         accounts = λ rest held a.
             let ends : IsAccounted q (with_net q s vs e rest) (held ⊕ weight_at p chain) =
             subst (λ (m : State). IsAccounted q m (held ⊕ weight_at p chain)) (sym (ended rest))
             (ends_accounted {s = with_net p s vs d rest} NoBufs
-            (i.reserves rest (held ⊕ weight_at p chain) a).accounted) in
+            (i.reserves (with_net p s us c rest) (held ⊕ weight_at p chain) refl refl a).accounted) in
             subst (λ (v : ChainView). IsAccounted q (with_net q s vs e rest) (held ⊕ entries_weight v.entries))
             (sym x.chain)
             ends;
-        ready = x.socks.ready;
+        ready = x.fit.socks;
         pcbs = refl;
         moves = x.moves;
       };
     }
 
 -- the preconditions for delivering the copy
-pub record CopyReady (p q : PoolView) (t : Table) (bs : List SockBufView) (xs : List ℕ) (copy : ℕ) : Type 0 where
+pub record CopyReady (p q : PoolView) (s : SocksView) (xs : List ℕ) (copy : ℕ) : Type 0 where
   pub same : SameAt p q xs
-  pub socks : IsSocks q (record { pcbs = t; queues = bs })
-  pub owned : IsOwned q (copy ∷ (xs ++ queued_chains q bs))
+  pub fit : SocksFit q s (copy ∷ xs)
 
-pub copy_ready : (p q r : PoolView) (chain copy : ℕ) (xs ys : List ℕ) (s : SocksView) → IsSocks p s
-    → IsOwned p (chain ∷ (xs ++ queued_chains p s.queues)) → Moves p xs q ys → Moves q [] r (copy ∷ [])
-    → CopyReady q r s.pcbs s.queues ys copy
-copy_ready p q r chain copy xs ys s socks owned moves m =
-    let x = tested p q chain xs ys s owned socks moves in
-    let k = copy_came q r chain copy ys s x.owned x.socks.ready m in
-    record { same = k.same; socks = k.socks.ready; owned = λ j. omega (arith, k.owned j) }
+pub copy_ready : {p q r : PoolView} {chain copy : ℕ} {xs ys : List ℕ} {s : SocksView} → SocksFit p s (chain ∷ xs)
+    → Moves p xs q ys → Moves q [] r (copy ∷ []) → CopyReady q r s ys copy
+copy_ready fit moves m =
+    let k = copy_came (tested fit moves).fit m in
+    record { same = k.same; fit = record { socks = k.socks.ready; owned = λ j. omega (arith, k.owned j) } }
 
 -- the copy was made and delivered
 pub copy_offer : {p q r z : PoolView} {t u : Table} {bs cs : List SockBufView} {us vs ws ks : List Unfinished}
@@ -204,30 +202,30 @@ pub copy_offer : {p q r z : PoolView} {t u : Table} {bs cs : List SockBufView} {
 copy_offer {p} {q} {r} {z} {t} {u} {bs} {cs} {us} {vs} {ws} {ks} {xs} {ys} {ms} {zs} {c} {d} {e} {chain} {n} fd copy
     sender i is_n m is_copy same_ws same_ms done =
     let s : SocksView = record { pcbs = t; queues = bs } in
-    let x = tested p q chain xs ys s i.owned i.socks i.moves in
-    let k = copy_came q r chain copy ys s x.owned x.socks.ready m in
+    let x = tested i.fit i.moves in
+    let k = copy_came x.fit m in
     let now : (rest : State) → with_net r s ws d rest ≡ with_net p s vs d rest =
-    λ rest. shows_same p r t bs d rest (λ j. k.socks.shows j ∙ x.socks.shows j) same_ws in
+    λ rest. shows_same p r t bs d rest (λ j. k.socks.shows j ∙ x.shows j) same_ws in
     let gone = copy_gone r z chain copy ms zs bs cs
     (subst (λ (l : List ℕ). IsOwned r (chain ∷ copy ∷ (l ++ queued_chains r bs))) (sym same_ms) k.owned)
     done.parts.moves in
     record {
       step = λ rest held b at a.
-          let a1 = i.reserves rest (held ⊕ weight_at p chain) a in
+          let a1 = i.reserves (with_net p s us c rest) (held ⊕ weight_at p chain) refl refl a in
           let a2 = subst (λ (m : State). IsAccounted r m ((held ⊕ weight_at p chain) ⊕ weight_at r copy))
           (sym (now rest)) (copy_accounts copy a1.accounted m) in
           appending_offers held sender (item_at p chain) (socket_with (queues_of p bs) b) (with_net p s us c rest)
           (with_net p s vs d rest) (with_net z (record { pcbs = u; queues = cs }) ks e rest) n is_n a1.has_buffers
           (item_at r copy) (socket_with (queues_of r bs) b) (with_net r s ws d rest)
           (is_copy ∙ ap (λ (v : ChainView). item_of v.entries) x.chain)
-          (λ j. record (socket_with (queues_of p bs) b) { queue = (k.socks.shows b.fd ∙ x.socks.shows b.fd) j })
+          (λ j. record (socket_with (queues_of p bs) b) { queue = (k.socks.shows b.fd ∙ x.shows b.fd) j })
           (now rest)
           (done.step rest (held ⊕ weight_at p chain) b at a2);
-      others = λ j ne. done.others j ne ∙ k.socks.shows j ∙ x.socks.shows j;
+      others = λ j ne. done.others j ne ∙ k.socks.shows j ∙ x.shows j;
       chain = gone.chain ∙ k.chain ∙ x.chain;
       parts = record {
         accounts = λ rest held a.
-            let a1 = i.reserves rest (held ⊕ weight_at p chain) a in
+            let a1 = i.reserves (with_net p s us c rest) (held ⊕ weight_at p chain) refl refl a in
             let a2 : IsAccounted z (with_net z (record { pcbs = u; queues = cs }) ks e rest)
             (held ⊕ weight_at p chain) =
             done.parts.accounts rest (held ⊕ weight_at p chain)
@@ -342,15 +340,15 @@ module _ (v : NetView) (c : ℕ) (fds : List ℕ) (sender : Addr) where
   next_is : (i fd : ℕ) → i < length fds → fd ≡ slice_index_or fds i 0 → drop i fds ≡ fd ∷ drop (suc i) fds
   next_is i fd h is = drop_more fds i 0 h ∙ ap (λ (k : ℕ). k ∷ drop (suc i) fds) (sym is)
 
-  pub offered_one : (i fd : ℕ) (u x : NetView) → IsUnderWay v c fds sender i u → IsOffered u c fd sender x
-      → suc i < length fds → fd ≡ slice_index_or fds i 0 → ((k : ℕ) → bag_times k fds ≤ 1)
-      → IsSome (block_at fd u.socks.pcbs) → IsUnderWay v c fds sender (suc i) x
-  offered_one i fd u x w o more is once is_open =
+  pub offered_one : (i j fd : ℕ) (u x : NetView) → IsUnderWay v c fds sender i u → IsOffered u c fd sender x
+      → suc i < length fds → suc i ≡ j → fd ≡ slice_index_or fds i 0 → ((k : ℕ) → bag_times k fds ≤ 1)
+      → IsSome (block_at fd u.socks.pcbs) → IsUnderWay v c fds sender j x
+  offered_one i j fd u x w o more is_j is once is_open =
       let d : drop i fds ≡ fd ∷ drop (suc i) fds = next_is i fd (omega (arith, more)) is in
       let found = open_block (block_at fd u.socks.pcbs) is_open in
       let to : socket_with (queues_at u) found.0 ≡ socket_named (queues_at v) v.socks.pcbs fd =
       next_socket i fd u w d found.0 found.1 in
-      record {
+      subst (λ (k : ℕ). IsUnderWay v c fds sender k x) is_j (record {
         goes = λ rest held new a later.
             let step = o.step rest held found.0 found.1 (w.parts.accounts rest held a) in
             let offers : Offers held sender (item_at v.pool c) (socket_named (queues_at v) v.socks.pcbs fd)
@@ -366,7 +364,7 @@ module _ (v : NetView) (c : ℕ) (fds : List ℕ) (sender : Addr) where
         untouched = λ k h. o.others k (λ e. apart k d h e) ∙ w.untouched k (omega (arith, h, ap (times_among k) d));
         chain = o.chain ∙ w.chain;
         parts = keeps_trans w.parts o.parts;
-      }
+      })
     where
       apart : (k : ℕ) → drop i fds ≡ fd ∷ drop (suc i) fds → 0 < times_among k (drop (suc i) fds) → k ≡ fd → ⊥
       apart k d h e =

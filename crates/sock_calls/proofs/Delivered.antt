@@ -24,8 +24,8 @@ use Rattle.ledger.specs.Accounts.{entries_weight, weight_at, weight_owned, item_
 use Rattle.ledger.specs.Reserve.{Reserves}
 use Rattle.ledger.proofs.Laws.{accounted_after}
 use Rattle.sockbuf.specs.SockBuf.{SockBufView, datagram_from}
-use Rattle.sock_calls.specs.Sockets.{SocksView, IsSocks, StepsAt, queues_of, queued_chains, with_net, with_sockets}
-use Rattle.sock_calls.specs.Delivery.{net_view, IsAppended}
+use Rattle.sock_calls.specs.Sockets.{SocksFit, SocksView, IsSocks, StepsAt, queues_of, queued_chains, with_net, with_sockets}
+use Rattle.sock_calls.specs.Delivery.{NetView, KeepsParts, net_view, IsAppended}
 use Rattle.sock_calls.proofs.Weights.{queue_weight, socks_weigh}
 use Rattle.sock_calls.proofs.Frames.{Kept, kept}
 
@@ -163,15 +163,15 @@ pub record Freed (p : PoolView) (c : ℕ) (xs : List ℕ) (s : SocksView) (q : P
   pub socks : Kept p q s
   pub moves : Moves p (c ∷ (xs ++ queued_chains p s.queues)) q (xs ++ queued_chains q s.queues)
 
-pub freed : (p q : PoolView) (c : ℕ) (xs : List ℕ) (s : SocksView) → IsOwned p (c ∷ (xs ++ queued_chains p s.queues))
-    → IsSocks p s → q ≡ without p c → Freed p c xs s q
-freed p q c xs s o r e =
+pub freed : {p q : PoolView} {c : ℕ} {xs : List ℕ} {s : SocksView} → SocksFit p s (c ∷ xs) → q ≡ without p c
+    → Freed p c xs s q
+freed {p} {q} {c} {xs} {s} fit e =
     let ys : List ℕ = queued_chains p s.queues in
-    let gone : times_among c (xs ++ ys) ≡ 0 = apart_first p c (xs ++ ys) o in
+    let gone : times_among c (xs ++ ys) ≡ 0 = apart_first p c (xs ++ ys) fit.owned in
     let no_xs : times_among c xs ≡ 0 = omega (arith, gone, times-append c xs ys) in
     let no_ys : times_among c ys ≡ 0 = omega (arith, gone, times-append c xs ys) in
-    let k : Kept p q s = kept p q s (same_without p q c ys no_ys e) r in
-    let m : Moves p (c ∷ []) q [] = moves_without p q c (live_first p c (xs ++ ys) o) e in
+    let k : Kept p q s = kept p q s (same_without p q c ys no_ys e) fit.socks in
+    let m : Moves p (c ∷ []) q [] = moves_without p q c (live_first p c (xs ++ ys) fit.owned) e in
     record {
       same = same_without p q c xs no_xs e;
       socks = k;
@@ -182,28 +182,44 @@ freed p q c xs s o r e =
 -- ---- the pool was tested
 pub record Tested (p : PoolView) (c : ℕ) (xs : List ℕ) (s : SocksView) (q : PoolView) (ys : List ℕ) : Type 0 where
   pub chain : chain_of q c ≡ chain_of p c
-  pub socks : Kept p q s
-  pub owned : IsOwned q (c ∷ (ys ++ queued_chains q s.queues))
+  pub shows : (fd : ℕ) → queues_of q s.queues fd ≡ queues_of p s.queues fd
+  pub fit : SocksFit q s (c ∷ ys)
   pub moves : Moves p (c ∷ (xs ++ queued_chains p s.queues)) q (c ∷ (ys ++ queued_chains q s.queues))
 
-pub tested : (p q : PoolView) (c : ℕ) (xs ys : List ℕ) (s : SocksView)
-    → IsOwned p (c ∷ (xs ++ queued_chains p s.queues)) → IsSocks p s → Moves p xs q ys → Tested p c xs s q ys
-tested p q c xs ys s o r m =
+pub tested : {p q : PoolView} {c : ℕ} {xs ys : List ℕ} {s : SocksView} → SocksFit p s (c ∷ xs) → Moves p xs q ys
+    → Tested p c xs s q ys
+tested {p} {q} {c} {xs} {ys} {s} fit m =
+    let o = fit.owned in
     let zs : List ℕ = queued_chains p s.queues in
     let rest : SameAt p q (c ∷ zs) =
     same_beside (c ∷ zs) m (λ k. omega (arith, o k, times-append k xs zs))
     (λ k h. omega (arith, o k, h, live_at_most p k, times-append k xs zs)) in
-    let k : Kept p q s = kept p q s (record { same = λ k h. rest.same k (omega (arith, h)); mbufs = rest.mbufs }) r in
+    let k : Kept p q s =
+    kept p q s (record { same = λ k h. rest.same k (omega (arith, h)); mbufs = rest.mbufs }) fit.socks in
     let all : Moves p (c ∷ (xs ++ zs)) q (c ∷ (ys ++ queued_chains q s.queues)) =
     subst (λ (l : List ℕ). Moves p (c ∷ (xs ++ zs)) q (c ∷ (ys ++ l))) (sym k.chains)
     (moves_beside (c ∷ (xs ++ zs)) (c ∷ (ys ++ zs)) (c ∷ zs) m
     (λ k. omega (arith, times-append k xs zs)) (λ k. omega (arith, times-append k ys zs))) in
     record {
       chain = chain_same p q (c ∷ zs) c rest (omega (arith, times_same c zs));
-      socks = k;
-      owned = owned_after all o;
+      shows = k.shows;
+      fit = record { socks = k.ready; owned = owned_after all o };
       moves = all;
     }
+
+-- the parts fit after a step that keeps the caller's chain
+pub keeps_fit : {v u : NetView} {c : ℕ} → KeepsParts v (c ∷ []) u (c ∷ []) → SocksFit v.pool v.socks (c ∷ v.waiting)
+    → SocksFit u.pool u.socks (c ∷ u.waiting)
+keeps_fit k fit = record { socks = k.ready; owned = owned_after k.moves fit.owned }
+
+-- the same for an equal table, and equal chains elsewhere
+pub fit_as : {q : PoolView} {t u : Table} {bs : List SockBufView} {c : ℕ} {xs ys : List ℕ}
+    → SocksFit q (record { pcbs = t; queues = bs }) (c ∷ xs) → u ≡ t → ys ≡ xs
+    → SocksFit q (record { pcbs = u; queues = bs }) (c ∷ ys)
+fit_as {q} {t} {u} {bs} {c} fit e f = record {
+  socks = subst (λ (x : Table). IsSocks q (record { pcbs = x; queues = bs })) (sym e) fit.socks;
+  owned = subst (λ (zs : List ℕ). IsOwned q (c ∷ (zs ++ queued_chains q bs))) (sym f) fit.owned;
+}
 
 -- ---- the caller's chain is put into a queue
 pub record Joined (p : PoolView) (c : ℕ) (xs : List ℕ) (bs : List SockBufView) (q : PoolView) (cs : List SockBufView)
@@ -231,8 +247,7 @@ Named fd t = (b : Block) → block_at fd t ≡ Some b → b.fd ≡ fd
 -- if the queue is full, the chain is freed and counted
 pub record IsFull (p : PoolView) (t : Table) (bs : List SockBufView) (us : List Unfinished) (xs : List ℕ) (c : Counters)
     (chain fd : ℕ) (q : PoolView) (vs : List Unfinished) (ys : List ℕ) (d : Counters) : Type 0 where
-  pub socks : IsSocks p (record { pcbs = t; queues = bs })
-  pub owned : IsOwned p (chain ∷ (xs ++ queued_chains p bs))
+  pub fit : SocksFit p (record { pcbs = t; queues = bs }) (chain ∷ xs)
   pub named : Named fd t
   pub full : fits (queues_of p bs fd) (length (string (chain_of p chain))) ≡ false
   pub freed : q ≡ without p chain
@@ -246,7 +261,7 @@ pub full_end : {p q : PoolView} {t : Table} {bs : List SockBufView} {us vs : Lis
     (net_view q (record { pcbs = t; queues = bs }) vs ys d)
 full_end {p} {q} {t} {bs} {us} {vs} {xs} {ys} {c} {d} {chain} {fd} sender f =
     let s : SocksView = record { pcbs = t; queues = bs } in
-    let gone = freed p q chain xs s f.owned f.socks f.freed in
+    let gone = freed f.fit f.freed in
     let now : (rest : State) → with_net q s vs d rest ≡ ends UdpFullSocket (with_net p s us c rest) =
     λ rest. ends_here p q t bs c UdpFullSocket rest gone.socks.shows (f.unfinished gone.same) f.counters in
     record {
@@ -258,7 +273,7 @@ full_end {p} {q} {t} {bs} {us} {vs} {xs} {ys} {c} {d} {chain} {fd} sender f =
       others = λ k ne. gone.socks.shows k;
       parts = record {
         accounts = λ rest held a. subst (λ (x : State). IsAccounted q x held) (sym (now rest))
-            (freed_accounts chain UdpFullSocket a (λ k. omega (arith, f.owned k)) f.freed);
+            (freed_accounts chain UdpFullSocket a (λ k. omega (arith, f.fit.owned k)) f.freed);
         ready = gone.socks.ready;
         pcbs = refl;
         moves = subst (λ (zs : List ℕ). Moves p (chain ∷ (xs ++ queued_chains p bs)) q (zs ++ queued_chains q bs))
@@ -270,13 +285,10 @@ full_end {p} {q} {t} {bs} {us} {vs} {xs} {ys} {c} {d} {chain} {fd} sender f =
 pub record IsTested (p : PoolView) (t : Table) (bs : List SockBufView) (us : List Unfinished) (xs : List ℕ)
     (c : Counters) (chain : ℕ) (n : ℕ) (answer : Bool) (q : PoolView) (vs : List Unfinished) (ys : List ℕ)
     (d : Counters) : Type 0 where
-  pub socks : IsSocks p (record { pcbs = t; queues = bs })
-  pub owned : IsOwned p (chain ∷ (xs ++ queued_chains p bs))
+  pub fit : SocksFit p (record { pcbs = t; queues = bs }) (chain ∷ xs)
   pub moves : Moves p xs q ys
-  pub reserves : (rest : State) (held : Weight) → IsAccounted p
-      (with_net p (record { pcbs = t; queues = bs }) us c rest) held
-      → Reserves (with_net p (record { pcbs = t; queues = bs }) us c rest) held (need_mbufs n) answer
-      (with_net p (record { pcbs = t; queues = bs }) vs d rest) q
+  pub reserves : (s : State) (held : Weight) → s.unfinished ≡ us → s.counters ≡ c → IsAccounted p s held
+      → Reserves s held (need_mbufs n) answer (record s { unfinished = vs; counters = d }) q
 
 -- if the pool lacks an mbuf, the chain is freed and counted
 pub lacking_end : {p q r : PoolView} {t : Table} {bs : List SockBufView} {us vs ws : List Unfinished}
@@ -289,24 +301,24 @@ pub lacking_end : {p q r : PoolView} {t : Table} {bs : List SockBufView} {us vs 
 lacking_end {p} {q} {r} {t} {bs} {us} {vs} {ws} {xs} {ys} {zs} {c} {d} {e} {chain} {fd} sender i named room is_r same_ws
     same_zs is_e =
     let s : SocksView = record { pcbs = t; queues = bs } in
-    let x = tested p q chain xs ys s i.owned i.socks i.moves in
-    let gone = freed q r chain ys s x.owned x.socks.ready is_r in
+    let x = tested i.fit i.moves in
+    let gone = freed x.fit is_r in
     let now : (rest : State) → with_net r s ws e rest ≡ ends NoBufs (with_net p s vs d rest) =
-    λ rest. ends_here p r t bs d NoBufs rest (λ k. gone.socks.shows k ∙ x.socks.shows k) (same_ws gone.same) is_e in
+    λ rest. ends_here p r t bs d NoBufs rest (λ k. gone.socks.shows k ∙ x.shows k) (same_ws gone.same) is_e in
     record {
       step = λ rest held b at a.
           lacking_appends held sender (item_at p chain) (socket_with (queues_of p bs) b) (with_net p s us c rest)
           (with_net p s vs d rest) (with_net r s ws e rest)
           (ap (λ (k : ℕ). fits (queues_of p bs k) (length (string (chain_of p chain)))) (named b at) ∙ room)
-          (i.reserves rest (held ⊕ weight_at p chain) a).has_buffers (now rest);
-      others = λ k ne. gone.socks.shows k ∙ x.socks.shows k;
+          (i.reserves (with_net p s us c rest) (held ⊕ weight_at p chain) refl refl a).has_buffers (now rest);
+      others = λ k ne. gone.socks.shows k ∙ x.shows k;
       parts = record {
         accounts = λ rest held a.
             subst (λ (m : State). IsAccounted r m held) (sym (now rest))
             (freed_accounts chain NoBufs
             (subst (λ (v : ChainView). IsAccounted q (with_net p s vs d rest) (held ⊕ entries_weight v.entries))
-            (sym x.chain) (i.reserves rest (held ⊕ weight_at p chain) a).accounted) (λ k. omega (arith, x.owned k))
-            is_r);
+            (sym x.chain) (i.reserves (with_net p s us c rest) (held ⊕ weight_at p chain) refl refl a).accounted)
+            (λ k. omega (arith, x.fit.owned k)) is_r);
         ready = gone.socks.ready;
         pcbs = refl;
         moves = moves_trans x.moves
@@ -327,19 +339,19 @@ pub fitting_end : {p q r : PoolView} {t : Table} {bs cs : List SockBufView} {us 
 fitting_end {p} {q} {r} {t} {bs} {cs} {us} {vs} {ws} {xs} {ys} {zs} {c} {d} {chain} {fd} sender i named opened room st
     here same_ws same_zs =
     let s : SocksView = record { pcbs = t; queues = bs } in
-    let x = tested p q chain xs ys s i.owned i.socks i.moves in
-    let j = joined q r chain ys bs cs x.owned st.moves in
+    let x = tested i.fit i.moves in
+    let j = joined q r chain ys bs cs x.fit.owned st.moves in
     let ready : IsSocks r (record { pcbs = t; queues = cs }) = record {
       each = st.each;
       owned = st.owned;
-      places = st.len ∙ i.socks.places;
-      apart = i.socks.apart;
+      places = st.len ∙ i.fit.socks.places;
+      apart = i.fit.socks.apart;
       closed = λ k none. st.others k (λ e. false≢true
-          (sym (ap is_some none) ∙ ap (λ (j : ℕ). is_some (block_at j t)) e ∙ opened)) ∙ x.socks.shows k
-          ∙ i.socks.closed k none;
+          (sym (ap is_some none) ∙ ap (λ (j : ℕ). is_some (block_at j t)) e ∙ opened)) ∙ x.shows k
+          ∙ i.fit.socks.closed k none;
     } in
     let came : queues_of r cs fd ≡ queues_of p bs fd ++ datagram_from sender p chain ∷ [] =
-    here ∙ (λ n. x.socks.shows fd n ++ record {
+    here ∙ (λ n. x.shows fd n ++ record {
       sender = sender;
       item = record { bytes = flat_bytes (x.chain n).entries; weight = mbuf ⊕ entries_weight (x.chain n).entries };
     }
@@ -348,28 +360,28 @@ fitting_end {p} {q} {r} {t} {bs} {cs} {us} {vs} {ws} {xs} {ys} {zs} {c} {d} {cha
     ≡ change_socket fd (with_datagram (datagram_from sender p chain)) (with_net p s vs d rest) = λ rest.
     (λ n. machine (record rest { unfinished = same_ws j.same n; counters = d }) (queues_of r cs) t)
     ∙ queue_changed (queues_of p bs) (queues_of r cs) t (record rest { unfinished = vs; counters = d }) fd
-    (λ ds. ds ++ datagram_from sender p chain ∷ []) came (λ k ne. st.others k ne ∙ x.socks.shows k) in
+    (λ ds. ds ++ datagram_from sender p chain ∷ []) came (λ k ne. st.others k ne ∙ x.shows k) in
     record {
       step = λ rest held b at a.
           fitting_appends held sender (item_at p chain) (socket_with (queues_of p bs) b) (with_net p s us c rest)
           (with_net p s vs d rest) (with_net r (record { pcbs = t; queues = cs }) ws d rest)
           (ap (λ (k : ℕ). fits (queues_of p bs k) (length (string (chain_of p chain)))) (named b at) ∙ room)
-          (i.reserves rest (held ⊕ weight_at p chain) a).has_buffers
+          (i.reserves (with_net p s us c rest) (held ⊕ weight_at p chain) refl refl a).has_buffers
           (pushed rest
           ∙ ap (λ (k : ℕ). change_socket k (with_datagram (datagram_from sender p chain)) (with_net p s vs d rest))
           (sym (named b at)));
-      others = λ k ne. st.others k ne ∙ x.socks.shows k;
+      others = λ k ne. st.others k ne ∙ x.shows k;
       parts = record {
         accounts = λ rest held a.
-            let a1 = (i.reserves rest (held ⊕ weight_at p chain) a).accounted in
+            let a1 = (i.reserves (with_net p s us c rest) (held ⊕ weight_at p chain) refl refl a).accounted in
             let a2 = subst (λ (m : State). IsAccounted q m (held ⊕ weight_at p chain))
-            (sym (shows_same p q t bs d rest x.socks.shows refl)) a1 in
+            (sym (shows_same p q t bs d rest x.shows refl)) a1 in
             let a3 = subst (λ (v : ChainView). IsAccounted q (with_net q s vs d rest) (held ⊕ entries_weight v.entries))
             (sym x.chain) a2 in
             subst (λ (us : List Unfinished). IsAccounted r (with_net r (record { pcbs = t; queues = cs }) us d rest)
             held) (sym (same_ws j.same))
-            (moved_accounts t bs cs (record rest { unfinished = vs; counters = d }) (chain ∷ []) [] x.socks.ready ready
-            st.moves (λ k. omega (arith, x.owned k, times-append k ys (queued_chains q bs)))
+            (moved_accounts t bs cs (record rest { unfinished = vs; counters = d }) (chain ∷ []) [] x.fit.socks ready
+            st.moves (λ k. omega (arith, x.fit.owned k, times-append k ys (queued_chains q bs)))
             (one_goes q r chain held) a3);
         ready = ready;
         pcbs = refl;

@@ -1,5 +1,5 @@
 -- A send as the machine has it.
-use Rattle.std.proofs.Common.{◌≡◌, ℕ, ◌+◌, ◌<◌, Bool, true, false, cond, List, [], ◌∷◌, ◌++◌, length, map, take, Option, Some, None, option_map, refl, sym, ap, ◌∙◌, subst, arith, inr}
+use Rattle.std.proofs.Common.{◌≡◌, ℕ, ◌+◌, ◌<◌, Bool, true, false, cond, List, [], ◌∷◌, ◌++◌, length, map, take, Option, Some, None, option_map, refl, sym, ap, ◌∙◌, subst, arith, inl, inr}
 use Rattle.std.specs.Prelude.{◌==◌, ◌⊎◌, if◌then◌else◌, nat_lt, Result, Ok, Err, IfErr}
 use Rattle.std.specs.List.{AllByRecursion as Each}
 use Rattle.std.proofs.lemmas.Bool.{true≢false}
@@ -40,7 +40,7 @@ use Rattle.ledger.specs.Reserve.{are_free}
 use Rattle.ledger.proofs.Laws.{accounted_after, test_is}
 use Rattle.sockbuf.specs.SockBuf.{SockBufView}
 use Rattle.sock_calls.specs.declared.net.Net.{Net}
-use Rattle.sock_calls.specs.Sockets.{SocksView, queues_of, queued_chains}
+use Rattle.sock_calls.specs.Sockets.{SocksView, queues_of, queued_chains, with_sockets}
 use Rattle.sock_calls.specs.Sends.{SendsBy, SendsOnce}
 use Rattle.sock_calls.specs.Outgoing.{SendView, sending, send_state, with_output, weight_of_all, CanSend, IsSent}
 use Rattle.sock_calls.specs.Inside.Putting.{send_config, sent_as, counts_sent, IsPut}
@@ -50,14 +50,6 @@ use Rattle.sock_calls.proofs.Keeping.{keeps_open}
 use Rattle.sock_calls.proofs.Weights.{queue_weight}
 
 -- ---- a call on a descriptor
-pub not_open : (fd : ℕ) (to : Option Addr) (bytes : List ℕ) (t : Table) (f : Queues) (rest : State)
-    → block_at fd t ≡ None
-    → SendsOnce exact_ledger fd to bytes (machine rest f t) (Refused BadDescriptor) [] (machine rest f t)
-not_open fd to bytes t f rest none = record {
-  none = λ _. ((refl, refl), refl);
-  some = λ me e. absurd (none-some me (sym (socket_found rest f t fd ∙ ap (option_map (socket_with f)) none) ∙ e));
-}
-
 pub on_block : (fd : ℕ) (to : Option Addr) (bytes : List ℕ) (t : Table) (f : Queues) (rest : State) (b : Block)
     (reply : Reply) (looped : List Item) (new : State) → block_at fd t ≡ Some b
     → SendsBy exact_ledger fd to bytes (socket_with f b) (machine rest f t) reply looped new
@@ -72,16 +64,17 @@ on_block fd to bytes t f rest b reply looped new at by =
     }
 
 -- ---- sends that change nothing
-pub unchanged : {fd : ℕ} {to : Option Addr} {bytes : List ℕ} {errno : Errno} (v : SendView) → CanSend v
-    → ((rest : State) → rest.config.mtu ≡ v.net.mtu → IsAccounted v.pool (send_state v rest) nothing
-    → SendsOnce exact_ledger fd to bytes (send_state v rest) (Refused errno) [] (send_state v rest))
+unchanged : {fd : ℕ} {to : Option Addr} {bytes : List ℕ} {errno : Errno} {v : SendView} → CanSend v
+    → ((rest : State) → rest.config.mtu ≡ v.net.mtu → IsAccounted v.pool (with_sockets v.pool v.socks rest) nothing
+    → SendsOnce exact_ledger fd to bytes (with_sockets v.pool v.socks rest) (Refused errno) []
+    (with_sockets v.pool v.socks rest))
     → IsSent fd to bytes v (Err errno) v
-unchanged {fd} {to} {bytes} {errno} v can step =
+unchanged {fd} {to} {bytes} {errno} {v} can step =
     let none : train_packets v.pool v.net.looped ≡ [] = none_wait v.pool v.net.looped can.none in
     record {
       step = λ rest e a. subst (λ (l : List Item). SendsOnce exact_ledger fd to bytes (send_state v rest)
           (Refused errno)
-          l (send_state v rest)) (sym none) (step rest e a);
+          l (send_state v rest)) (sym none) (step (with_output v.pool v.net rest) e a);
       accounts = λ rest a. subst (λ (l : List Item). IsAccounted v.pool (send_state v rest) (weight_of_all l))
           (sym none)
           a;
@@ -98,18 +91,28 @@ unchanged {fd} {to} {bytes} {errno} v can step =
           (moves_none v.pool (numbers v.pool v.net.out ++ queued_chains v.pool v.socks.queues));
     }
 
+pub not_open : {fd : ℕ} {to : Option Addr} {bytes : List ℕ} {v : SendView} → CanSend v
+    → block_at fd v.socks.pcbs ≡ None → IsSent fd to bytes v (Err BadDescriptor) v
+not_open {fd} {to} {bytes} {v} can none = unchanged can (λ rest e a.
+    let f : Queues = queues_of v.pool v.socks.queues in
+    record {
+      none = λ _. ((refl, refl), refl);
+      some = λ me e. absurd (none-some me
+          (sym (socket_found rest f v.socks.pcbs fd ∙ ap (option_map (socket_with f)) none) ∙ e));
+    })
+
 -- ---- refused before the buffers
-pub refused_early : {fd mtu : ℕ} {errno : Errno} (to : Option Addr) (bytes : List ℕ) (t : Table) (f : Queues)
-    (rest : State) (b : Block) → block_at fd t ≡ Some b → rest.config.mtu ≡ mtu
-    → ChecksSend t mtu fd to (length bytes) (Err errno)
-    → SendsOnce exact_ledger fd to bytes (machine rest f t) (Refused errno) [] (machine rest f t)
-refused_early {fd} {mtu} {errno} to bytes t f rest b at e checks =
+pub refused_early : {fd : ℕ} {to : Option Addr} {bytes : List ℕ} {errno : Errno} {v : SendView} → CanSend v
+    → (b : Block) → block_at fd v.socks.pcbs ≡ Some b
+    → ChecksSend v.socks.pcbs v.net.mtu fd to (length bytes) (Err errno) → IsSent fd to bytes v (Err errno) v
+refused_early {fd} {to} {bytes} {errno} {v} can b at checks = unchanged can (λ rest e a.
+    let f : Queues = queues_of v.pool v.socks.queues in
     let is = checks rest f b at e in
-    on_block fd to bytes t f rest b (Refused errno) [] (machine rest f t) at
+    on_block fd to bytes v.socks.pcbs f rest b (Refused errno) [] (machine rest f v.socks.pcbs) at
     record {
       none = λ none. absurd (none-some errno (sym none ∙ is));
       some = λ other some. ((ap Refused (same_Some errno other (sym is ∙ some)), refl), refl);
-    }
+    })
 
 -- ---- the test of the pool
 need_same : (t : Table) (rest : State) (f : Queues) (ip n mtu : ℕ) → rest.config.mtu ≡ mtu
@@ -124,13 +127,14 @@ tested p t rest f ip n mtu answer e a is =
     sym (ap (has_enough (machine rest f t) nothing) (need_same t rest f ip n mtu e)
     ∙ test_is p (machine rest f t) nothing (need_to (send_config t mtu) ip n) a ∙ is)
 
-pub lacks_buffers : {p : PoolView} {fd mtu : ℕ} {a : Addr} (to : Option Addr) (bytes : List ℕ) (t : Table) (f : Queues)
-    (rest : State) (b : Block) → block_at fd t ≡ Some b → rest.config.mtu ≡ mtu
-    → IsAccounted p (machine rest f t) nothing → ChecksSend t mtu fd to (length bytes) (Ok a)
-    → are_free p (need_to (send_config t mtu) a.ip (length bytes)).mbufs
-    (need_to (send_config t mtu) a.ip (length bytes)).clusters ≡ false
-    → SendsOnce exact_ledger fd to bytes (machine rest f t) (Refused (NoBufs Pool)) [] (machine rest f t)
-lacks_buffers {p} {fd} {mtu} {a} to bytes t f rest b at e accounted checks few =
+pub lacks_buffers : {fd : ℕ} {to : Option Addr} {bytes : List ℕ} {a : Addr} {v : SendView} → CanSend v → (b : Block)
+    → block_at fd v.socks.pcbs ≡ Some b → ChecksSend v.socks.pcbs v.net.mtu fd to (length bytes) (Ok a)
+    → are_free v.pool (need_to (send_config v.socks.pcbs v.net.mtu) a.ip (length bytes)).mbufs
+    (need_to (send_config v.socks.pcbs v.net.mtu) a.ip (length bytes)).clusters ≡ false
+    → IsSent fd to bytes v (Err (NoBufs Pool)) v
+lacks_buffers {fd} {to} {bytes} {a} {v} can b at checks few = unchanged can (λ rest e accounted.
+    let t : Table = v.socks.pcbs in
+    let f : Queues = queues_of v.pool v.socks.queues in
     let is = checks rest f b at e in
     on_block fd to bytes t f rest b (Refused (NoBufs Pool)) [] (machine rest f t) at
     record {
@@ -138,11 +142,11 @@ lacks_buffers {p} {fd} {mtu} {a} to bytes t f rest b at e accounted checks few =
         false,
         subst (λ (x : Addr). false ≡ has_enough (machine rest f t) nothing
             (need_to (machine rest f t).config x.ip (length bytes))) is.1
-            (tested p t rest f a.ip (length bytes) mtu false e accounted few),
+            (tested v.pool t rest f a.ip (length bytes) v.net.mtu false e accounted few),
         record { yes = λ h. absurd (true≢false (sym h)); no = λ h. ((refl, refl), refl) },
       );
       some = λ other some. absurd (none-some other (sym is.0 ∙ some));
-    }
+    })
 
 -- ---- a send that has its buffers
 pub bag_of_times : (c : ℕ) (cs : List ℕ) → bag_times c cs ≡ times_among c cs
@@ -301,15 +305,20 @@ module _ (p q : PoolView) (t u : Table) (bs : List SockBufView) (n m : Net) (fd 
       })
 
 -- ---- all of it
+
+-- only the output queue refuses then
+queue_only : (v u : SendView) (result : Result ℕ Errno) → IfErr result (λ errno. errno ≡ NoBufs Queue)
+    → IfErr result (λ errno. (errno ≡ NoBufs Queue) ⊎ (u ≡ v))
+queue_only v u (Ok n) h = tt
+queue_only v u (Err errno) h = inl h
+
 pub sent_is : {p q : PoolView} {t u : Table} {bs : List SockBufView} {n m : Net} {fd : ℕ} {to : Option Addr} {a : Addr}
     {bytes : List ℕ} {lost : Bool} (b : Block) (result : Result ℕ Errno)
     → CanSend (sending p (record { pcbs = t; queues = bs }) n) → IsPut fd a bytes p t n lost q u m → AreApart u.blocks
     → block_at fd t ≡ Some b → ChecksSend t n.mtu fd to (length bytes) (Ok a)
     → are_free p (need_to (send_config t n.mtu) a.ip (length bytes)).mbufs
     (need_to (send_config t n.mtu) a.ip (length bytes)).clusters ≡ true
-    → sent_or lost (length bytes) ≡ sent_reply result
-    → IfErr result (λ errno. (errno ≡ NoBufs Queue)
-    ⊎ (sending q (record { pcbs = u; queues = bs }) m ≡ sending p (record { pcbs = t; queues = bs }) n))
+    → sent_or lost (length bytes) ≡ sent_reply result → IfErr result (λ errno. errno ≡ NoBufs Queue)
     → IsSent fd to bytes (sending p (record { pcbs = t; queues = bs }) n) result
     (sending q (record { pcbs = u; queues = bs }) m)
 sent_is {p} {q} {t} {u} {bs} {n} {m} {fd} {to} {a} {bytes} {lost} b result can k apart at checks free reply refused =
@@ -344,7 +353,7 @@ sent_is {p} {q} {t} {u} {bs} {n} {m} {fd} {to} {a} {bytes} {lost} b result can k
             some = λ other some. absurd (none-some other (sym is.0 ∙ some));
           });
       accounts = λ rest accounted. accounts p q t u bs n m fd a bytes lost k s.shows can.out.held rest accounted;
-      refused = refused;
+      refused = queue_only (sending p v n) (sending q (record { pcbs = u; queues = bs }) m) result refused;
       socks = keeps_open q v u s.ready apart k.descriptors;
       out = k.queue;
       looped = k.held;

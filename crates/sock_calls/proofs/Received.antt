@@ -1,6 +1,5 @@
 -- The machine after a receive.
 use Rattle.std.proofs.Common.{◌≡◌, ℕ, cond, List, [], ◌∷◌, length, take, Option, None, Some, is_some, refl, sym, ap, ◌∙◌, subst, arith, inl, inr}
-use Rattle.std.specs.Prelude.{MatchOption}
 use Rattle.std.specs.Option.{ok_or}
 use Rattle.std.proofs.lemmas.Bool.{cases_eq}
 use Rattle.flat_model.specs.Machine.State.{State, Socket, Datagram}
@@ -15,23 +14,19 @@ use Rattle.flat_model.specs.declared.errno.Errno.{Errno}
 use Rattle.pcb_table.specs.Apart.{AreApart}
 use Rattle.pcb_table.specs.Table.{Table, Queues, IsDescriptor, block_at, machine}
 use Rattle.pcb_table.proofs.Laws.{on_open, not_open, same_machine, queue_changed}
+use Rattle.sock_calls.specs.Sockets.{CopiesOldest}
 use Rattle.sock_calls.proofs.Copies.{named_at, descriptor_of}
 
 -- what was removed from a queue, and how it was copied
-abbrev pub TookOf : List Datagram → List Datagram → ℕ → Option (Addr × ℕ) → List ℕ → Type 0
-TookOf was now most found room =
-    MatchOption found ((was ≡ []) × (now ≡ []))
-    (λ got. (d : Datagram) × (was ≡ d ∷ now) × (got.0 ≡ d.sender) × (take got.1 room ≡ take most d.item.bytes))
-
 abbrev pub Took : Queues → Queues → ℕ → ℕ → Option (Addr × ℕ) → List ℕ → Type 0
-Took f g fd most found room = TookOf (f fd) (g fd) most found room
+Took f g fd most found room = CopiesOldest (f fd) (g fd) most found room
 
 -- the same for equal queues
 pub took_as : {was now before after : List Datagram} (most : ℕ) (found : Option (Addr × ℕ)) (room : List ℕ)
-    → before ≡ was → after ≡ now → TookOf was now most found room → TookOf before after most found room
+    → before ≡ was → after ≡ now → CopiesOldest was now most found room → CopiesOldest before after most found room
 took_as {was} {now} {before} {after} most found room e f h =
-    subst (λ (x : List Datagram). TookOf x after most found room) (sym e)
-    (subst (λ (y : List Datagram). TookOf was y most found room) (sym f) h)
+    subst (λ (x : List Datagram). CopiesOldest x after most found room) (sym e)
+    (subst (λ (y : List Datagram). CopiesOldest was y most found room) (sym f) h)
 
 pub receives : (f g : Queues) (t : Table) (fd most : ℕ) (b : Block) (found : Option (Addr × ℕ)) (room : List ℕ)
     → block_at fd t ≡ Some b → b.fd ≡ fd → Took f g fd most found room → ((k : ℕ) → (k ≡ fd → ⊥) → g k ≡ f k)

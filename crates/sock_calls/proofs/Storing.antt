@@ -19,7 +19,7 @@ use Rattle.flat_model.specs.declared.counters.Why.{Why}
 use Rattle.flat_model.specs.declared.counters.Why.TheVariants.{UdpFullSocket}
 use Rattle.flat_model.specs.Sockets.Fits.{fits}
 use Rattle.mbuf_chain.specs.Chain.{ChainView, Entry, PoolView, alone, chain_of, flat_bytes, string, with_chain}
-use Rattle.mbuf_chain.specs.Owners.{IsOwned, Moves}
+use Rattle.mbuf_chain.specs.Owners.{Moves}
 use Rattle.mbuf_chain.specs.Frames.{SameAt}
 use Rattle.mbuf_chain.proofs.Laws.Owners.{times-append, moves_adds, moves_beside, moves_none, moves_trans, owned_after, same_beside, shown_with, then_with}
 use Rattle.chain_ops.specs.Makes.{Makes}
@@ -34,7 +34,7 @@ use Rattle.pcb_table.specs.Table.{IsDescriptor, IsOpen, Queues, Table, block_at,
 use Rattle.sockbuf.specs.SockBuf.{SockBufView}
 use Rattle.udp.specs.Checked.{IsChecked, unmatched}
 use Rattle.udp.specs.Datagrams.{AreMatching}
-use Rattle.sock_calls.specs.Sockets.{SocksView, IsSocks, queues_of, queued_chains, with_net}
+use Rattle.sock_calls.specs.Sockets.{SocksFit, SocksView, IsSocks, queues_of, queued_chains, with_net}
 use Rattle.sock_calls.specs.Delivery.{IsDelivered, net_view, sockets_named}
 use Rattle.ip_out.specs.Headed.{carried_of}
 use Rattle.sock_calls.specs.Whole.{ArrivesWhole, DeliversWhole}
@@ -100,26 +100,26 @@ data_stored {p} {q} {r} {s} {c} {packet} {clusters} end free number made layout 
 
 pub record IsBeside (p : PoolView) (xs : List ℕ) (s : SocksView) (q : PoolView) (d : ℕ) : Type 0 where
   pub same : SameAt p q xs
-  pub socks : Kept p q s
-  pub owned : IsOwned q (d ∷ (xs ++ queued_chains q s.queues))
+  pub shows : (fd : ℕ) → queues_of q s.queues fd ≡ queues_of p s.queues fd
+  pub fit : SocksFit q s (d ∷ xs)
   pub moves : Moves p (xs ++ queued_chains p s.queues) q (d ∷ (xs ++ queued_chains q s.queues))
 
-pub beside_data : (p q : PoolView) (d : ℕ) (xs : List ℕ) (s : SocksView) → IsOwned p (xs ++ queued_chains p s.queues)
-    → IsSocks p s → Moves p [] q (d ∷ []) → IsBeside p xs s q d
-beside_data p q d xs s o r m =
+pub beside_data : {p q : PoolView} {d : ℕ} {xs : List ℕ} {s : SocksView} → SocksFit p s xs → Moves p [] q (d ∷ [])
+    → IsBeside p xs s q d
+beside_data {p} {q} {d} {xs} {s} fit m =
     let ys : List ℕ = queued_chains p s.queues in
-    let all : SameAt p q (xs ++ ys) = same_beside (xs ++ ys) m o (λ k h. refl) in
+    let all : SameAt p q (xs ++ ys) = same_beside (xs ++ ys) m fit.owned (λ k h. refl) in
     let k : Kept p q s = kept p q s (record {
       same = λ j h. all.same j (omega (arith, h, times-append j xs ys));
       mbufs = all.mbufs;
-    }) r in
+    }) fit.socks in
     let mv : Moves p (xs ++ ys) q (d ∷ (xs ++ queued_chains q s.queues)) =
     subst (λ (l : List ℕ). Moves p (xs ++ ys) q (d ∷ (xs ++ l))) (sym k.chains)
     (moves_beside (xs ++ ys) (d ∷ (xs ++ ys)) (xs ++ ys) m (λ k. omega arith) (λ k. omega arith)) in
     record {
       same = record { same = λ j h. all.same j (omega (arith, h, times-append j xs ys)); mbufs = all.mbufs };
-      socks = k;
-      owned = owned_after mv o;
+      shows = k.shows;
+      fit = record { socks = k.ready; owned = owned_after mv fit.owned };
       moves = mv;
     }
 
@@ -142,7 +142,7 @@ taken {p} {s} {clusters} packet acc free number = record {
 
 pub delivers_whole : {p q r : PoolView} {t u : Table} {bs cs : List SockBufView} {us vs ws : List Unfinished}
     {xs ys zs : List ℕ} {c e : Counters} {d end : ℕ} {fds packet : List ℕ} {from to : Addr}
-    → IsSocks p (record { pcbs = t; queues = bs }) → IsOwned p (xs ++ queued_chains p bs)
+    → SocksFit p (record { pcbs = t; queues = bs }) xs
     → IsChecked packet end from to → AreMatching t to.ip (packet_key to.ip to.port from) fds → 0 < length fds
     → IsDataStored p packet end q d → vs ≡ us → ys ≡ xs
     → IsDelivered (net_view q (record { pcbs = t; queues = bs }) vs ys c) d fds from
@@ -150,12 +150,12 @@ pub delivers_whole : {p q r : PoolView} {t u : Table} {bs cs : List SockBufView}
     → DeliversWhole (net_view p (record { pcbs = t; queues = bs }) us xs c) packet
     (net_view r (record { pcbs = u; queues = cs }) ws zs e)
 delivers_whole {p} {q} {r} {t} {u} {bs} {cs} {us} {vs} {ws} {xs} {ys} {zs} {c} {e} {d} {end} {fds} {packet} {from} {to}
-    socks owned checked matching some stored same_vs same_ys done =
+    fit checked matching some stored same_vs same_ys done =
     let s : SocksView = record { pcbs = t; queues = bs } in
-    let x = beside_data p q d xs s owned socks stored.moves in
+    let x = beside_data fit stored.moves in
     let item : Item = data_of packet end stored.clusters in
     let now : (rest : State) → with_net q s vs c rest ≡ with_net p s us c rest =
-    λ rest. shows_same p q t bs c rest x.socks.shows same_vs in
+    λ rest. shows_same p q t bs c rest x.shows same_vs in
     let accounts : (rest : State) (held : Weight) → IsAccounted p (with_net p s us c rest) held
     → IsAccounted q (with_net q s vs c rest) (held ⊕ weight_at q d) = λ rest held a.
     subst (λ (m : State). IsAccounted q m (held ⊕ weight_at q d)) (sym (now rest)) (copy_accounts d a stored.moves) in
@@ -204,7 +204,7 @@ delivers_whole {p} {q} {r} {t} {u} {bs} {cs} {us} {vs} {ws} {xs} {ys} {zs} {c} {
 -- the lookup leaves the table the same
 pub delivers_to : {p q r : PoolView} {t t' u : Table} {bs cs : List SockBufView} {us vs ws : List Unfinished}
     {xs ys zs : List ℕ} {c e : Counters} {d end : ℕ} {fds to_all packet : List ℕ} {from to : Addr}
-    → IsSocks p (record { pcbs = t; queues = bs }) → IsOwned p (xs ++ queued_chains p bs)
+    → SocksFit p (record { pcbs = t; queues = bs }) xs
     → IsChecked packet end from to → AreMatching t to.ip (packet_key to.ip to.port from) fds → 0 < length fds
     → IsDataStored p packet end q d → vs ≡ us → ys ≡ xs → t' ≡ t → to_all ≡ fds
     → IsDelivered (net_view q (record { pcbs = t'; queues = bs }) vs ys c) d to_all from
@@ -212,9 +212,9 @@ pub delivers_to : {p q r : PoolView} {t t' u : Table} {bs cs : List SockBufView}
     → DeliversWhole (net_view p (record { pcbs = t; queues = bs }) us xs c) packet
     (net_view r (record { pcbs = u; queues = cs }) ws zs e)
 delivers_to {p} {q} {r} {t} {t'} {u} {bs} {cs} {us} {vs} {ws} {xs} {ys} {zs} {c} {e} {d} {end} {fds} {to_all} {packet}
-    {from} {to} socks owned checked matching some stored same_vs same_ys same_t same_to done =
+    {from} {to} fit checked matching some stored same_vs same_ys same_t same_to done =
     let then = net_view r (record { pcbs = u; queues = cs }) ws zs e in
-    delivers_whole socks owned checked matching some stored same_vs same_ys
+    delivers_whole fit checked matching some stored same_vs same_ys
     (subst (λ (l : List ℕ). IsDelivered (net_view q (record { pcbs = t; queues = bs }) vs ys c) d l from then) same_to
     (subst (λ (x : Table). IsDelivered (net_view q
     (record { pcbs = x; queues = bs }) vs ys c) d to_all from then) same_t
@@ -228,19 +228,21 @@ none_found f [] e = refl
 none_found f (b ∷ found) e = absurd (omega (arith, e))
 
 -- nothing is stored, and the packet is dropped for this cause
-ends_whole : {p : PoolView} {t : Table} {bs : List SockBufView} {us : List Unfinished} {xs : List ℕ} {c e : Counters}
+ends_whole : {p : PoolView} {t t' : Table} {bs : List SockBufView} {us : List Unfinished} {xs : List ℕ} {c e : Counters}
     {end : ℕ} {packet : List ℕ} {from to : Addr} (why : Why) → IsSocks p (record { pcbs = t; queues = bs })
-    → IsChecked packet end from to → Has p (wire (length packet)) → e ≡ counted why c
+    → IsChecked packet end from to → Has p (wire (length packet)) → t' ≡ t → e ≡ counted why c
     → ((rest : State) (w : Weight) → (let old : State = with_net p (record { pcbs = t; queues = bs }) us c rest in
     GoesTo exact_ledger nothing from (record { bytes = drop 28 (take end packet); weight = w }) to.ip
     (matching_sockets old to.ip (packet_key to.ip to.port from)) old (ends why old)))
     → DeliversWhole (net_view p (record { pcbs = t; queues = bs }) us xs c) packet
-    (net_view p (record { pcbs = t; queues = bs }) us xs e)
-ends_whole {p} {t} {bs} {us} {xs} {c} {e} {end} {packet} {from} {to} why socks checked has is_e goes =
+    (net_view p (record { pcbs = t'; queues = bs }) us xs e)
+ends_whole {p} {t} {t'} {bs} {us} {xs} {c} {e} {end} {packet} {from} {to} why socks checked has same_t is_e goes =
     let s : SocksView = record { pcbs = t; queues = bs } in
     let now : (rest : State) → with_net p s us e rest ≡ ends why (with_net p s us c rest) =
     λ rest i. with_net p s us (is_e i) rest in
-    record {
+    subst (λ (u : Table). DeliversWhole (net_view p s us xs c) packet
+    (net_view p (record { pcbs = u; queues = bs }) us xs e)) (sym same_t)
+    (record {
       step = λ rest a.
           let old : State = with_net p s us c rest in
           let free = some_free p old (need_of (wire (length packet))).clusters a has.1 in
@@ -257,18 +259,18 @@ ends_whole {p} {t} {bs} {us} {xs} {c} {e} {end} {packet} {from} {to} why socks c
         pcbs = refl;
         moves = moves_none p (xs ++ queued_chains p bs);
       };
-    }
+    })
 
-pub unmatched_ends : {p : PoolView} {t : Table} {bs : List SockBufView} {us : List Unfinished} {xs fds : List ℕ}
+pub unmatched_ends : {p : PoolView} {t t' : Table} {bs : List SockBufView} {us : List Unfinished} {xs fds : List ℕ}
     {c e : Counters} {end : ℕ} {packet : List ℕ} {from to : Addr} (why : Why)
     → IsSocks p (record { pcbs = t; queues = bs }) → IsChecked packet end from to
     → AreMatching t to.ip (packet_key to.ip to.port from) fds → length fds ≡ 0 → Has p (wire (length packet))
-    → why ≡ unmatched t to.ip → e ≡ counted why c
+    → why ≡ unmatched t to.ip → t' ≡ t → e ≡ counted why c
     → DeliversWhole (net_view p (record { pcbs = t; queues = bs }) us xs c) packet
-    (net_view p (record { pcbs = t; queues = bs }) us xs e)
-unmatched_ends {p} {t} {bs} {us} {xs} {fds} {c} {e} {end} {packet} {from} {to} why socks checked matching none has is
-    is_e =
-    ends_whole why socks checked has is_e (λ rest w.
+    (net_view p (record { pcbs = t'; queues = bs }) us xs e)
+unmatched_ends {p} {t} {t'} {bs} {us} {xs} {fds} {c} {e} {end} {packet} {from} {to} why socks checked matching none has
+    is same_t is_e =
+    ends_whole why socks checked has same_t is_e (λ rest w.
     let old : State = with_net p (record { pcbs = t; queues = bs }) us c rest in
     let item : Item = record { bytes = drop 28 (take end packet); weight = w } in
     let nobody : matching_sockets old to.ip (packet_key to.ip to.port from) ≡ [] =
@@ -299,16 +301,16 @@ lone_descriptor {p} {t} {bs} {fds} {destination} {fd} {q} socks matching one =
     descriptor_of t fd socks.apart (recursion_from_All (λ (k : ℕ). IsOpen k t) (fd ∷ [])
     (subst (All (λ (k : ℕ). IsOpen k t)) one (all_open t destination q fds matching))).0
 
-pub full_ends : {p : PoolView} {t : Table} {bs : List SockBufView} {us : List Unfinished} {xs fds : List ℕ}
+pub full_ends : {p : PoolView} {t t' : Table} {bs : List SockBufView} {us : List Unfinished} {xs fds : List ℕ}
     {c e : Counters} {end fd : ℕ} {packet : List ℕ} {from to : Addr} → IsSocks p (record { pcbs = t; queues = bs })
     → IsChecked packet end from to → AreMatching t to.ip (packet_key to.ip to.port from) fds → fds ≡ fd ∷ []
     → Has p (wire (length packet)) → fits (queues_of p bs fd) (length (drop 28 (take end packet))) ≡ false
-    → e ≡ counted UdpFullSocket c
+    → t' ≡ t → e ≡ counted UdpFullSocket c
     → DeliversWhole (net_view p (record { pcbs = t; queues = bs }) us xs c) packet
-    (net_view p (record { pcbs = t; queues = bs }) us xs e)
-full_ends {p} {t} {bs} {us} {xs} {fds} {c} {e} {end} {fd} {packet} {from} {to} socks checked matching one has over
-    is_e =
-    ends_whole UdpFullSocket socks checked has is_e (λ rest w.
+    (net_view p (record { pcbs = t'; queues = bs }) us xs e)
+full_ends {p} {t} {t'} {bs} {us} {xs} {fds} {c} {e} {end} {fd} {packet} {from} {to} socks checked matching one has over
+    same_t is_e =
+    ends_whole UdpFullSocket socks checked has same_t is_e (λ rest w.
     let old : State = with_net p (record { pcbs = t; queues = bs }) us c rest in
     let item : Item = record { bytes = drop 28 (take end packet); weight = w } in
     let f : Queues = queues_of p bs in

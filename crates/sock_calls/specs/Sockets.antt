@@ -1,10 +1,11 @@
 -- Sockets: control blocks, and a receive queue for each descriptor (volume 2, chapters 15, 16 and 22).
-use Rattle.std.specs.Prelude.{◌≡◌, ℕ, ◌+◌, List, [], ◌∷◌, ◌++◌, length, slice_index_or, None}
+use Rattle.std.specs.Prelude.{◌≡◌, ℕ, ◌+◌, List, [], ◌∷◌, ◌++◌, length, slice_index_or, take, Option, None, MatchOption}
 use Rattle.std.specs.List.{AllByRecursion}
 use Rattle.params.specs.declared.TheConstants.{FIRST_DESCRIPTOR, MAX_SOCKETS}
-use Rattle.flat_model.specs.Machine.State.{State, Unfinished}
+use Rattle.flat_model.specs.Machine.State.{State, Datagram, Unfinished}
 use Rattle.flat_model.specs.Machine.Event.{Event, Reply}
 use Rattle.flat_model.specs.Machine.Step.{Step}
+use Rattle.flat_model.specs.declared.address.Addr.{Addr}
 use Rattle.flat_model.specs.declared.counters.Counters.{Counters}
 use Rattle.mbuf_chain.specs.Chain.{PoolView}
 use Rattle.mbuf_chain.specs.Owners.{IsOwned, Moves}
@@ -42,6 +43,11 @@ pub record IsSocks (p : PoolView) (v : SocksView) : Type 0 where
   pub apart : AreApart v.pcbs.blocks
   pub closed : (fd : ℕ) → block_at fd v.pcbs ≡ None → queues_of p v.queues fd ≡ []
 
+-- The sockets fit the pool, and each chain has one owner: the queues have theirs, and these are elsewhere.
+pub record SocksFit (p : PoolView) (v : SocksView) (elsewhere : List ℕ) : Type 0 where
+  pub socks : IsSocks p v
+  pub owned : IsOwned p (elsewhere ++ queued_chains p v.queues)
+
 -- the machine with these sockets, and otherwise `rest`
 abbrev pub with_sockets : PoolView → SocksView → State → State
 with_sockets p v rest = machine rest (queues_of p v.queues) v.pcbs
@@ -72,6 +78,12 @@ pub record StepsAt (p : PoolView) (ins : List ℕ) (bs : List SockBufView) (fd :
 -- the same without added chains, and the removed ones are freed
 abbrev pub TakesAt : PoolView → List SockBufView → ℕ → PoolView → List SockBufView → Type 0
 TakesAt p bs fd q cs = StepsAt p [] bs fd q [] cs
+
+-- The oldest datagram of `was` was removed, `now` are left, and at most n of its bytes are at the start of the buffer.
+abbrev pub CopiesOldest : List Datagram → List Datagram → ℕ → Option (Addr × ℕ) → List ℕ → Type 0
+CopiesOldest was now n found buffer =
+    MatchOption found ((was ≡ []) × (now ≡ []))
+    (λ got. (d : Datagram) × (was ≡ d ∷ now) × (got.0 ≡ d.sender) × (take got.1 buffer ≡ take n d.item.bytes))
 
 -- all queues are empty
 abbrev pub AreEmpty : List SockBufView → Type 0

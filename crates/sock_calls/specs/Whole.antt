@@ -2,7 +2,7 @@
 -- dropped (`ipintr`, `udp_input` and `sbappendaddr` of volume 2, chapters 8, 23 and 16; stating it by what a pool shows
 -- is this project's own).
 use Rattle.std.specs.Prelude.{◌≡◌, ℕ, ◌+◌, ◌≤◌, Bool, true, false, if◌then◌else◌, List, [], ◌∷◌, length, Result, Ok, Err}
-use Rattle.params.specs.declared.TheConstants.{MCLBYTES, MHLEN, MINCLSIZE}
+use Rattle.params.specs.declared.TheConstants.{IP_MAX_PACKET, MCLBYTES, MHLEN, MINCLSIZE}
 use Rattle.flat_model.specs.Amounts.Layout.{Room as LayoutRoom, Plain, Cluster, entries_on, need_of, weight_of, wire}
 use Rattle.flat_model.specs.Amounts.Weight.{Item, Weight, nothing}
 use Rattle.flat_model.specs.Packets.Header.{head_of}
@@ -33,6 +33,11 @@ pub record HasOne (p : PoolView) (n : ℕ) (is_large : Bool) : Type 0 where
   pub clusters : (if is_large then 1 else 0) ≤ free_clusters p
   pub fits : n ≤ (if is_large then MCLBYTES else MHLEN)
   pub begins : (if is_large then MINCLSIZE else 0) ≤ n
+
+-- A packet of n bytes isn't too long, and its buffers are free.
+pub record HasWire (p : PoolView) (n : ℕ) : Type 0 where
+  pub most : n ≤ IP_MAX_PACKET
+  pub free : Has p (wire n)
 
 -- The free space in the pool for a packet of n bytes. `InMbuf` and `InCluster` leave a second mbuf for the sender's
 -- address; `InMore` is any packet whose buffers are free.

@@ -8,7 +8,7 @@ ghost use Rattle.chain_ops.specs.Makes.{HasMbufs};
 ghost use Rattle.pcb_table.specs.Table.{IsDescriptor, IsOpen};
 ghost use Rattle.ledger.specs.Accounts.{item_at};
 ghost use Rattle.sockbuf.specs.SockBuf.{IsSockBuf, datagram_from};
-ghost use Rattle.sock_calls.specs.Sockets.{IsSocks, StepsAt, from_three, queue_at, queues_of, queued_chains};
+ghost use Rattle.sock_calls.specs.Sockets.{SocksFit, StepsAt, from_three, queue_at, queues_of, queued_chains};
 ghost use Rattle.sock_calls.specs.Delivery.{net_view, IsAppended, IsOffered, IsDelivered};
 ghost use Rattle.sock_calls.specs.Inside.Parts.{socks_of};
 
@@ -82,11 +82,9 @@ impl Parts {
         fd: u32,
         datagram: Datagram,
     )
-        requires socks { IsSocks pool.old (socks_of self.old) }
         requires opened { IsOpen fd self.old.pcbs }
+        requires fit { SocksFit pool.old (socks_of self.old) (datagram.chain ∷ R.owned pool.old waiting.old) }
         requires waits { R.is_ready pool.old waiting.old }
-        requires owned { IsOwned pool.old (datagram.chain
-            ∷ (R.owned pool.old waiting.old ++ queued_chains pool.old (from_three self.old.queues))) }
         ensures appended { IsAppended
             (net_view pool.old (socks_of self.old) (R.unfinished pool.old waiting.old)
             (R.owned pool.old waiting.old) counters.old)
@@ -122,11 +120,9 @@ impl Parts {
         fd: u32,
         datagram: &Datagram,
     )
-        requires socks { IsSocks pool.old (socks_of self.old) }
         requires opened { IsOpen fd self.old.pcbs }
+        requires fit { SocksFit pool.old (socks_of self.old) (datagram.now.chain ∷ R.owned pool.old waiting.old) }
         requires waits { R.is_ready pool.old waiting.old }
-        requires owned { IsOwned pool.old (datagram.now.chain
-            ∷ (R.owned pool.old waiting.old ++ queued_chains pool.old (from_three self.old.queues))) }
         ensures offered { IsOffered
             (net_view pool.old (socks_of self.old) (R.unfinished pool.old waiting.old)
             (R.owned pool.old waiting.old) counters.old)
@@ -160,13 +156,11 @@ impl Parts {
         fds: &[u32],
         datagram: Datagram,
     )
-        requires socks { IsSocks pool.old (socks_of self.old) }
         requires some { 0 < length fds.now }
         requires opened { All (λ fd. IsOpen fd self.old.pcbs) fds.now }
         requires distinct { (fd : ℕ) → times fd fds.now ≤ 1 }
+        requires fit { SocksFit pool.old (socks_of self.old) (datagram.chain ∷ R.owned pool.old waiting.old) }
         requires waits { R.is_ready pool.old waiting.old }
-        requires owned { IsOwned pool.old (datagram.chain
-            ∷ (R.owned pool.old waiting.old ++ queued_chains pool.old (from_three self.old.queues))) }
         ensures delivered { IsDelivered
             (net_view pool.old (socks_of self.old) (R.unfinished pool.old waiting.old)
             (R.owned pool.old waiting.old) counters.old)

@@ -1,11 +1,10 @@
 //! Receiving: copies the oldest datagram of a queue out.
-ghost use Rattle.std.specs.Prelude.{◌≡◌, ◌<◌, ◌≤◌, ◌∷◌, [], drop, length, take, is_some, if◌then◌else◌, IfNone, IfSome, MatchOption, ℕ};
-ghost use Rattle.flat_model.specs.Machine.State.{Datagram};
+ghost use Rattle.std.specs.Prelude.{◌≡◌, ◌<◌, ◌≤◌, [], drop, length, is_some, if◌then◌else◌, IfNone, IfSome, MatchOption, ℕ};
 ghost use Rattle.flat_model.specs.declared.errno.Errno.TheVariants.{BadDescriptor, WouldBlock};
 ghost use Rattle.mbuf_chain.specs.Owners.{IsOwned, Moves};
 ghost use Rattle.pcb_table.specs.Table.{block_at};
 ghost use Rattle.sockbuf.specs.SockBuf.{IsSockBuf, chains_of, datagrams};
-ghost use Rattle.sock_calls.specs.Sockets.{TakesAt, queue_at, queues_of, queued_chains};
+ghost use Rattle.sock_calls.specs.Sockets.{CopiesOldest, TakesAt, queue_at, queues_of, queued_chains};
 
 use crate::queues::ReceiveQueues;
 use chain_ops::m_copydata;
@@ -19,9 +18,8 @@ use sockbuf::SockBuf;
 /// Returns the sender and the number of bytes copied; `None` if the queue is empty.
 fn take_oldest(pool: &mut Pool, queue: &mut SockBuf, buffer: &mut [u8]) -> Option<(Addr, usize)>
     requires ready { IsSockBuf pool.old queue.old }
-    ensures taken { MatchOption result ((datagrams pool.old queue.old ≡ []) × (datagrams pool.new queue.new ≡ []))
-        (λ found. (d : Datagram) × (datagrams pool.old queue.old ≡ d ∷ datagrams pool.new queue.new)
-        × (found.0 ≡ d.sender) × (take found.1 buffer.new ≡ take (length buffer.old) d.item.bytes)) }
+    ensures taken { CopiesOldest (datagrams pool.old queue.old) (datagrams pool.new queue.new) (length buffer.old)
+        result buffer.new }
     ensures within { MatchOption result (Unit {0}) (λ found. found.1 ≤ length buffer.new) }
     ensures same { IfNone result (buffer.new ≡ buffer.old) }
     ensures rest { IfSome result (λ found. drop found.1 buffer.new ≡ drop found.1 buffer.old) }
@@ -58,10 +56,8 @@ impl ReceiveQueues {
         requires owned { IsOwned pool.old (queued_chains pool.old self.old) }
         requires place { place < MAX_SOCKETS }
         ensures takes { TakesAt pool.old self.old place pool.new self.new }
-        ensures taken { MatchOption result
-            ((queues_of pool.old self.old place ≡ []) × (queues_of pool.new self.new place ≡ []))
-            (λ found. (d : Datagram) × (queues_of pool.old self.old place ≡ d ∷ queues_of pool.new self.new place)
-            × (found.0 ≡ d.sender) × (take found.1 buffer.new ≡ take (length buffer.old) d.item.bytes)) }
+        ensures taken { CopiesOldest (queues_of pool.old self.old place) (queues_of pool.new self.new place)
+            (length buffer.old) result buffer.new }
         ensures within { MatchOption result (Unit {0}) (λ found. found.1 ≤ length buffer.new) }
         ensures same { IfNone result (buffer.new ≡ buffer.old) }
         ensures rest { IfSome result (λ found. drop found.1 buffer.new ≡ drop found.1 buffer.old) }

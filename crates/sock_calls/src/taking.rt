@@ -1,18 +1,16 @@
 //! A datagram that arrives, from the lookup to the queue of a socket.
-ghost use Rattle.std.specs.Prelude.{◌≡◌, ◌+◌, ◌<◌, ◌≤◌, [], ◌∷◌, ◌++◌, length, true, false, if◌then◌else◌, ℕ};
+ghost use Rattle.std.specs.Prelude.{◌≡◌, ◌+◌, ◌<◌, ◌≤◌, [], ◌∷◌, length, true, false, if◌then◌else◌, ℕ};
 ghost use Rattle.params.specs.declared.TheConstants.{MLEN};
-ghost use Rattle.flat_model.specs.Amounts.Layout.{wire};
 ghost use Rattle.mbuf_chain.specs.Chain.{chain_of, free_clusters, held_mbufs, string};
 ghost use Rattle.mbuf_chain.specs.Owners.{IsOwned, Moves};
-ghost use Rattle.chain_ops.specs.Stored.{Has};
 ghost use Rattle.pcb_table.specs.Table.{IsDescriptor};
 ghost use Rattle.sockbuf.specs.SockBuf.{IsSockBuf};
 ghost use Rattle.udp.specs.Checked.{is_to_all};
-ghost use Rattle.sock_calls.specs.Sockets.{IsSocks, queue_at, queued_chains, from_three};
+ghost use Rattle.sock_calls.specs.Sockets.{IsSocks, SocksFit, queue_at, queued_chains, from_three};
 ghost use Rattle.sock_calls.specs.Delivery.{net_view, IsInput};
 ghost use Rattle.sock_calls.specs.Inside.Storing.{IsDataStored, StoresAtEnd, two_entries};
 ghost use Rattle.sock_calls.specs.Inside.Parts.{socks_of};
-ghost use Rattle.sock_calls.specs.Whole.{DeliversWhole, HasOne, TakesWhole};
+ghost use Rattle.sock_calls.specs.Whole.{DeliversWhole, HasOne, HasWire, TakesWhole};
 
 use crate::delivery::Datagram;
 use crate::one_packet::MOST_IN_MBUF;
@@ -58,8 +56,7 @@ fn store_in_two(pool: &mut Pool, bytes: &[u8]) -> Chain
 /// Copies the data of a packet of at most 65,535 bytes into a new chain, laid out as if the whole packet had been
 /// stored and its headers cut off. The buffers for the packet must be free.
 fn store_data(pool: &mut Pool, packet: &Checked<'_>) -> Chain
-    requires most { length packet.now.packet.now ≤ IP_MAX_PACKET }
-    requires free { Has pool.old (wire (length packet.now.packet.now)) }
+    requires wire { HasWire pool.old (length packet.now.packet.now) }
     ensures { IsDataStored pool.old packet.now.packet.now packet.now.end pool.new result }
 {
     if packet.end > MHLEN && packet.packet.len() < MINCLSIZE as usize {
@@ -120,12 +117,9 @@ impl Parts {
         matching: &mut ArrayVec<u32, SOCKETS>,
         packet: &Checked<'_>,
     )
-        requires socks { IsSocks pool.old (socks_of self.old) }
+        requires fit { SocksFit pool.old (socks_of self.old) (R.owned pool.old waiting.old) }
         requires waits { R.is_ready pool.old waiting.old }
-        requires owned { IsOwned pool.old
-            (R.owned pool.old waiting.old ++ queued_chains pool.old (from_three self.old.queues)) }
-        requires most { length packet.now.packet.now ≤ IP_MAX_PACKET }
-        requires free { Has pool.old (wire (length packet.now.packet.now)) }
+        requires wire { HasWire pool.old (length packet.now.packet.now) }
         ensures delivered { DeliversWhole
             (net_view pool.old (socks_of self.old) (R.unfinished pool.old waiting.old)
             (R.owned pool.old waiting.old) counters.old)
@@ -205,11 +199,9 @@ impl Socks {
         counters: &mut Counters,
         packet: &Checked<'_>,
     )
-        requires ready { IsSocks pool.old self.old }
+        requires fit { SocksFit pool.old self.old (R.owned pool.old waiting.old) }
         requires waits { R.is_ready pool.old waiting.old }
-        requires owned { IsOwned pool.old (R.owned pool.old waiting.old ++ queued_chains pool.old self.old.queues) }
-        requires most { length packet.now.packet.now ≤ IP_MAX_PACKET }
-        requires free { Has pool.old (wire (length packet.now.packet.now)) }
+        requires wire { HasWire pool.old (length packet.now.packet.now) }
         ensures delivered { DeliversWhole
             (net_view pool.old self.old (R.unfinished pool.old waiting.old) (R.owned pool.old waiting.old) counters.old)
             packet.now.packet.now
@@ -233,10 +225,8 @@ impl Socks {
         chain: Chain,
         head: IpHead,
     )
-        requires ready { IsSocks pool.old self.old }
+        requires fit { SocksFit pool.old self.old (chain ∷ R.owned pool.old waiting.old) }
         requires waits { R.is_ready pool.old waiting.old }
-        requires owned { IsOwned pool.old
-            (chain ∷ (R.owned pool.old waiting.old ++ queued_chains pool.old self.old.queues)) }
         requires most { length (string (chain_of pool.old chain)) ≤ IP_MAX_PACKET }
         ensures input { IsInput
             (net_view pool.old self.old (R.unfinished pool.old waiting.old) (R.owned pool.old waiting.old) counters.old)

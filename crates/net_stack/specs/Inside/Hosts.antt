@@ -1,16 +1,15 @@
 -- The parts of a stack that an arrival and a send use (this project's own).
-use Rattle.std.specs.Prelude.{◌≡◌, ℕ, ◌≤◌, Bool, List, [], ◌++◌, length, Result, Ok, Err}
-use Rattle.params.specs.declared.TheConstants.{IP_MAX_PACKET}
-use Rattle.flat_model.specs.Amounts.Layout.{Need, wire}
+use Rattle.std.specs.Prelude.{◌≡◌, ℕ, Bool, List, [], ◌++◌, length, Result, Ok, Err}
+use Rattle.flat_model.specs.Amounts.Layout.{Need}
 use Rattle.flat_model.specs.declared.counters.Why.{Why}
 use Rattle.mbuf_chain.specs.Owners.{IsOwned}
 use Rattle.mbuf_chain.specs.Train.{TrainView}
-use Rattle.chain_ops.specs.Stored.{Has}
 use Rattle.ip_out.specs.declared.head.IpHead.{IpHead}
 use Rattle.ip_reass.specs.Table.{IsReady, held_all, unfinished}
 use Rattle.sock_calls.specs.declared.net.Net.{Net}
 use Rattle.sock_calls.specs.Sockets.{IsSocks}
 use Rattle.sock_calls.specs.Delivery.{NetView, chains_at}
+use Rattle.sock_calls.specs.Whole.{HasWire}
 use Rattle.sock_calls.specs.Outgoing.{CanSend, SendView}
 use Rattle.net_stack.specs.declared.host.Host.{Host}
 use Rattle.net_stack.specs.Inside.Arrivals.{EndsFor, HasCome, HaveArrived, IsArrived, IsAsked, IsFragmentTaken}
@@ -50,8 +49,7 @@ pub record PartsFit (h : Host) (hand : List ℕ) : Type 0 where
 -- the parts fit, and the buffers for a packet's bytes are free
 pub record CanStore (h : Host) (packet : List ℕ) : Type 0 where
   pub fit : PartsFit h []
-  pub most : length packet ≤ IP_MAX_PACKET
-  pub free : Has h.pool (wire (length packet))
+  pub wire : HasWire h.pool (length packet)
 
 -- an arrival doesn't change the output, and only counts
 abbrev pub KeepsOutput : Net → Net → Type 0

@@ -15,7 +15,7 @@ pub store_in_two-requires-clause-free : goal.store_in_two-requires-clause-free
 store_in_two-requires-clause-free c =
     omega (
       arith,
-      c.requires.free.0,
+      c.requires.wire.free.0,
       ap (λ (rooms : List Room). length rooms)
           (two_plain _ (many (goal.at.store_in_two-requires-clause-free c).After-data) c.if-packet.true),
     )

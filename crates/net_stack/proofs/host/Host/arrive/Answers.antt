@@ -63,20 +63,16 @@ off c is =
     changed c.args.chain (without_first 20 (chain_of c.trim_back.new.pool c.args.chain).entries)
     is.cut.beside.owned is.cut.beside.reass.table is.cut.beside.socks.ready c.trim_front.ensures
 
-pub input-requires-clause-ready : goal.input-requires-clause-ready
-input-requires-clause-ready c =
-    let at = goal.at.input-requires-clause-ready c in
-    (off at.After-trim_front (cut at.After-trim_back)).beside.socks.ready
+pub input-requires-clause-fit : goal.input-requires-clause-fit
+input-requires-clause-fit c =
+    let at = goal.at.input-requires-clause-fit c in
+    let x = off at.After-trim_front (cut at.After-trim_back) in
+    record { socks = x.beside.socks.ready; owned = x.beside.owned }
 
 pub input-requires-clause-waits : goal.input-requires-clause-waits
 input-requires-clause-waits c =
     let at = goal.at.input-requires-clause-waits c in
     (off at.After-trim_front (cut at.After-trim_back)).beside.reass.table
-
-pub input-requires-clause-owned : goal.input-requires-clause-owned
-input-requires-clause-owned c =
-    let at = goal.at.input-requires-clause-owned c in
-    (off at.After-trim_front (cut at.After-trim_back)).beside.owned
 
 pub input-requires-clause-most : goal.input-requires-clause-most
 input-requires-clause-most c =

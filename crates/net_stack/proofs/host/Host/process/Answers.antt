@@ -44,7 +44,7 @@ returns-then-not-is_for_us c =
     ap (λ (x : IpHead). is_ours_or_all u.socks.pcbs.addr u.socks.pcbs.bcast x.dst) (sym c.head-head.ensures)
     ∙ sym c.is_for_us.ensures ∙ c.if-not-is_for_us.true in
     record {
-      does = ended {a = u.net.counters} packet CantForward fit.socks fit.reass fit.owned c.requires.can.free
+      does = ended {a = u.net.counters} packet CantForward fit.socks fit.reass fit.owned c.requires.can.wire.free
           (λ rest w. forwarded packet (By_wire (length packet)) nothing w (net_state (arrival_view u) rest)
           (subst (λ (xs : List ℕ). head_fault xs ≡ None) c.in_ok-headed.ensures.ok
           c.in_ok-headed.headed.is_headed.faultless)

@@ -56,8 +56,7 @@ comes c k came =
 pub process-requires-clause-can : goal.process-requires-clause-can
 process-requires-clause-can c = record {
   fit = fit (goal.at.process-requires-clause-can c).In-Some;
-  most = c.requires.most;
-  free = c.in-Some.ensures.free;
+  wire = record { most = c.requires.most; free = c.in-Some.ensures.free };
 }
 
 pub returns-in_default-process : goal.returns-in_default-process

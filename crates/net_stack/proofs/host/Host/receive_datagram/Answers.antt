@@ -41,7 +41,7 @@ returns c =
     c.in_ok-take.ensures in
     record {
       does = came_whole c.requires.can.fit.owned c.requires.can.fit.reass stored c.args.self.now.net.counters
-          c.count.new.self c.count.ensures c.requires.can.free c.args.headed.is_headed.faultless
+          c.count.new.self c.count.ensures c.requires.can.wire.free c.args.headed.is_headed.faultless
           (λ rest. c.requires.whole.ours) c.requires.whole.whole;
       reass = (beside c.requires.can.fit.owned c.requires.can.fit.reass stored).table;
       output = refl;

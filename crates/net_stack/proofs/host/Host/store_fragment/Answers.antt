@@ -19,7 +19,7 @@ placed : (c : After-put_packet-chain) → IsReadyToArrive c.args.self.now.pool c
 placed c =
     stored_ready {a = c.args.self.now.net.counters} c.requires.can.fit.socks c.requires.can.fit.owned
     (asked_now c.args.self.now.pool c.args.self.now.reass c.args.self.now.net.counters
-    (length c.args.headed.packet.now) c.requires.can.free) c.requires.can.fit.reass c.put_packet-chain.ensures
+    (length c.args.headed.packet.now) c.requires.can.wire.free) c.requires.can.fit.reass c.put_packet-chain.ensures
 
 -- and then cut to its total length
 cut : (c : After-trim_back) → IsReadyToArrive c.args.self.now.pool c.args.self.now.socks c.args.self.now.reass
@@ -62,7 +62,7 @@ returns c =
     ap (λ (x : IpHead). is_fragment (flat_head x)) c.head-head.ensures ∙ c.requires.fragment in
     record {
       does = came c.args.headed.packet.now c.requires.can.fit.socks c.requires.can.fit.owned
-          (asked_now u.pool u.reass u.net.counters (length c.args.headed.packet.now) c.requires.can.free) refl refl
+          (asked_now u.pool u.reass u.net.counters (length c.args.headed.packet.now) c.requires.can.wire.free) refl refl
           c.requires.can.fit.reass c.put_packet-chain.ensures
           (fragment_arrives (cut at.After-trim_back is) fragment c.take_fragment.ensures.does);
       reass = c.take_fragment.ensures.reass;

@@ -15,17 +15,12 @@ arrive-requires-clause-owned c = λ k. omega (
       (queued_chains c.args.self.now.pool c.args.self.now.socks.queues),
 )
 
-pub input-requires-clause-ready : goal.input-requires-clause-ready
-input-requires-clause-ready c =
-    (beside_socks (c.args.chain ∷ held_all c.args.self.now.pool c.args.self.now.reass.datagrams) (c.in-Whole.chain ∷ [])
-    (held_all c.arrive.new.pool c.arrive.new.self.datagrams) c.requires.fit.owned c.requires.fit.socks
-    c.in-Whole.ensures.moves).socks.ready
-
-pub input-requires-clause-owned : goal.input-requires-clause-owned
-input-requires-clause-owned c =
-    owned_after (beside_socks (c.args.chain ∷ held_all c.args.self.now.pool c.args.self.now.reass.datagrams)
+pub input-requires-clause-fit : goal.input-requires-clause-fit
+input-requires-clause-fit c =
+    let x = beside_socks (c.args.chain ∷ held_all c.args.self.now.pool c.args.self.now.reass.datagrams)
     (c.in-Whole.chain ∷ []) (held_all c.arrive.new.pool c.arrive.new.self.datagrams) c.requires.fit.owned
-    c.requires.fit.socks c.in-Whole.ensures.moves).moves c.requires.fit.owned
+    c.requires.fit.socks c.in-Whole.ensures.moves in
+    record { socks = x.socks.ready; owned = owned_after x.moves c.requires.fit.owned }
 
 pub returns-in-Whole : goal.returns-in-Whole
 returns-in-Whole c =

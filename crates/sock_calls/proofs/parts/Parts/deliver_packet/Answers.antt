@@ -1,27 +1,51 @@
-use Rattle.std.proofs.Common.{◌≤◌, ◌∷◌, ◌++◌, ℕ, List, All, length, slice_index_or, sym, ap, subst, ◌∙◌, arith, rules}
+use Rattle.std.proofs.Common.{◌≤◌, ℕ, List, All, length, slice_index_or, sym, ap, subst, ◌∙◌, arith, rules}
 use Rattle.std.proofs.lemmas.Grind.{common_steps}
 use Rattle.flat_model.specs.Amounts.Weight.{times}
 use Rattle.flat_model.specs.Sockets.Fits.{fits}
-use Rattle.mbuf_chain.specs.Owners.{IsOwned}
 use Rattle.pcb_table.specs.Table.{Table, IsOpen}
 use Rattle.udp.specs.Checked.{unmatched}
-use Rattle.sock_calls.specs.Sockets.{IsSocks, from_three, queued_chains, queues_of}
-use Rattle.sock_calls.specs.Delivery.{net_view}
+use Rattle.sock_calls.specs.Sockets.{from_three, queues_of}
 use Rattle.sock_calls.specs.Inside.Parts.{socks_of}
-use Rattle.sock_calls.specs.Whole.{DeliversWhole}
 use Rattle.sock_calls.proofs.Arriving.{all_open}
-use Rattle.sock_calls.proofs.Storing.{beside_data, delivers_to, full_ends, lone_descriptor, lone_is, unmatched_ends}
+use Rattle.sock_calls.proofs.Delivered.{fit_as}
+use Rattle.sock_calls.proofs.Storing.{IsBeside, beside_data, delivers_to, full_ends, lone_descriptor, lone_is, unmatched_ends}
 use Rattle.sock_calls.proofs.parts.Parts.deliver_packet.Goals as goal
+use Rattle.sock_calls.proofs.parts.Parts.deliver_packet.Goals.{After-store_data-chain}
 
-pub deliver_all-requires-clause-socks : goal.deliver_all-requires-clause-socks
-deliver_all-requires-clause-socks g c =
-    let p = c.args.pool.now in
-    let q = c.store_data-chain.new.pool in
-    let x = beside_data p q c.store_data-chain.result (g.R.Reclaim.owned p c.args.waiting.now)
-    (socks_of c.args.self.now)
-    c.requires.owned c.requires.socks c.store_data-chain.ensures.moves in
-    subst (λ (t : Table). IsSocks q (record { pcbs = t; queues = from_three c.args.self.now.queues }))
-    (sym c.matching_sockets.ensures.blocks) x.socks.ready
+-- ---- no socket matches, or the queue of the only one is full
+pub returns-then-is_empty-clause-delivered : goal.returns-then-is_empty-clause-delivered
+returns-then-is_empty-clause-delivered g c =
+    unmatched_ends c.no_port-why.result c.requires.fit.socks c.args.packet.now.is_checked
+    c.matching_sockets.ensures.found (first_of (search rules, grind (arith, common_steps))) c.requires.wire.free
+    (c.no_port-why.ensures ∙ ap (λ (t : Table). unmatched t c.args.packet.now.to.ip) c.matching_sockets.ensures.blocks)
+    c.matching_sockets.ensures.blocks c.count_ended.ensures
+
+pub fits_at-requires : goal.fits_at-requires
+fits_at-requires g c =
+    lone_descriptor c.requires.fit.socks c.matching_sockets.ensures.found
+    (sym c.as_slice.ensures.value ∙ lone_is c.as_slice.result.now c.in-len1.len_at_least c.in-len1.len_below)
+
+pub returns-then-not-fits_at-clause-delivered : goal.returns-then-not-fits_at-clause-delivered
+returns-then-not-fits_at-clause-delivered g c =
+    let queue = queues_of c.args.pool.now (from_three c.args.self.now.queues) in
+    full_ends c.requires.fit.socks c.args.packet.now.is_checked c.matching_sockets.ensures.found
+    (sym c.as_slice.ensures.value ∙ lone_is c.as_slice.result.now c.in-len1.len_at_least c.in-len1.len_below)
+    c.requires.wire.free
+    (ap (λ (l : List ℕ). fits (queue (slice_index_or c.as_slice.result.now 0 0)) (length l)) (sym c.data.ensures.value)
+    ∙ sym (c.if-not-fits_at.ensures c.args.pool.now c.requires.fit.socks.each))
+    c.matching_sockets.ensures.blocks c.count_ended-then-not-fits_at.ensures
+
+-- ---- the data are in a chain of their own
+beside : (g : _) (c : After-store_data-chain g)
+    → IsBeside c.args.pool.now (g.R.Reclaim.owned c.args.pool.now c.args.waiting.now) (socks_of c.args.self.now)
+    c.store_data-chain.new.pool c.store_data-chain.result
+beside g c = beside_data c.requires.fit c.store_data-chain.ensures.moves
+
+pub deliver_all-requires-clause-fit : goal.deliver_all-requires-clause-fit
+deliver_all-requires-clause-fit g c =
+    let x = beside g (goal.at.deliver_all-requires-clause-fit g c).After-store_data-chain in
+    fit_as x.fit c.matching_sockets.ensures.blocks
+    (g.met.R.Reclaim.owned_same c.args.pool.now c.store_data-chain.new.pool c.args.waiting.now x.same)
 
 pub deliver_all-requires-clause-opened : goal.deliver_all-requires-clause-opened
 deliver_all-requires-clause-opened g c =
@@ -37,71 +61,16 @@ deliver_all-requires-clause-distinct g c =
 
 pub deliver_all-requires-clause-waits : goal.deliver_all-requires-clause-waits
 deliver_all-requires-clause-waits g c =
-    let p = c.args.pool.now in
-    let q = c.store_data-chain.new.pool in
-    let w = c.args.waiting.now in
-    let x = beside_data p q c.store_data-chain.result (g.R.Reclaim.owned p w) (socks_of c.args.self.now)
-    c.requires.owned c.requires.socks c.store_data-chain.ensures.moves in
-    g.met.R.Reclaim.ready_same p q w x.same c.requires.waits
-
-pub deliver_all-requires-clause-owned : goal.deliver_all-requires-clause-owned
-deliver_all-requires-clause-owned g c =
-    let p = c.args.pool.now in
-    let q = c.store_data-chain.new.pool in
-    let w = c.args.waiting.now in
-    let x = beside_data p q c.store_data-chain.result (g.R.Reclaim.owned p w) (socks_of c.args.self.now)
-    c.requires.owned c.requires.socks c.store_data-chain.ensures.moves in
-    subst (λ (zs : List ℕ). IsOwned q (c.store_data-chain.result
-    ∷ (zs ++ queued_chains q (from_three c.args.self.now.queues))))
-    (sym (g.met.R.Reclaim.owned_same p q w x.same)) x.owned
-
-pub returns-then-is_empty-clause-delivered : goal.returns-then-is_empty-clause-delivered
-returns-then-is_empty-clause-delivered g c =
-    let p = c.args.pool.now in
-    let w = c.args.waiting.now in
-    let us = g.R.Waiting.unfinished p w in
-    let xs = g.R.Reclaim.owned p w in
-    let bs = from_three c.args.self.now.queues in
-    subst (λ (t : Table). DeliversWhole (net_view p (socks_of c.args.self.now) us xs c.args.counters.now)
-    c.args.packet.now.packet.now (net_view p (record { pcbs = t; queues = bs }) us xs c.count_ended.new.self))
-    (sym c.matching_sockets.ensures.blocks)
-    (unmatched_ends c.no_port-why.result c.requires.socks c.args.packet.now.is_checked c.matching_sockets.ensures.found
-    (first_of (search rules, grind (arith, common_steps))) c.requires.free
-    (c.no_port-why.ensures ∙ ap (λ (t : Table). unmatched t c.args.packet.now.to.ip) c.matching_sockets.ensures.blocks)
-    c.count_ended.ensures)
-
-pub fits_at-requires : goal.fits_at-requires
-fits_at-requires g c =
-    lone_descriptor c.requires.socks c.matching_sockets.ensures.found
-    (sym c.as_slice.ensures.value ∙ lone_is c.as_slice.result.now c.in-len1.len_at_least c.in-len1.len_below)
-
-pub returns-then-not-fits_at-clause-delivered : goal.returns-then-not-fits_at-clause-delivered
-returns-then-not-fits_at-clause-delivered g c =
-    let p = c.args.pool.now in
-    let w = c.args.waiting.now in
-    let us = g.R.Waiting.unfinished p w in
-    let xs = g.R.Reclaim.owned p w in
-    let bs = from_three c.args.self.now.queues in
-    let fd = slice_index_or c.as_slice.result.now 0 0 in
-    subst (λ (t : Table). DeliversWhole (net_view p (socks_of c.args.self.now) us xs c.args.counters.now)
-    c.args.packet.now.packet.now (net_view p (record { pcbs = t; queues = bs }) us xs
-    c.count_ended-then-not-fits_at.new.self))
-    (sym c.matching_sockets.ensures.blocks)
-    (full_ends c.requires.socks c.args.packet.now.is_checked c.matching_sockets.ensures.found
-    (sym c.as_slice.ensures.value ∙ lone_is c.as_slice.result.now c.in-len1.len_at_least c.in-len1.len_below)
-    c.requires.free
-    (ap (λ (l : List ℕ). fits (queues_of p bs fd) (length l)) (sym c.data.ensures.value)
-    ∙ sym (c.if-not-fits_at.ensures p c.requires.socks.each))
-    c.count_ended-then-not-fits_at.ensures)
+    g.met.R.Reclaim.ready_same c.args.pool.now c.store_data-chain.new.pool c.args.waiting.now
+    (beside g (goal.at.deliver_all-requires-clause-waits g c).After-store_data-chain).same c.requires.waits
 
 pub returns-clause-delivered : goal.returns-clause-delivered
 returns-clause-delivered g c =
     let p = c.args.pool.now in
     let q = c.store_data-chain.new.pool in
     let w = c.args.waiting.now in
-    let x = beside_data p q c.store_data-chain.result (g.R.Reclaim.owned p w) (socks_of c.args.self.now)
-    c.requires.owned c.requires.socks c.store_data-chain.ensures.moves in
-    delivers_to c.requires.socks c.requires.owned c.args.packet.now.is_checked c.matching_sockets.ensures.found
+    let same = (beside g (goal.at.returns-clause-delivered g c).After-store_data-chain).same in
+    delivers_to c.requires.fit c.args.packet.now.is_checked c.matching_sockets.ensures.found
     (first_of (search rules, grind (arith, common_steps))) c.store_data-chain.ensures
-    (g.met.R.Waiting.unfinished_same p q w x.same) (g.met.R.Reclaim.owned_same p q w x.same)
+    (g.met.R.Waiting.unfinished_same p q w same) (g.met.R.Reclaim.owned_same p q w same)
     c.matching_sockets.ensures.blocks c.as_slice-fds.ensures.value c.deliver_all.ensures.delivered

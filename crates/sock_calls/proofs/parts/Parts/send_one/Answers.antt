@@ -1,5 +1,5 @@
 use Rattle.std.proofs.Common.{◌≡◌, ℕ, ◌+◌, ◌%◌, ◌≤◌, ◌∷◌, [], ◌++◌, List, false, map, length, refl, sym, ap, subst, ◌∙◌, arith}
-use Rattle.std.specs.Prelude.{Ok}
+use Rattle.std.specs.Prelude.{Ok, Some}
 use Rattle.flat_model.specs.Amounts.Layout.{Need, need}
 use Rattle.flat_model.specs.Machine.Send.{need_to}
 use Rattle.flat_model.specs.declared.config.Config.{Config}
@@ -24,24 +24,24 @@ use Rattle.sock_calls.proofs.Making.{ready}
 use Rattle.sock_calls.proofs.OnePacket.{by_link, mtu_link, need_link}
 use Rattle.sock_calls.proofs.Queueing.{put_is}
 use Rattle.sock_calls.proofs.parts.Parts.send_one.Goals as goal
+use Rattle.sock_calls.proofs.parts.Parts.send_one.Goals.{In-Some-indexed}
+
+-- the block is that of its own descriptor
+its_own : (c : In-Some-indexed)
+    → block_at c.in-Some-indexed.block.now.fd c.args.self.now.pcbs ≡ Some c.in-Some-indexed.block.now
+its_own c =
+    ap (λ (k : ℕ). block_at k c.args.self.now.pcbs)
+    (named_at c.args.self.now.pcbs c.args.fd c.in-Some-indexed.block.now c.in-Some-indexed.ensures)
+    ∙ c.in-Some-indexed.ensures
 
 pub port_of-requires : goal.port_of-requires
-port_of-requires c =
-    ap (λ (k : ℕ). block_at k c.args.self.now.pcbs)
-    (named_at c.args.self.now.pcbs c.args.fd c.in-Some-indexed.block.now c.in-Some-indexed.ensures)
-    ∙ c.in-Some-indexed.ensures
+port_of-requires c = its_own (goal.at.port_of-requires c).In-Some-indexed
 
 pub link_target-requires : goal.link_target-requires
-link_target-requires c =
-    ap (λ (k : ℕ). block_at k c.args.self.now.pcbs)
-    (named_at c.args.self.now.pcbs c.args.fd c.in-Some-indexed.block.now c.in-Some-indexed.ensures)
-    ∙ c.in-Some-indexed.ensures
+link_target-requires c = its_own (goal.at.link_target-requires c).In-Some-indexed
 
 pub source_of-requires : goal.source_of-requires
-source_of-requires c =
-    ap (λ (k : ℕ). block_at k c.args.self.now.pcbs)
-    (named_at c.args.self.now.pcbs c.args.fd c.in-Some-indexed.block.now c.in-Some-indexed.ensures)
-    ∙ c.in-Some-indexed.ensures
+source_of-requires c = its_own (goal.at.source_of-requires c).In-Some-indexed
 
 pub push_one-requires-clause-queue : goal.push_one-requires-clause-queue
 push_one-requires-clause-queue c = record {

@@ -1,19 +1,14 @@
-use Rattle.std.proofs.Common.{◌++◌, sym, subst}
-use Rattle.mbuf_chain.specs.Owners.{IsOwned}
-use Rattle.sock_calls.specs.Sockets.{SocksView, IsSocks, queued_chains}
+use Rattle.std.proofs.Common.{sym, subst}
+use Rattle.sock_calls.specs.Sockets.{SocksFit, SocksView}
 use Rattle.sock_calls.specs.Delivery.{net_view}
 use Rattle.sock_calls.specs.Inside.Parts.{socks_of}
 use Rattle.sock_calls.specs.Whole.{DeliversWhole}
 use Rattle.sock_calls.proofs.sockets.Socks.deliver.Goals as goal
 
-pub deliver_packet-requires-clause-socks : goal.deliver_packet-requires-clause-socks
-deliver_packet-requires-clause-socks g c = subst (IsSocks c.args.pool.now) (sym c.self.view_is) c.requires.ready
-
-pub deliver_packet-requires-clause-owned : goal.deliver_packet-requires-clause-owned
-deliver_packet-requires-clause-owned g c =
+pub deliver_packet-requires-clause-fit : goal.deliver_packet-requires-clause-fit
+deliver_packet-requires-clause-fit g c =
     let p = c.args.pool.now in
-    subst (λ (v : SocksView). IsOwned p (g.R.Reclaim.owned p c.args.waiting.now ++ queued_chains p v.queues))
-    (sym c.self.view_is) c.requires.owned
+    subst (λ (v : SocksView). SocksFit p v (g.R.Reclaim.owned p c.args.waiting.now)) (sym c.self.view_is) c.requires.fit
 
 pub returns-clause-delivered : goal.returns-clause-delivered
 returns-clause-delivered g c =
