@@ -6,6 +6,12 @@ use Rattle.script_loop.specs.Inside.{Answered, BreaksLimit}
 use Rattle.script_loop.proofs.StreamLemmas.{MoreBy-none, MoreBy-then}
 use Rattle.script_loop.proofs.ChunkLemmas.{no_end-take, no_end-all, first-none, cut-at, cut-length, Answered-part, Breaks-part, Takes-on, Takes-stop, Takes-sent, Takes-unsent, Takes-longer, Takes-broken}
 use Rattle.script_loop.proofs.serve.take_chunk.Goals as goal
+use Rattle.script_loop.proofs.serve.take_chunk.Goals.{In-Some}
+
+-- the rest of the chunk up to its first line end, and what follows it
+cut : (g : _) (c : In-Some g) → c.loop-at.rest.now
+    ≡ (take c.in-Some.at c.loop-at.rest.now ++ 10 ∷ []) ++ drop (suc c.in-Some.at) c.loop-at.rest.now
+cut g c = cut-at c.loop-at.rest.now c.in-Some.at c.in-Some.ensures.0.high c.in-Some.ensures.1
 
 pub loop-at-init : goal.loop-at-init
 loop-at-init g c = record {
@@ -38,26 +44,22 @@ returns-in_err-now-clause-taken g c = λ begin seen written h.
     let p = err_from_is_err_and c.from_residual.result c.from_residual.ensures.1 in
     let taken = c.loop-at.invariant.taken in
     let kept = taken.2 begin seen written h in
-    let rest : List ℕ = c.loop-at.rest.now in
-    let at : ℕ = c.in-Some.at in
-    let cut : rest ≡ (take at rest ++ 10 ∷ []) ++ drop (suc at) rest =
-    cut-at rest at c.in-Some.ensures.0.high c.in-Some.ensures.1 in
     rw (p.1, p.2)
-    (Takes-stop _ _ _ _ taken.0 (take at rest ++ 10 ∷ []) (drop (suc at) rest) _ _ kept.0 _ _ _ c.take_line.new.text []
-    c.take_line.new.line _
-    (taken.1 ∙ ap (λ (t : List ℕ). taken.0 ++ t) cut) kept.1
+    (Takes-stop _ _ _ _ taken.0 _ _ _ _ kept.0 _ _ _ c.take_line.new.text [] c.take_line.new.line _
+    (taken.1
+    ∙ ap (λ (t : List ℕ). taken.0 ++ t) (cut g (goal.at.returns-in_err-now-clause-taken g c).In-Some)) kept.1
     (c.in_err-now.ensures.taken begin _ (written ++ kept.0) kept.2))
 
 pub loop-at-preserved : goal.loop-at-preserved
 loop-at-preserved g c =
     let taken = c.loop-at.invariant.taken in
-    let rest : List ℕ = c.loop-at.rest.now in
-    let at : ℕ = c.in-Some.at in
-    let piece : List ℕ = take at rest ++ 10 ∷ [] in
-    let place : at + 1 ≡ suc at = omega arith in
-    let after : c.split_at.result.1.now ≡ drop (suc at) rest = rw place at c.split_at.ensures.back in
-    let cut : rest ≡ piece ++ c.split_at.result.1.now =
-    rw after (cut-at rest at c.in-Some.ensures.0.high c.in-Some.ensures.1) in
+    let front : List ℕ = take c.in-Some.at c.loop-at.rest.now in
+    let piece : List ℕ = front ++ 10 ∷ [] in
+    let place : c.in-Some.at + 1 ≡ suc c.in-Some.at = omega arith in
+    let after : c.split_at.result.1.now ≡ drop (suc c.in-Some.at) c.loop-at.rest.now =
+    rw place at c.split_at.ensures.back in
+    let split : c.loop-at.rest.now ≡ piece ++ c.split_at.result.1.now =
+    rw after (cut g (goal.at.loop-at-preserved g c).In-Some) in
     record {
       room = c.in_ok-now.ensures.room;
       within = c.in_ok-now.ensures.within;
@@ -66,12 +68,12 @@ loop-at-preserved g c =
             arith,
             c.loop-at.invariant.fewer,
             c.in_ok-now.ensures.fewer,
-            cut-length rest (take at rest) c.split_at.result.1.now cut,
+            cut-length c.loop-at.rest.now front c.split_at.result.1.now split,
           );
       counted = MoreBy-then 0 0 0 _ _ _ (omega arith) c.loop-at.invariant.counted c.in_ok-now.ensures.counted;
       taken = (
         taken.0 ++ piece,
-        taken.1 ∙ ap (λ (t : List ℕ). taken.0 ++ t) cut ∙ sym (append_assoc taken.0 piece _),
+        taken.1 ∙ ap (λ (t : List ℕ). taken.0 ++ t) split ∙ sym (append_assoc taken.0 piece _),
         λ begin seen written h.
             let kept = taken.2 begin seen written h in
             Takes-on _ _ _ _ taken.0 (taken.0 ++ piece) piece written kept.0 _ _ _ c.take_line.new.text _ _ refl kept.1
@@ -82,14 +84,13 @@ loop-at-preserved g c =
 pub returns-in_err-flush-clause-taken : goal.returns-in_err-flush-clause-taken
 returns-in_err-flush-clause-taken g c = λ begin seen written h.
     let p = err_from_is_err_and c.from_residual-in_err-flush.result c.from_residual-in_err-flush.ensures.1 in
-    let taken = c.loop-at.invariant.taken in
-    let kept = taken.2 begin seen written h in
+    let front = c.loop-at.invariant.taken in
     rw (p.1, p.2)
-    (Takes-longer g.A.Answers.may_answer begin _ seen taken.0 c.loop-at.rest.now c.args.chunk.now written _ _ [] []
-    c.take_part-fits.new.line _ taken.1
-    (Takes-unsent g.A.Answers.may_answer begin _ seen taken.0 c.loop-at.line c.loop-at.now written c.loop-at.text
+    (Takes-longer g.A.Answers.may_answer begin _ seen front.0 c.loop-at.rest.now c.args.chunk.now written _ _ [] []
+    c.take_part-fits.new.line _ front.1
+    (Takes-unsent g.A.Answers.may_answer begin _ seen front.0 c.loop-at.line c.loop-at.now written c.loop-at.text
     c.take_part-fits.new.line _ _ _ _
-    kept c.in_err-flush.ensures.sent))
+    (front.2 begin seen written h) c.in_err-flush.ensures.sent))
 
 pub returns-then-fits-clause-taken : goal.returns-then-fits-clause-taken
 returns-then-fits-clause-taken g c = λ begin seen written h.
