@@ -35,21 +35,6 @@ fn ready(alloc: Global, mbufs: u32, clusters: u32) -> Option<(Pool, Reass)>
     Some((pool, table))
 }
 
-/// A packet stored in the pool of a table. `None` if no buffer is free.
-fn received(pool: &mut Pool, table: &Reass, packet: &[u8]) -> Option<Chain>
-    requires ready { IsReady pool.old table.now }
-    requires short { length packet.now ≤ IP_MAX_PACKET }
-    ensures ready { IsReady pool.new table.now }
-    ensures owned { IfSome result (λ chain. IsOwned pool.new (chain ∷ held_all pool.new table.now.datagrams)) }
-    ensures headed { IfSome result (λ chain. (chain_of pool.new chain).front.header ≡ true) }
-{
-    let _ = table;
-    match from_wire(pool, packet) {
-        Ok(chain) => Some(chain),
-        Err(_) => None,
-    }
-}
-
 /// Stores a packet and parses its header. `None` if no buffer is free, or the header is invalid or has another length.
 fn stored(pool: &mut Pool, table: &Reass, packet: &[u8]) -> Option<(Chain, IpHead)>
     requires ready { IsReady pool.old table.now }
@@ -61,7 +46,10 @@ fn stored(pool: &mut Pool, table: &Reass, packet: &[u8]) -> Option<(Chain, IpHea
     ensures header { IfSome result (λ r. IP_HEADER ≤ r.1.total) }
     ensures offset { IfSome result (λ r. r.1.offset ≤ IP_MAX_PACKET) }
 {
-    let chain = received(pool, table, packet)?;
+    let _ = table;
+    let Ok(chain) = from_wire(pool, packet) else {
+        return None;
+    };
     let Ok(head) = read_head(pool, &chain) else {
         pool.free_chain(chain);
         return None;
