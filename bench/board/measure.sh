@@ -180,7 +180,7 @@ board_stacks() { # WORK
     "$board/build" "$(core_of "$work" cortex-m3 -Os)" "$work/board"
     echo
     "$board/stacks" "$work/board/painted.elf" timeout 900 qemu-system-arm -M mps2-an385 -display none \
-        -monitor none -serial stdio -semihosting-config enable=on,target=native -kernel
+        -monitor none -serial null -semihosting-config enable=on,target=native -kernel
 }
 
 measure_board() { # WORK

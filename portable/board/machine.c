@@ -1,6 +1,8 @@
 /* The Cortex-M3 of QEMU's machine mps2-an385: the startup code, the serial port, the clock, and the end. */
 #include "machine.h"
 
+#include <string.h>
+
 /* From ARM's descriptions: the CMSDK's serial port, and the processor's own clock. */
 #define REGISTER(address) (*(volatile uint32_t *)(address))
 #define UART_DATA REGISTER(0x40004000)
@@ -28,12 +30,13 @@ enum { PAINT = 0x5aa5c33c };
 int main(void);
 void start(void);
 
-/* A semihosting call to the debugger, which is QEMU. */
-static void ask(uint32_t what, const void *argument)
+/* A semihosting call to the debugger, which is QEMU. Returns its result. */
+static uint32_t ask(uint32_t what, const void *argument)
 {
     register uint32_t r0 __asm__("r0") = what;
     register const void *r1 __asm__("r1") = argument;
     __asm__ volatile("bkpt 0xab" : "+r"(r0) : "r"(r1) : "memory");
+    return r0;
 }
 
 static void leave(uint32_t why)
@@ -46,6 +49,24 @@ static void leave(uint32_t why)
 void machine_end(void) { leave(0x20026); /* ADP_Stopped_ApplicationExit: status 0 */ }
 
 void machine_say(const char *text) { ask(4, text); /* SYS_WRITE0 */ }
+
+uint32_t machine_open(const char *path, uint32_t mode)
+{
+    const uint32_t words[] = {(uintptr_t)path, mode, strlen(path)};
+    return ask(1, words); /* SYS_OPEN */
+}
+
+uint32_t machine_read(uint32_t file, void *bytes, uint32_t len)
+{
+    const uint32_t words[] = {file, (uintptr_t)bytes, len};
+    return len - ask(6, words); /* SYS_READ: how many weren't read */
+}
+
+void machine_write(uint32_t file, const void *bytes, uint32_t len)
+{
+    const uint32_t words[] = {file, (uintptr_t)bytes, len};
+    ask(5, words); /* SYS_WRITE */
+}
 
 /* A fault of the processor. */
 static void fault(void)

@@ -18,6 +18,13 @@ void machine_sleep(uint32_t interrupt, void (*heard)(void));
 /* Prints text on the console. */
 void machine_say(const char *text);
 
+/* Opens a file of QEMU's computer, with a mode of semihosting: 0 reads, 4 writes. Returns its number. */
+uint32_t machine_open(const char *path, uint32_t mode);
+
+/* Reads at most `len` bytes, and returns their number: 0 at the end of the file. */
+uint32_t machine_read(uint32_t file, void *bytes, uint32_t len);
+void machine_write(uint32_t file, const void *bytes, uint32_t len);
+
 /* Returns how many bytes of stack were used since the start. */
 uint32_t machine_stack(void);
 

@@ -8,11 +8,7 @@
 #include <stdio.h>
 #include <stdlib.h>
 
-int run_get(void)
-{
-    int byte = getchar();
-    return byte == RUN_END ? -1 : byte;
-}
+int run_get(void) { return getchar(); }
 
 void run_put(const char *bytes, size_t len) { fwrite(bytes, 1, len, stdout); }
 void run_flush(void) { fflush(stdout); }

@@ -28,7 +28,7 @@ def examples():
 def heard(driver, scripts):
     """Returns the driver's replies to scripts, one after another, and its other output."""
     text = b"".join(" ".join(options).encode() + b"\n" + script + b"\0" for _, options, script in scripts)
-    ran = subprocess.run(driver, input=text + b"\x04", capture_output=True, check=False)
+    ran = subprocess.run(driver, input=text, capture_output=True, check=False)
     got, said = ran.stdout.split(b"\0")[:-1], ran.stderr.decode(errors="replace")
     if ran.returncode or len(got) != len(scripts):
         first = (said.strip() or "nothing").splitlines()[0]

@@ -28,7 +28,7 @@ int run_get(void)
         len = ask(READ, 0, piece, sizeof piece);
         at = 0;
     }
-    return len <= 0 || piece[at] == RUN_END ? -1 : piece[at++];
+    return len <= 0 ? -1 : piece[at++];
 }
 
 void run_flush(void)

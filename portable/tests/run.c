@@ -1,5 +1,5 @@
 /* The language of `bsdudp run` (docs/scripts.md) with bsdudp.h. The input is one script after another: a line with
-   options, such as `--mtu 68`, the script's lines, and a byte 0; and then RUN_END. The output has, for each script, a
+   options, such as `--mtu 68`, the script's lines, and a byte 0. The output has, for each script, a
    line for each reply, and a byte 0. It uses the functions of run.h, so that it runs on a board too. */
 #include "run.h"
 

@@ -1,9 +1,6 @@
 /* The functions of the machine that run.c runs on. */
 #include <stddef.h>
 
-/* A byte that ends the input, for an input without an end. */
-enum { RUN_END = 4 };
-
 /* The next byte of the input, or -1 at its end. */
 int run_get(void);
 

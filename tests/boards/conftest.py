@@ -38,10 +38,21 @@ def answered(once) -> Callable[[int, pathlib.Path], tuple]:
 
 
 @pytest.fixture(scope="session")
-def board(core_for, once) -> pathlib.Path:  # noqa: F811
-    """The folder of the board's programs. Linking fails unless 64 KB of memory are enough."""
-    library = core_for("cortex-m3")
-    return once("board", lambda folder: llvm.run(BOARD / "build", library, folder))
+def board_for(core_for, once) -> Callable[..., pathlib.Path]:  # noqa: F811
+    """board_for(OPTIONS OF portable/core ..) returns the folder of the board's programs. Linking fails unless 64 KB of
+    memory are enough."""
+
+    def of(*options: str) -> pathlib.Path:
+        library = core_for("cortex-m3", *options)
+        return once(f"board{''.join(options)}", lambda folder: llvm.run(BOARD / "build", library, folder))
+
+    return of
+
+
+@pytest.fixture(scope="session")
+def board(board_for) -> pathlib.Path:
+    """The same for `portable/core` without options."""
+    return board_for()
 
 
 @pytest.fixture

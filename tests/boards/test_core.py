@@ -1,7 +1,7 @@
 """The C library for other processors. portable/core rewrites the LLVM module and compiles it. Each call, the memory of
 a stack, and two stacks on a wire are tested on 32-bit x86 (also with the address sanitizer in the core), on 32-bit ARM
-and aarch64 in qemu, and on x86-64. All examples and random scripts are played on these except aarch64, and on RISC-V:
-their replies must equal those of the built program. Faults planted in the rewriting must be detected."""
+and aarch64 in qemu, and on x86-64. All examples and random scripts are played on these except aarch64, on RISC-V, and
+on a Cortex-M3: their replies must equal those of the built program. Faults planted in the rewriting must be seen."""
 import pathlib
 import shutil
 import subprocess
@@ -34,6 +34,7 @@ HOSTS = {
     "i686": Host("i686", [CC, "-m32"], needs=("cc -m32",)),
     "i686 sanitized": Host("i686", [CC, "-m32", *SANITIZED], options=("--sanitized",), needs=("cc -m32",)),
     "i686 checked": Host("i686", [CC, "-m32"], options=("--checked",), needs=("cc -m32",)),
+    "i686 -Oz": Host("i686", [CC, "-m32"], options=("-Oz",), needs=("cc -m32",)),
     "armv7": Host(
         "armv7", ["arm-linux-gnueabihf-gcc"], ["qemu-arm", "-L", "/usr/arm-linux-gnueabihf"],
         needs=("arm-linux-gnueabihf", "qemu-user"),
@@ -97,7 +98,7 @@ def test_scripts(host, builds, plays):
     plays(builds(host, "driver", "-O1", *DRIVER), RANDOM)
 
 
-@hosts("i686", "i686 sanitized", "armv7", "x86_64")
+@hosts("i686", "i686 sanitized", "i686 -Oz", "armv7", "x86_64")
 def test_driver_builds(host, builds):
     builds(host, "driver", "-O1", *DRIVER)
 
@@ -204,8 +205,9 @@ def test_planted_fault_is_seen(fault, module, compiled, tmp_path):
 
 # ---- a Cortex-M3 -----------------------------------------------------------------------------------------------------
 
-MACHINE = ["timeout", "900", "qemu-system-arm", "-M", "mps2-an385", "-display", "none", "-monitor", "none", "-serial"]
-MACHINE += ["stdio", "-semihosting-config", "enable=on,target=native"]
+MACHINE = ["timeout", "900", "qemu-system-arm", "-M", "mps2-an385", "-display", "none", "-monitor", "none"]
+MACHINE += ["-semihosting-config", "enable=on,target=native", "-serial"]
+BY_SERIAL, ALONE = [*MACHINE, "stdio"], [*MACHINE, "null"]
 # The most of the columns of bench/board's table, for each level: the library, the echo's text, data, bss and call
 # stack, and the instructions of three lengths.
 COSTS = {
@@ -218,23 +220,28 @@ on_board = pytest.mark.needs("arm-none-eabi", "qemu-arm")
 
 
 @on_board
+@pytest.mark.parametrize("options", [(), ("-Oz",)], ids=["-Os", "-Oz"])
+def test_scripts_on_the_board(options, board_for, plays):
+    plays([*ALONE, "-kernel", board_for(*options) / "scripts.elf"], RANDOM)
+
+
+@on_board
 def test_call_stacks(board):
     """Plays all examples. No call uses more stack than its bound."""
-    llvm.run(BOARD / "stacks", board / "painted.elf", *MACHINE, "-kernel")
+    llvm.run(BOARD / "stacks", board / "painted.elf", *ALONE, "-kernel")
 
 
 @on_board
 @pytest.mark.needs("netns", "tun", "ip")
 def test_linux_by_a_serial_line(board):
-    llvm.run("unshare", "-n", BOARD / "peer.py", BOARD / "bridge.py", *MACHINE, "-kernel", board / "echo.elf")
+    llvm.run("unshare", "-n", BOARD / "peer.py", BOARD / "bridge.py", *BY_SERIAL, "-kernel", board / "echo.elf")
 
 
 @on_board
 @pytest.mark.needs("netns", "tun", "ip", "ping")
 def test_linux_on_an_ethernet(board):
     card = ["-kernel", board / "host.elf", "-nic", "tap,ifname=bsdudp0,script=no,downscript=no"]
-    machine = ["null" if it == "stdio" else it for it in MACHINE]
-    llvm.run("unshare", "-n", BOARD / "peer.py", "--tap", *machine, *card)
+    llvm.run("unshare", "-n", BOARD / "peer.py", "--tap", *ALONE, *card)
 
 
 @pytest.fixture(scope="session")
