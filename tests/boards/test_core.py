@@ -226,9 +226,9 @@ def test_scripts_on_the_board(options, board_for, plays):
 
 
 @on_board
-def test_call_stacks(board):
-    """Plays all examples. No call uses more stack than its bound."""
-    llvm.run(BOARD / "stacks", board / "painted.elf", *ALONE, "-kernel")
+def test_call_stacks(board, bsdudp):
+    """Plays all examples and 100 random scripts. No call uses more stack than its bound."""
+    llvm.run(BOARD / "stacks", "--random", 100, bsdudp, board / "painted.elf", *ALONE, "-kernel")
 
 
 @on_board
