@@ -213,7 +213,8 @@ returns-then-is_none-clause-ok c =
       made =
           makes_as (with_chain p k (chain_of r k)) (alone v.front.header)
           (split_back v.front.header v.entries c.args.at) (makes_new (two_parts p r k d both)) refl
-          (ap (λ (x : ChainView). x.front) kept_d ∙ c.in_ok-head.ensures.ok.front ∙ ap alone c.has_header-header.ensures)
+          (ap (λ (x : ChainView). x.front) kept_d ∙ c.in_ok-head.ensures.ok.front
+          ∙ ap alone c.has_header-header.ensures)
           (ap (λ (x : ChainView). x.entries) kept_d ∙ c.in_ok-head.ensures.ok.entries
           ∙ sym (append-nil (rest_of h e off))
           ∙ ap (λ (es : List Entry). rest_of h e off ++ es) (sym (none_after v.entries i end))

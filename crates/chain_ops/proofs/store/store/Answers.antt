@@ -1,4 +1,4 @@
-use Rattle.std.proofs.Common.{ℕ, cond, List, [], length, count_by, ap, ◌∙◌, arith}
+use Rattle.std.proofs.Common.{ℕ, ◌-◌, ◌≤◌, cond, List, [], length, count_by, ap, ◌∙◌, arith}
 use Rattle.std.specs.Prelude.{Result, Ok, Err, OnOk}
 use Rattle.std.proofs.lemmas.Result.{IfOk-weaker, on_err_weaker, on_ok_weaker}
 use Rattle.std.proofs.lemmas.List.Sums.{sum_by-cons}
@@ -52,8 +52,10 @@ returns-in-InCluster-clause-ok c =
 
 pub returns-in-InCluster-clause-err : goal.returns-in-InCluster-clause-err
 returns-in-InCluster-clause-err c =
-    on_err_weaker c.new_cluster_with.result
-    (lacks c.args.large (length c.args.bytes.now) c.requires.large (omega (arith, c.in-InCluster.ensures.0)) (omega (arith, c.in-InCluster.ensures.1)) c.args.pool.now)
+    let size : ℕ = length c.args.bytes.now in
+    let many : 208 ≤ size = omega (arith, c.in-InCluster.ensures.0) in
+    let few : size ≤ 2048 - c.args.large = omega (arith, c.in-InCluster.ensures.1) in
+    on_err_weaker c.new_cluster_with.result (lacks c.args.large size c.requires.large many few c.args.pool.now)
     c.new_cluster_with.ensures.err
 
 both : {T E P Q R : Type 0} (r : Result T E) → (P → Q → R) → OnOk r P → OnOk r Q → OnOk r R
@@ -62,6 +64,8 @@ both (Err e) f p q = tt
 
 pub returns-in-InCluster-clause-enough : goal.returns-in-InCluster-clause-enough
 returns-in-InCluster-clause-enough c =
-    both c.new_cluster_with.result
-    (has c.args.large (length c.args.bytes.now) c.requires.large (omega (arith, c.in-InCluster.ensures.0)) (omega (arith, c.in-InCluster.ensures.1)) c.args.pool.now)
+    let size : ℕ = length c.args.bytes.now in
+    let many : 208 ≤ size = omega (arith, c.in-InCluster.ensures.0) in
+    let few : size ≤ 2048 - c.args.large = omega (arith, c.in-InCluster.ensures.1) in
+    both c.new_cluster_with.result (has c.args.large size c.requires.large many few c.args.pool.now)
     c.new_cluster_with.ensures.free c.new_cluster_with.ensures.cluster
