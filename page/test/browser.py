@@ -1,19 +1,12 @@
-#!/usr/bin/env python3
 """Plays each example and each lesson in the page, in headless Chromium, and tests its lines. The page's replies must be
 the expected ones. Its console must stay empty, and it may not use the network. The keyboard must reach all elements
 that take input. Nothing may overlap or be cut off at widths of 360, 640, 768 and 1,600 pixels, and each text must have
 a contrast of at least 4.5, in light and in dark. All elements that take input have a name in the accessibility tree.
-Screenshots are kept in the folder SHOTS. If all tests pass, it prints nothing."""
+tests/page/test_page.py runs it."""
 import base64
 import json
 import pathlib
 import shutil
-import sys
-import tempfile
-
-sys.dont_write_bytecode = True
-sys.path.insert(0, str(pathlib.Path(__file__).resolve().parent.parent.parent))
-from tools import command_line  # noqa: E402
 
 HERE = pathlib.Path(__file__).resolve().parent
 UNTIL_READY = """new Promise(done => {
@@ -61,6 +54,12 @@ class Browser:
             fault = got["exceptionDetails"]
             raise RuntimeError(fault.get("exception", {}).get("description", fault["text"]))
         return got["result"].get("value")
+
+    def open(self, page):
+        """Opens the page, with the functions of in_page.js."""
+        self.ask("Page.navigate", url=page.resolve().as_uri())
+        self.run(UNTIL_READY)
+        self.run((HERE / "in_page.js").read_text(encoding="utf-8"))
 
     def resize(self, width):
         scale = 2 if width == DOUBLE else 1
@@ -257,32 +256,9 @@ def try_keys(browser):
     yield from browser.run(f"faultsOfCapture({json.dumps(CAPTURE)})")
 
 
-def main():
-    parser = command_line.parser(__doc__)
-    for name, metavar in (("page", "PAGE.html"), ("examples", "EXAMPLES"), ("lessons", "LESSONS"), ("shots", "SHOTS")):
-        parser.add_argument(name, metavar=metavar, type=pathlib.Path)
-    said = parser.parse_args()
-    page, examples, lessons, shots = said.page, said.examples, said.lessons, said.shots
+def faults_of_page(browser, examples, lessons, shots):
+    """Returns the faults of the page that is open. Screenshots are kept in the folder `shots`."""
     shots.mkdir(parents=True, exist_ok=True)
-    with tempfile.TemporaryDirectory(ignore_cleanup_errors=True) as home:
-        try:
-            browser = Browser(home)
-        except (ImportError, OSError) as fault:
-            print(f"the page: {fault}, so it isn't tried in a browser", file=sys.stderr)
-            return 0
-        try:
-            browser.resize(1600)
-            browser.ask("Page.navigate", url=page.resolve().as_uri())
-            browser.run(UNTIL_READY)
-            browser.run((HERE / "in_page.js").read_text())
-            faults = [*play_all(browser, examples, lessons), *look_all(browser, shots), *try_keys(browser)]
-            faults += browser.complaints()
-        finally:
-            browser.end()
-    for fault in faults:
-        print(f"page: {fault}", file=sys.stderr)
-    return 1 if faults else 0
-
-
-if __name__ == "__main__":
-    sys.exit(main())
+    browser.resize(1600)
+    faults = [*play_all(browser, examples, lessons), *look_all(browser, shots), *try_keys(browser)]
+    return [*faults, *browser.complaints()]

@@ -8,7 +8,7 @@ from typing import Any, Callable, Iterator
 
 import pytest
 
-from page.test.browser import UNTIL_READY, Browser
+from page.test.browser import Browser
 from tests.cases import TOP
 from tests.made import module, page  # noqa: F401 (fixtures)
 
@@ -35,9 +35,7 @@ def plays_captures(page: pathlib.Path) -> Callable[..., list[dict[str, Any]]]:  
 def chromium(page: pathlib.Path, tmp_path_factory: pytest.TempPathFactory) -> Iterator[Browser]:  # noqa: F811
     """Headless Chromium with the page open, and with the functions of page/test/in_page.js."""
     browser = Browser(tmp_path_factory.mktemp("chromium"))
-    browser.ask("Page.navigate", url=page.as_uri())
-    browser.run(UNTIL_READY)
-    browser.run((TOP / "page/test/in_page.js").read_text(encoding="utf-8"))
+    browser.open(page)
     yield browser
     browser.end()
 
