@@ -74,8 +74,10 @@ outside (Some held) offset end =
     then record held { piece = record (held.piece) { first = end } }
     else held)
 
--- no byte is at n or after it, and no piece begins after n
+-- a table for one datagram: no byte is at n or after it, and no piece begins after n
 pub record IsWithin (spots : List (Option Spot)) (n : ℕ) : Type 0 where
+  pub len : length spots ≡ DATAGRAM
+  pub most : n ≤ DATAGRAM
   pub past : (k : ℕ) → n ≤ k → spots_map spots k ≡ None
   pub firsts : (k : ℕ) → IfSome (spots_map spots k) (λ held. held.piece.first ≤ n)
 

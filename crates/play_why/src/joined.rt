@@ -151,9 +151,7 @@ fn first_changed(reach: usize, offset: usize) -> usize
 
 /// Lays a fragment over the bytes, of which none is at `reach` or after it. Returns how far they reach then.
 fn insert(spots: &mut [Option<Spot>], reach: usize, offset: usize, bytes: &[u8]) -> usize
-    requires small { length spots.old ≤ DATAGRAM }
-    requires inside { offset + length bytes.now ≤ length spots.old }
-    requires reach { reach ≤ length spots.old }
+    requires inside { offset + length bytes.now ≤ DATAGRAM }
     requires within { IsWithin spots.old reach }
     ensures map { (k : ℕ) → joined.spots_map spots.new k
         ≡ Overlay.overlay (joined.spots_map spots.old) (joined.as_fragment offset bytes.now) k }
@@ -177,13 +175,10 @@ fn fits(offset: usize, len: usize) -> bool
 
 /// Lays a fragment over the bytes if it ends inside the longest datagram.
 fn insert_fitting(spots: &mut [Option<Spot>], reach: usize, offset: usize, bytes: &[u8]) -> usize
-    requires len { length spots.old ≡ DATAGRAM }
-    requires reach { reach ≤ DATAGRAM }
-    requires within { IsWithin spots.old reach }
+    requires { IsWithin spots.old reach }
     ensures table { (fs : List Fragment) → IsReassembled spots.old reach fs
         → IsReassembled spots.new result (fs ++ joined.fitting offset bytes.now) }
     ensures within { IsWithin spots.new result }
-    ensures most { result ≤ DATAGRAM }
 {
     if fits(offset, bytes.len()) {
         insert(spots, reach, offset, bytes)
@@ -194,13 +189,10 @@ fn insert_fitting(spots: &mut [Option<Spot>], reach: usize, offset: usize, bytes
 
 /// Lays a fragment that is kept over the bytes if it's one of this datagram.
 fn insert_part(spots: &mut [Option<Spot>], reach: usize, part: &Part, key: FragmentKey) -> usize
-    requires len { length spots.old ≡ DATAGRAM }
-    requires reach { reach ≤ DATAGRAM }
-    requires within { IsWithin spots.old reach }
+    requires { IsWithin spots.old reach }
     ensures table { (fs : List Fragment) → IsReassembled spots.old reach fs
         → IsReassembled spots.new result (fs ++ joined.fragment_if key part.now) }
     ensures within { IsWithin spots.new result }
-    ensures most { result ≤ DATAGRAM }
 {
     if same_key(part.key, key) {
         insert_fitting(spots, reach, part.offset, part.bytes.as_slice())
@@ -215,7 +207,6 @@ fn insert_parts(spots: &mut [Option<Spot>], parts: &[Part], key: FragmentKey) ->
     requires empty { (k : ℕ) → joined.spots_map spots.old k ≡ None }
     ensures table { IsReassembled spots.new result (joined.fragments_of key parts.now) }
     ensures within { IsWithin spots.new result }
-    ensures most { result ≤ DATAGRAM }
 {
     let mut reach = 0;
     for part in parts {
@@ -235,8 +226,7 @@ fn clear_all(spots: &mut [Option<Spot>])
 
 /// Puts the bytes below an offset into a buffer.
 fn put_bytes(bytes: &mut Buffer<DATAGRAM>, spots: &[Option<Spot>], reach: usize)
-    requires reach { reach ≤ DATAGRAM }
-    requires len { length spots.now ≡ DATAGRAM }
+    requires { IsWithin spots.now reach }
     ensures { bytes.new ≡ bytes_below (joined.spots_map spots.now) reach }
 {
     bytes.clear();

@@ -36,6 +36,8 @@ returns-clause-map c =
 
 pub returns-clause-within : goal.returns-clause-within
 returns-clause-within c = record {
+  len = omega arith;
+  most = omega arith;
   past = λ k h. still_none _ _ _ c.places.k k c.places.invariant (omega (arith, h))
       (c.requires.within.past k (omega (arith, h)));
   firsts =

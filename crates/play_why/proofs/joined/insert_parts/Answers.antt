@@ -9,10 +9,11 @@ pub loop-part-init : goal.loop-part-init
 loop-part-init c = record {
   table = record { map = c.requires.empty; reach_is = refl };
   within = record {
+    len = c.requires.len;
+    most = omega arith;
     past = λ k h. c.requires.empty k;
     firsts = λ k. subst (λ (held : Option Held). IfSome held (λ it. it.piece.first ≤ 0)) (sym (c.requires.empty k)) tt;
   };
-  most = omega arith;
 }
 
 pub loop-part-preserved : goal.loop-part-preserved
@@ -23,5 +24,4 @@ loop-part-preserved c = record {
       (c.insert_part-reach.ensures.table (fragments_of c.args.key (take c.loop-part.part-index c.args.parts.now))
       c.loop-part.invariant.table);
   within = c.insert_part-reach.ensures.within;
-  most = c.insert_part-reach.ensures.most;
 }
