@@ -26,11 +26,6 @@ use Rattle.play_why.specs.declared.outcome.Outcome.TheVariants as outcomes
 use Rattle.play_why.specs.declared.seen.Seen.{Seen}
 use Rattle.play_why.specs.declared.verdict.Verdict.{Verdict}
 
--- the record's packet and the reassembled datagram have the sizes of packets
-pub record IsSeen (r : Seen) : Type 0 where
-  pub packet : length r.packet.now ≤ 65_535
-  pub whole : length r.whole.now ≤ 65_535
-
 -- ---- causes
 
 -- Who is to blame for a cause: the capture, if it has only a part of the packet; the sender's network card, if that

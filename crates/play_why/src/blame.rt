@@ -2,7 +2,6 @@
 ghost use Rattle.std.specs.Prelude.{◌≡◌, ◌≤◌, length};
 ghost use Rattle.params.specs.declared.TheConstants.{IP_MAX_PACKET};
 ghost use Rattle.play_why.specs.Findings as findings;
-ghost use Rattle.play_why.specs.Findings.{IsSeen};
 ghost use Rattle.play_why.specs.Values as values;
 
 use crate::seen::Seen;
@@ -41,7 +40,6 @@ pub(crate) fn carried_of(packet: &[u8]) -> &[u8]
 /// Returns the datagram that a packet carries, or the reassembled one if there is one.
 #[tactic(auto, unfolding(crate::specs::Values::datagram_of))]
 pub(crate) fn datagram_of<'a>(seen: &Seen<'a>) -> &'a [u8]
-    requires { IsSeen seen.now }
     ensures is { result.now ≡ values.datagram_of seen.now.packet.now seen.now.whole.now }
     ensures most { length result.now ≤ IP_MAX_PACKET }
 {
@@ -91,7 +89,6 @@ fn blame_port(refused: Option<u64>) -> Blame
 /// Returns who is to blame for a cause.
 #[tactic(auto, unfolding(crate::specs::Findings::blame_of))]
 pub(crate) fn blame_of(seen: &Seen<'_>, why: Why) -> Blame
-    requires { IsSeen seen.now }
     ensures { result ≡ findings.blame_of seen.now why }
 {
     match why {

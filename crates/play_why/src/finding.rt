@@ -1,7 +1,6 @@
 //! For which causes a packet was dropped, with the values that show each.
 ghost use Rattle.std.specs.Prelude.{◌≡◌};
 ghost use Rattle.play_why.specs.Findings as findings;
-ghost use Rattle.play_why.specs.Findings.{IsSeen};
 
 use crate::blame::{Blame, blame_of};
 use crate::seen::Seen;
@@ -37,7 +36,6 @@ fn finding_if(
     why: Why,
     covered: &mut Buffer<COVERED>,
 ) -> Option<Finding>
-    requires { IsSeen seen.now }
     ensures { result ≡ findings.finding_if seen.now counted.now.before.now counted.now.after.now ours why }
 {
     if rose(why.counter(), counted.before, counted.after) {
@@ -58,7 +56,6 @@ pub(crate) fn findings_of(
     ours: u32,
     covered: &mut Buffer<COVERED>,
 ) -> [Option<Finding>; CAUSES]
-    requires { IsSeen seen.now }
     ensures { result ≡ findings.findings_of seen.now counted.now.before.now counted.now.after.now ours }
 {
     let whys = causes();

@@ -5,7 +5,6 @@ ghost use Rattle.flat_model.specs.Machine.Event.{Tick};
 ghost use Rattle.net_stack.specs.Boots.{IsUnbooted};
 ghost use Rattle.net_stack.specs.Stack.{state_of};
 ghost use Rattle.play_text.specs.Fates.{fate_of};
-ghost use Rattle.play_why.specs.Findings.{IsSeen};
 ghost use Rattle.play_why.specs.Judged as judged;
 ghost use Rattle.play_why.specs.Judged.{HasPassed, IsJudged, IsNew, IsOf, IsTick, Led, ReportsLost, ReportsUnfinished};
 ghost use Rattle.play_why.specs.Kept.{Remembers};
@@ -135,8 +134,7 @@ fn tick_all(machine: &mut Stack, count: u64)
 fn seen_by<'a>(parts: &'a Parts, arrival: &Arrival<'_>, packet: &'a [u8]) -> Seen<'a>
     requires same { packet.now ≡ arrival.now.packet.now }
     requires short { length packet.now ≤ IP_MAX_PACKET }
-    ensures is { IsOf arrival.now parts.now result }
-    ensures sizes { IsSeen result }
+    ensures { IsOf arrival.now parts.now result }
 {
     Seen {
         number: arrival.number,
@@ -151,7 +149,6 @@ fn seen_by<'a>(parts: &'a Parts, arrival: &Arrival<'_>, packet: &'a [u8]) -> See
 
 /// Puts a record into a buffer.
 fn put_record(text: &mut Buffer<FATE>, layout: Layout, report: &Report<'_>, strings: &mut Strings)
-    requires { length report.now.seen.now.packet.now ≤ IP_MAX_PACKET }
     ensures { IsPrinted layout report.now.time report.now.verdict.now text.new }
 {
     match layout {

@@ -1,6 +1,5 @@
 //! A record as a JSON object.
 ghost use Rattle.std.specs.Prelude.{◌≡◌, ◌+◌, ◌*◌, ◌≤◌, ◌++◌, length};
-ghost use Rattle.params.specs.declared.TheConstants.{IP_MAX_PACKET};
 ghost use Rattle.play_why.specs.Objects as objects;
 
 use crate::FATE;
@@ -324,7 +323,6 @@ fn bytes_after_arrow(string: &Buffer<STRING>) -> &[u8]
 
 /// Puts a record into a buffer as an object.
 pub(crate) fn put_object(text: &mut Buffer<FATE>, report: &Report<'_>, strings: &mut Strings)
-    requires { length report.now.seen.now.packet.now ≤ IP_MAX_PACKET }
     ensures { objects.IsObject report.now.time report.now.verdict.now text.new }
 {
     let Strings {

@@ -2,7 +2,6 @@
 ghost use Rattle.std.specs.Prelude.{◌≡◌, ◌≤◌, Some, None, length};
 ghost use Rattle.net_stack.specs.Stack.{state_of};
 ghost use Rattle.play_why.specs.Findings as findings;
-ghost use Rattle.play_why.specs.Findings.{IsSeen};
 ghost use Rattle.play_why.specs.Objects.{outcome_words};
 
 use crate::blame::{Blame, blame_of};
@@ -36,7 +35,6 @@ fn is_card(blame: Blame) -> bool
 
 /// Returns whether a packet was dropped for the checksum that the sender's card should have filled in.
 fn is_offload(seen: &Seen<'_>, counted: &Counted<'_>) -> bool
-    requires { IsSeen seen.now }
     ensures { result ≡ findings.is_offload seen.now counted.now.before.now counted.now.after.now }
 {
     rose(Why::UdpBadSum.counter(), counted.before, counted.after)
@@ -72,7 +70,6 @@ fn outcome_by(
 
 /// Returns the outcome of a packet, by the counters before and after it, and by the stack after it.
 pub(crate) fn outcome_of(seen: &Seen<'_>, counted: &Counted<'_>, here: &Stack) -> Outcome
-    requires { IsSeen seen.now }
     ensures { result ≡ findings.outcome_in seen.now counted.now.before.now counted.now.after.now (state_of here.now) }
 {
     outcome_by(

@@ -1,4 +1,6 @@
 //! A record of a capture, as the judge gets it.
+ghost use Rattle.std.specs.Prelude.{◌≤◌, length};
+ghost use Rattle.params.specs.declared.TheConstants.{IP_MAX_PACKET};
 
 /// A record with an IPv4 packet that has arrived at a host.
 #[derive(Clone, Copy)]
@@ -17,4 +19,6 @@ pub(crate) struct Seen<'a> {
     pub(crate) filled: bool,
     /// The record of the ICMP error with which the host refused it, if there is one.
     pub(crate) refused: Option<u64>,
+    ghost packet_len: { length packet.now ≤ IP_MAX_PACKET },
+    ghost whole_len: { length whole.now ≤ IP_MAX_PACKET },
 }

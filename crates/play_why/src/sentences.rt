@@ -245,9 +245,7 @@ fn add_reason(text: &mut Buffer<FATE>, seen: &Seen<'_>, finding: Finding) {
 }
 
 /// Puts the line of a record into a buffer, with a line below it for each cause for which its packet was dropped.
-pub(crate) fn put_lines(text: &mut Buffer<FATE>, report: &Report<'_>)
-    requires { length report.now.seen.now.packet.now ≤ IP_MAX_PACKET }
-{
+pub(crate) fn put_lines(text: &mut Buffer<FATE>, report: &Report<'_>) {
     text.clear();
     add(text, &[Long(report.seen.number), Text(b"  ")]);
     add_time(text, report.time);

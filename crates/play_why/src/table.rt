@@ -1,7 +1,6 @@
 //! How many packets were dropped for which cause, and the first record of each.
 ghost use Rattle.std.specs.Prelude.{◌≡◌, if◌then◌else◌};
 ghost use Rattle.play_text.specs.Tables.{once_more};
-ghost use Rattle.play_why.specs.Findings.{IsSeen};
 ghost use Rattle.play_why.specs.Verdicts as verdicts;
 
 use crate::FATE;
@@ -32,7 +31,6 @@ pub struct Verdicts {
 
 /// Returns whether a packet was dropped for a cause for which this one is to blame.
 fn is_blamed(blame: Blame, seen: &Seen<'_>, before: &Counters, after: &Counters, why: Why) -> bool
-    requires { IsSeen seen.now }
     ensures { result ≡ verdicts.is_blamed blame seen.now before.now after.now why }
 {
     rose(why.counter(), before, after)
@@ -55,7 +53,6 @@ fn counted_if(count: Count, so: bool, number: u64) -> Count
 /// Returns a count after a record, whose packet counts once for each cause for which `blame` is to blame.
 #[tactic(auto, unfolding(crate::specs::Verdicts::blamed_on))]
 fn blamed(blame: Blame, seen: &Seen<'_>, before: &Counters, after: &Counters, count: Count) -> Count
-    requires { IsSeen seen.now }
     ensures { result ≡ verdicts.blamed_on blame seen.now before.now after.now count }
 {
     let mut now = count;
@@ -68,7 +65,6 @@ fn blamed(blame: Blame, seen: &Seen<'_>, before: &Counters, after: &Counters, co
 
 /// Returns a row after a record.
 fn row_judged(row: Row, seen: &Seen<'_>, before: &Counters, after: &Counters) -> Row
-    requires { IsSeen seen.now }
     ensures { result ≡ verdicts.row_judged seen.now before.now after.now row }
 {
     if is_blamed(Blame::Packet, seen, before, after, row.why) {
@@ -84,7 +80,6 @@ fn row_judged(row: Row, seen: &Seen<'_>, before: &Counters, after: &Counters) ->
 /// Returns all rows after a record.
 #[tactic(auto, unfolding(crate::specs::Verdicts::causes_judged))]
 fn causes_judged(table: Table, seen: &Seen<'_>, before: &Counters, after: &Counters) -> Table
-    requires { IsSeen seen.now }
     ensures { result ≡ verdicts.causes_judged seen.now before.now after.now table }
 {
     let mut rows = table.rows;
@@ -110,7 +105,6 @@ impl Verdicts {
 
     /// Counts the packet of a record once for each cause for which it was dropped, by who is to blame.
     pub(crate) fn count_record(&mut self, seen: &Seen<'_>, before: &Counters, after: &Counters)
-        requires { IsSeen seen.now }
         ensures { self.new ≡ verdicts.judged seen.now before.now after.now self.old }
     {
         self.causes = causes_judged(self.causes, seen, before, after);

@@ -1,7 +1,6 @@
 //! What is in a packet that was dropped, and what would be right.
 ghost use Rattle.std.specs.Prelude.{◌≡◌, ◌≤◌, length};
 ghost use Rattle.params.specs.declared.TheConstants.{IP_HEADER, IP_MAX_PACKET, UDP_HEADER};
-ghost use Rattle.play_why.specs.Findings.{IsSeen};
 ghost use Rattle.play_why.specs.Values as values;
 
 use crate::blame::datagram_of;
@@ -105,7 +104,6 @@ fn is_of_udp(why: Why) -> bool
 /// Returns the value that shows why a packet was dropped for this cause. `covered` is a buffer for the work.
 #[tactic(auto, unfolding(crate::specs::Values::cause_value))]
 pub(crate) fn value_of(why: Why, seen: &Seen<'_>, ours: u32, covered: &mut Buffer<COVERED>) -> Value
-    requires { IsSeen seen.now }
     ensures { result ≡ values.cause_value why seen.now.packet.now
         (values.datagram_of seen.now.packet.now seen.now.whole.now) ours }
 {

@@ -1,6 +1,6 @@
 //! The verdict on a packet: what a stack did with it, and why.
 ghost use Rattle.net_stack.specs.Stack.{state_of};
-ghost use Rattle.play_why.specs.Findings.{IsSeen, IsVerdict};
+ghost use Rattle.play_why.specs.Findings.{IsVerdict};
 
 use crate::delivered::{Delivered, deliveries_of};
 use crate::ends::{Ends, ends_of};
@@ -43,7 +43,6 @@ impl Verdict {
         host: &Host,
         covered: &mut Buffer<COVERED>,
     ) -> Verdict
-        requires { IsSeen seen.now }
         ensures { IsVerdict seen.now counted.now.before.now counted.now.after.now (state_of host.now.stack)
             host.now.address result }
     {

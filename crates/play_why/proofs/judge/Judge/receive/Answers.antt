@@ -30,7 +30,7 @@ returns c =
           subst (λ (a : Counters). Joins packet a here.counters c.gather.new.self c.join.new.self) before.ensures
           (subst (λ (b : Counters). Joins packet before.result b c.gather.new.self c.join.new.self) after.ensures
           c.join.ensures);
-      is = c.seen_by-seen.ensures.is;
+      is = c.seen_by-seen.ensures;
       verdict_is =
           subst (λ (a : Counters). IsVerdict seen a here.counters here old.host.address verdict) before.ensures
           (subst (λ (b : Counters). IsVerdict seen before.result b here old.host.address verdict) after.ensures
