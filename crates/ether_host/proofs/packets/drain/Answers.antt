@@ -1,34 +1,39 @@
-use Rattle.std.proofs.Common.{◌≡◌, ℕ, ◌≤◌, List, [], take, drop, sym, ap, ◌∙◌, arith}
+use Rattle.std.proofs.Common.{◌≡◌, ℕ, ◌≤◌, List, [], Some, take, drop, sym, ap, ◌∙◌, arith}
 use Rattle.flat_model.specs.Amounts.Weight.{Item}
 use Rattle.flat_model.specs.Machine.State.{State}
 use Rattle.flat_ether.specs.Hosts.{Drained, drained, with_output_left}
 use Rattle.net_stack.specs.Stack.{state_of}
 use Rattle.ether_host.specs.Inside.{link_seen}
 use Rattle.ether_host.proofs.Giving.{ended, same_rest, stayed, went}
+use Rattle.ether_host.proofs.packets.drain.Goals.{In-Some-send}
 use Rattle.ether_host.proofs.packets.drain.Goals as goal
+
+-- a packet is sent
+sent : (c : In-Some-send) → drained (state_of c.args.stack.now).output (link_seen c.args.layer.now)
+    ≡ record {
+      frame = Some (take c.in-Some-send.len c.send.new.buffer);
+      output = (state_of c.take.new.stack).output;
+      link = link_seen c.send.new.self;
+    }
+sent c =
+    went _ (state_of c.loop-len.stack) (state_of c.take.new.stack) (take c.in-Some.len (drop 14 c.take.new.buffer))
+    (link_seen c.loop-len.layer) (link_seen c.send.new.self) c.loop-len.invariant.same c.in-Some.ensures.step
+    c.in-Some-send.ensures.link _ c.in-Some-send.ensures.frame
 
 pub returns-in-Some-send-clause-frame : goal.returns-in-Some-send-clause-frame
 returns-in-Some-send-clause-frame c =
-    sym (ap (λ (d : Drained). d.frame)
-    (went _ (state_of c.loop-len.stack) (state_of c.take.new.stack) (take c.in-Some.len (drop 14 c.take.new.buffer))
-    (link_seen c.loop-len.layer) (link_seen c.send.new.self)
-    c.loop-len.invariant.same c.in-Some.ensures.step c.in-Some-send.ensures.link _ c.in-Some-send.ensures.frame))
+    sym (ap (λ (d : Drained). d.frame) (sent (goal.at.returns-in-Some-send-clause-frame c).In-Some-send))
 
 pub returns-in-Some-send-clause-link : goal.returns-in-Some-send-clause-link
 returns-in-Some-send-clause-link c =
-    sym (ap (λ (d : Drained). d.link)
-    (went _ (state_of c.loop-len.stack) (state_of c.take.new.stack) (take c.in-Some.len (drop 14 c.take.new.buffer))
-    (link_seen c.loop-len.layer) (link_seen c.send.new.self)
-    c.loop-len.invariant.same c.in-Some.ensures.step c.in-Some-send.ensures.link _ c.in-Some-send.ensures.frame))
+    sym (ap (λ (d : Drained). d.link) (sent (goal.at.returns-in-Some-send-clause-link c).In-Some-send))
 
 pub returns-in-Some-send-clause-stack : goal.returns-in-Some-send-clause-stack
 returns-in-Some-send-clause-stack c =
     let t : State = state_of c.take.new.stack in
     sym (
     ap (λ (d : Drained). with_output_left (state_of c.args.stack.now) d.output)
-    (went _ (state_of c.loop-len.stack) t (take c.in-Some.len (drop 14 c.take.new.buffer)) (link_seen c.loop-len.layer)
-    (link_seen c.send.new.self)
-    c.loop-len.invariant.same c.in-Some.ensures.step c.in-Some-send.ensures.link _ c.in-Some-send.ensures.frame)
+    (sent (goal.at.returns-in-Some-send-clause-stack c).In-Some-send)
     ∙ c.loop-len.invariant.rest t.output
     ∙ same_rest (state_of c.loop-len.stack) t (take c.in-Some.len (drop 14 c.take.new.buffer)) c.in-Some.ensures.step
     t.output
