@@ -38,7 +38,7 @@ pub use link_script::DEFAULTS;
 pub use outcome::{DROPS, REPLY_LINE, put_drops};
 pub use play_pcap::{CaptureFault, Folder, NoFolder, RECORD, Trace};
 pub use play_text::Form;
-pub use print::{LABELLED, NAME, OUTPUT};
+pub use print::{NAME, OUTPUT};
 pub use printer::{Printer, Style};
 pub use read::ask_of;
 pub use report::{Report, bytes_of, zero_bytes};

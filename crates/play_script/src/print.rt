@@ -7,8 +7,5 @@ use script_loop::HELD;
 /// The most bytes of a script's name that are printed.
 pub const NAME: usize = 4096;
 
-/// The size of a buffer for a line after the name of its host.
-pub const LABELLED: usize = LONGEST + 34;
-
 /// The size of the output buffer: for the longest text of a line, six bytes for each byte in JSON, after `HELD` bytes.
-pub const OUTPUT: usize = HELD + 6 * (NAME + LABELLED + LONGEST + REPLY_LINE + SHOWN) + 512;
+pub const OUTPUT: usize = HELD + 6 * (NAME + 2 * LONGEST + REPLY_LINE + SHOWN) + 716;

@@ -9,7 +9,7 @@ ghost use Rattle.play_script.specs.Views.{expected_on};
 
 use crate::fits::meets;
 use crate::line::{Line, has_text};
-use crate::print::{LABELLED, NAME, OUTPUT};
+use crate::print::{NAME, OUTPUT};
 use crate::report::{Report, bytes_of};
 use play_forms::ADVICE;
 use play_line::SyntaxError;
@@ -125,25 +125,18 @@ impl Printer {
         self.sound = false;
     }
 
-    /// Appends the line and its reply. `shown` is the line as it's printed.
-    pub fn put_labelled(
-        &mut self,
-        text: &mut Buffer<OUTPUT>,
-        shown: &[u8],
-        line: &Line,
-        report: &Report,
-    )
-        requires held { length text.old ≤ HELD }
-        requires shown { length shown.now ≤ LABELLED }
+    /// Appends the line and its reply.
+    pub fn put_reply_line(&mut self, text: &mut Buffer<OUTPUT>, line: &Line, report: &Report)
+        requires { length text.old ≤ HELD }
         ensures text { text.new ≡ text.old ++ reply_line_text self.old.form self.old.texts self.old.name self.old.number
-            shown.now (expected_on line.now) report.now.reply_line report.now.below }
+            line.now.shown (expected_on line.now) report.now.reply_line report.now.below }
         ensures printer { self.new
             ≡ record self.old { sound = self.old.sound && is_sound (expected_on line.now) report.now.reply_line } }
     {
         let met = is_met(line, bytes_of(&report.reply_line));
         let outcome = Outcome {
             number: self.number,
-            line: shown,
+            line: bytes_of(&line.shown),
             reply: bytes_of(&report.reply_line),
             below: bytes_of(&report.below),
             texts: self.texts,
@@ -153,16 +146,5 @@ impl Printer {
         };
         play_text::put_outcome(text, self.form, bytes_of(&self.name), &outcome);
         self.sound = both(self.sound, met);
-    }
-
-    /// Appends the line as it's written, and its reply.
-    pub fn put_reply_line(&mut self, text: &mut Buffer<OUTPUT>, line: &Line, report: &Report)
-        requires { length text.old ≤ HELD }
-        ensures text { text.new ≡ text.old ++ reply_line_text self.old.form self.old.texts self.old.name self.old.number
-            line.now.shown (expected_on line.now) report.now.reply_line report.now.below }
-        ensures printer { self.new
-            ≡ record self.old { sound = self.old.sound && is_sound (expected_on line.now) report.now.reply_line } }
-    {
-        self.put_labelled(text, bytes_of(&line.shown), line, report);
     }
 }
