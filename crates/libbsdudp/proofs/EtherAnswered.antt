@@ -1,5 +1,5 @@
 -- The effect of a call on the stack and the link of two boxes is its effect on those of the handles.
-use Rattle.std.proofs.Common.{◌≡◌, ◌==◌, if◌then◌else◌, true, false, Bool, ℤ, ◌∙◌, Option, None, Some, option_map, eqb-true, ap, refl, sym, subst}
+use Rattle.std.proofs.Common.{◌≡◌, ◌==◌, if◌then◌else◌, true, false, Bool, ℤ, ◌∙◌, Option, None, Some, option_map, ap, refl, sym, subst}
 use mir.Syntax.{w32}
 use mir.Val.{SFits, of_z, to_z}
 use Rattle.std.proofs.lemmas.Int.{to_z-of_z}
@@ -17,7 +17,6 @@ use Rattle.libbsdudp.specs.Held.{Boxed}
 use Rattle.libbsdudp.specs.LinkHandleLends.{with_layer}
 use Rattle.libbsdudp.specs.LinkHeld.{LinkBoxed}
 use Rattle.libbsdudp.proofs.Answered.{has_new, held_stack, no_stack_in}
-use Rattle.libbsdudp.proofs.LinkBoxes.{has}
 
 pub host_answered : {s_before s_after : Option StackView} {l_before l_after : Option LinkState} (answer : ℤ)
     (idle : Type 0)
@@ -54,15 +53,6 @@ host_answered_by {s_before = s_before} {s_after = s_after} {l_before = l_before}
     s2 l l2 fits s_is l_is s_will l_will did =
     subst (λ (z : ℤ). AnswersHost s_before l_before z s_after l_after idle (Call z)) (sym (to_z-of_z w32 answer fits))
     (host_answered answer idle (Call answer) s s2 l l2 s_is l_is s_will l_will did)
-
--- the handle of a link with a mark has a link
-pub held_link : (k : LinkHandle) → (k.live == 1651731563) ≡ true → (l : LinkState) × (handle_link k ≡ Some l)
-held_link k live =
-    let kept = has k.held.kept (k.full (eqb-true k.live 1651731563 live)) in (
-      link_seen kept.0.layer,
-      ap (λ (b : Bool). if b then option_map (λ x. link_seen x.layer) k.held.kept else None) live
-          ∙ ap (option_map (λ x. link_seen x.layer)) kept.1,
-    )
 
 -- one with a link has the new value of its link after a call
 pub has_new_link : (k : LinkHandle) (v : LinkBoxed) → (k.live == 1651731563) ≡ true
