@@ -8,6 +8,10 @@
 
 ghost use Rattle.std.specs.Prelude.{◌≡◌, ◌+◌, ◌-◌, ◌*◌, ◌^◌};
 
+mod ways;
+
+pub use ways::{appends_fragments, indexes_fragments, indexes_sockets, reads_in_place};
+
 /// The size of an mbuf in bytes, including its header (volume 2, chapter 2).
 pub const MSIZE: u32 = 128;
 /// The size of an mbuf's header in bytes, `m_hdr` (volume 2, chapter 2).
