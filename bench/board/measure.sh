@@ -1,7 +1,7 @@
-# Echoes on a Cortex-M3, QEMU's mps2-an385: our library in each build, and lwIP; and, unless BRIEF is set, the library's
-# bytes on each processor and by crate, and the call stack of each call. The tables are those of docs/memory.md. QEMU
-# counts instructions (-icount), so its figures are the same on each machine. LWIP names a folder with lwIP's sources;
-# CORE a folder with libraries of portable/core, as CORE/cortex-m3-Os; PORTABLE one with bsdudp_portable.c.
+# Echoes on a Cortex-M3, QEMU's mps2-an385: our library in each build, and lwIP; and, unless BRIEF is set, hosts on an
+# Ethernet, and the library's bytes on each processor (docs/memory.md). QEMU counts instructions (-icount), so its figures
+# are the same on each machine. LWIP names a folder with lwIP's sources; CORE a folder with libraries of portable/core,
+# such as CORE/cortex-m3-Os; PORTABLE one with bsdudp_portable.c.
 . "$bench/peers/measure.sh"
 
 board=$bench/../portable/board
@@ -73,13 +73,10 @@ lwip_objects() { # WORK FLAGS FILE..
     done
 }
 
-lwip_core=(def inet_chksum init ip mem memp netif pbuf stats timeouts udp
-    ipv4/{ip4,ip4_addr,ip4_frag,icmp,etharp} ../netif/ethernet)
-
 # lwIP's two echoes.
 board_lwip() { # WORK FLAG..
     local work=$1 objects how=("-I$LWIP/src/include" "${@:2}") name
-    lwip_objects "$work" "${how[*]}" "${lwip_core[@]}"
+    lwip_objects "$work" "${how[*]}" "${lwip_host[@]}"
     for name in "" COPIES; do
         board_object "$bench/board/lwip.c" "$work/lwip.o" "${how[@]}" ${name:+-D$name}
         board_program "$work" "$work/lwip.elf" "$work/lwip.o" "${objects[@]}"
@@ -91,7 +88,7 @@ board_lwip() { # WORK FLAG..
 # linked.
 board_lwip_sockets() { # WORK
     local work=$1 objects how=("-I$LWIP/src/include" -DSOCKETS) text data bss text0 data0 bss0
-    lwip_objects "$work" "${how[*]}" "${lwip_core[@]}" sys ../api/{api_lib,api_msg,err,netbuf,sockets,tcpip}
+    lwip_objects "$work" "${how[*]}" "${lwip_host[@]}" sys ../api/{api_lib,api_msg,err,netbuf,sockets,tcpip}
     board_object "$bench/board/lwip.c" "$work/lwip.o" "${how[@]}"
     board_program "$work" "$work/lwip.elf" "$work/lwip.o" "${objects[@]}" -Wl,--unresolved-symbols=ignore-all
     read -r text data bss < <(bytes_of "$work/lwip.elf")
@@ -156,33 +153,6 @@ board_processors() { # WORK
     done
 }
 
-# The bytes by crate: each function's, with those inlined into it. The rest are constants.
-board_crates() { # WORK
-    local name size made all
-    echo
-    table_row Crate -Os
-    echo '|---|---:|'
-    made=$(core_of "$1" cortex-m3 -Os)/libbsdudp.a
-    all=$(bytes_of "$made" | cut -d' ' -f1)
-    arm-none-eabi-nm -S -t d --defined-only "$made" | awk -v left="$all" 'NF == 4 && $3 ~ /[tT]/ {
-        crate = $4 ~ /::/ ? substr($4, 1, index($4, "::") - 1) : $4 ~ /^bsdudp_core_/ ? "libbsdudp, the exports" : \
-            $4 ~ /plain|bsdmove/ ? "portable/c/plain.c" : "capi/src"
-        bytes[crate] += $2
-        left -= $2
-    } END {for (it in bytes) print bytes[it], it; print left, "constants"}' | sort -rn | while read -r size name; do
-        table_row "$name" "$size"
-    done
-}
-
-# The call stack of each call.
-board_stacks() { # WORK
-    local work=$1
-    "$board/build" "$(core_of "$work" cortex-m3 -Os)" "$work/board"
-    echo
-    "$board/stacks" "$work/board/painted.elf" timeout 900 qemu-system-arm -M mps2-an385 -display none \
-        -monitor none -serial null -semihosting-config enable=on,target=native -kernel
-}
-
 measure_board() { # WORK
     local work=$1 tool
     for tool in arm-none-eabi-gcc qemu-system-arm; do
@@ -195,6 +165,4 @@ measure_board() { # WORK
     [ -z "${BRIEF:-}" ] || return 0
     board_hosts "$work"
     board_processors "$work"
-    board_crates "$work"
-    board_stacks "$work"
 }

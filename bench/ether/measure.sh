@@ -1,5 +1,5 @@
 # A host on an Ethernet compared with the bare stack, and with lwIP with its etharp and icmp, on x86-64 at -O3:
-# instructions of an echo by the programs of bench/board, counted by callgrind. The table is that of docs/c.md.
+# instructions of an echo by the programs of bench/board, counted by callgrind.
 . "$bench/peers/measure.sh"
 
 # Builds a program for this host.
@@ -24,7 +24,7 @@ ether_row() { # WORK NAME PROGRAM
 }
 
 measure_ether() { # WORK
-    local work=$1 core files=() file
+    local work=$1 file files
     command -v valgrind > /dev/null || { echo "skipped: no valgrind"; return 0; }
     "$bench/../capi/build" "$work/lib"
     echo "| x86-64, \`-O3\` | 2 bytes | 1,472 | 4,000 | ARP request | ping of 56 |"
@@ -34,13 +34,9 @@ measure_ether() { # WORK
     ether_program "$work" host -DETHER "$bench/board/bench.c" "$work/lib/libbsdudp.a"
     ether_row "$work" "the host" host
     lwip_sources "$work" || { echo "lwIP's sources aren't available by apt-get: its rows are skipped"; return 0; }
-    core=$LWIP/src/core
-    for file in def inet_chksum init ip mem memp netif pbuf stats timeouts udp \
-        ipv4/{ip4,ip4_addr,ip4_frag,icmp,etharp} ../netif/ethernet; do
-        files+=("$core/$file.c")
-    done
+    files=("${lwip_host[@]/#/$LWIP/src/core/}")
     for file in "" -DCOPIES; do
-        ether_program "$work" lwip -DETHER $file -I "$LWIP/src/include" "$bench/board/lwip.c" "${files[@]}"
+        ether_program "$work" lwip -DETHER $file -I "$LWIP/src/include" "$bench/board/lwip.c" "${files[@]/%/.c}"
         ether_row "$work" "lwIP 2.1.3${file:+, with two more copies}" lwip
     done
 }

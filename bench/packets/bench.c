@@ -54,11 +54,6 @@ static bool refused(int column, uint64_t turns)
     return bsdudp_send_refused(bytes, LENS[column], false, (uint32_t)turns) == turns;
 }
 
-static bool refused_to_a_connected_socket(int column, uint64_t turns)
-{
-    return bsdudp_send_refused(bytes, LENS[column], true, (uint32_t)turns) == turns;
-}
-
 /* The packet is read by all of this many sockets. */
 static bool is_read(size_t len, uint8_t sockets, uint64_t turns)
 {
@@ -158,7 +153,6 @@ static const Row ROWS[] = {
     {"broadcast, read by one socket", broadcast_to_one},
     {"broadcast, read by three sockets", broadcast_to_three},
     {"sendto, output queue full", refused},
-    {"sendto, connected, output queue full", refused_to_a_connected_socket},
 #ifdef PACKETS_LWIP
     {"lwIP: delivered and read", lwip_received},
     {"lwIP: no such port", lwip_no_port},

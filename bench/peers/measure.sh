@@ -5,15 +5,16 @@ lwip_sources() { # WORK
     LWIP=${LWIP:-$("$bench/../tools/debian-source" "$1" lwip 2> "$1/lwip.log")} && [ -f "$LWIP/src/core/udp.c" ]
 }
 
+# Its files for UDP over IPv4; and those for a host with counters, on a link of packets or of frames.
+lwip_core=(def inet_chksum init ip mem memp netif pbuf udp ipv4/{ip4,ip4_addr,ip4_frag})
+lwip_host=(def inet_chksum init ip mem memp netif pbuf stats timeouts udp
+    ipv4/{ip4,ip4_addr,ip4_frag,icmp,etharp} ../netif/ethernet)
+
 # One build of lwIP with lwip.c, as a shared library that exports only names that begin with its own.
 build_lwip() { # WORK NAME FLAG..
-    local core="$LWIP/src/core" name="$2" library="$1/lib$2.so" file
-    local files=("$bench/peers/lwip.c" "$bench/peers/sum.c")
-    shift 2
-    for file in def inet_chksum init ip mem memp netif pbuf udp; do files+=("$core/$file.c"); done
-    for file in ip4 ip4_addr ip4_frag; do files+=("$core/ipv4/$file.c"); done
-    "${CC:-gcc}" "$@" -shared -fPIC -fvisibility=hidden "-DPEER=$name" -I "$bench/peers" -I "$LWIP/src/include" \
-        -o "$library" "${files[@]}"
+    local files=("${lwip_core[@]/#/$LWIP/src/core/}")
+    "${CC:-gcc}" "${@:3}" -shared -fPIC -fvisibility=hidden "-DPEER=$2" -I "$bench/peers" -I "$LWIP/src/include" \
+        -o "$1/lib$2.so" "$bench/peers/lwip.c" "$bench/peers/sum.c" "${files[@]/%/.c}"
 }
 
 # The flags of its best build: for speed, with the port's sum, and with pools instead of its heap.

@@ -5,12 +5,9 @@
 
 # lwIP's host, with the options and the port of bench/peers.
 build_lwip_echo() { # WORK NAME FLAG..
-    local core="$LWIP/src/core" program="$1/$2" file
-    local files=("$bench/tun/lwip_echo.c" "$bench/peers/sum.c")
-    shift 2
-    for file in def inet_chksum init ip mem memp netif pbuf udp; do files+=("$core/$file.c"); done
-    for file in ip4 ip4_addr ip4_frag; do files+=("$core/ipv4/$file.c"); done
-    "${CC:-gcc}" "$@" -I "$bench/peers" -I "$LWIP/src/include" -o "$program" "${files[@]}"
+    local files=("${lwip_core[@]/#/$LWIP/src/core/}")
+    "${CC:-gcc}" "${@:3}" -I "$bench/peers" -I "$LWIP/src/include" -o "$1/$2" "$bench/tun/lwip_echo.c" \
+        "$bench/peers/sum.c" "${files[@]/%/.c}"
 }
 
 measure_tun() { # WORK
