@@ -251,7 +251,7 @@ SESSIONS = {
             "YOUR_STACK..": "",
             "--report out": "--report out --only udp.data",
         },
-        shown="it reports that no datagram comes:",
+        shown="reports that no datagram comes:",
         statuses={"bsdudp-conform run --report out -- ./adapter": 1},
         needs=["scapy", "cc"],
     ),
