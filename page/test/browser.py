@@ -3,7 +3,6 @@ the expected ones. Its console must stay empty, and it may not use the network. 
 that take input. Nothing may overlap or be cut off at widths of 360, 640, 768 and 1,600 pixels, and each text must have
 a contrast of at least 4.5, in light and in dark. All elements that take input have a name in the accessibility tree.
 tests/page/test_page.py runs it."""
-import base64
 import json
 import pathlib
 import shutil
@@ -18,8 +17,6 @@ WIDTHS = {360: 800, 640: 450, 768: 1024, 1600: 1000}
 DARK = [360, 1600]
 # The width of a window of 1,280 pixels at a zoom of 200 %.
 DOUBLE = 640
-# The screenshots that are kept.
-SHOT = [("light", 1600), ("dark", 1600), ("light", 360)]
 NAMES = ["chromium", "chromium-browser", "google-chrome"]
 # The time limit in seconds for a reply of Chromium.
 END = 1200
@@ -66,9 +63,6 @@ class Browser:
         size = {"width": width, "height": WIDTHS[width], "deviceScaleFactor": scale, "mobile": False}
         self.ask("Emulation.setDeviceMetricsOverride", **size)
 
-    def shoot(self, file):
-        file.write_bytes(base64.b64decode(self.ask("Page.captureScreenshot", format="png")["data"]))
-
     def complaints(self):
         """Returns the console's messages, the exceptions, and the network requests."""
         yield from (f"the console: {it['message'][:200]}" for it in self.driver.get_log("browser"))
@@ -112,7 +106,7 @@ def play_all(browser, examples, lessons):
             yield f"{script}: {fault}"
 
 
-# The contents of the screenshots: a lesson, and the selected line.
+# The views whose layout and print are tested: a script, and the selected line.
 VIEWS = [
     ("run", "05_fragments_and_a_hole", 8),
     ("chain", "03_sharing_without_copying", 6),
@@ -164,9 +158,8 @@ BESIDE = {
 }
 
 
-def look(browser, shots, name, picture=None):
-    """Returns the faults of the present view, in both themes and at each width. `picture` selects the part that is
-    below the others on a narrow page."""
+def look(browser, name):
+    """Returns the faults of the present view, in both themes and at each width."""
     yield from unnamed(browser, name)
     for theme in ("light", "dark"):
         browser.run(f"setTheme('{theme}')")
@@ -174,36 +167,30 @@ def look(browser, shots, name, picture=None):
             browser.resize(width)
             for fault in browser.run("faultsOfLayout()"):
                 yield f"{name}, {width} pixels, {theme}: {fault}"
-            if (theme, width) in SHOT:
-                browser.shoot(shots / f"{name}-{theme}-{width}.png")
-            if picture and width == 360:
-                browser.run(f"document.querySelector('{picture}').scrollIntoView()")
-                browser.shoot(shots / f"{name}-{theme}-{width}-picture.png")
 
 
-def look_beside(browser, shots):
+def look_beside(browser):
     """Tests the card at the beginning, a question, the editor, an exercise with its questions, the forms, and all
     queues."""
     for name, code in BESIDE.items():
         browser.run(code)
-        yield from look(browser, shots, name)
+        yield from look(browser, name)
     browser.run("anew(); setTheme('light')") if browser.run("isExercise()") else browser.run("setTheme('light')")
 
 
-def look_all(browser, shots):
+def look_all(browser):
     """Tests the page's layout and colours at each width."""
     for command, name, line in VIEWS:
         browser.run(f"open({json.dumps(command)}, {{ name: {json.dumps(name)}, place: {line} }}); revealAll()")
         yield from printed(browser, name)
-        yield from look(browser, shots, name, ".wide" if command == "chain" else None)
-    yield from look_beside(browser, shots)
+        yield from look(browser, name)
+    yield from look_beside(browser)
     for dialog in ("make", "about"):
         browser.run(f"open('run', {{ name: '01_a_datagram' }}); byId('{dialog}').click()")
         for width in WIDTHS:
             browser.resize(width)
             for fault in browser.run("faultsOfLayout()"):
                 yield f"{dialog}, {width} pixels: {fault}"
-        browser.shoot(shots / f"{dialog}.png")
         browser.run("document.querySelector('dialog[open]').close()")
 
 
@@ -256,9 +243,8 @@ def try_keys(browser):
     yield from browser.run(f"faultsOfCapture({json.dumps(CAPTURE)})")
 
 
-def faults_of_page(browser, examples, lessons, shots):
-    """Returns the faults of the page that is open. Screenshots are kept in the folder `shots`."""
-    shots.mkdir(parents=True, exist_ok=True)
+def faults_of_page(browser, examples, lessons):
+    """Returns the faults of the page that is open."""
     browser.resize(1600)
-    faults = [*play_all(browser, examples, lessons), *look_all(browser, shots), *try_keys(browser)]
+    faults = [*play_all(browser, examples, lessons), *look_all(browser), *try_keys(browser)]
     return [*faults, *browser.complaints()]

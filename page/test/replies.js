@@ -434,31 +434,6 @@ function tryRecords(engine, name, digits, wanted, wrong) {
   }
 }
 
-// A capture by tcpdump, in three forms that Wireshark's editcap writes, is read as tshark reads it.
-function tryTshark(engine, real) {
-  const run = (tool, ...words) => child.spawnSync(tool, words, { encoding: "utf8" });
-  if (run("tshark", "-v").status !== 0 || run("editcap", "-v").status !== 0) {
-    console.error("the page: tshark or editcap isn't installed, so captures aren't compared with it");
-    return;
-  }
-  const folder = fs.mkdtempSync(path.join(os.tmpdir(), "captures"));
-  try {
-    for (const [kind, ...words] of [["pcap"], ["pcapng"], ["pcapng", "-s", "60"], ["nsecpcap", "-s", "60"]]) {
-      const file = path.join(folder, "a"), fields = ["number", "time_epoch", "cap_len", "len"];
-      run("editcap", "-F", kind, ...words, real, file);
-      const told = run("tshark", "-r", file, "-T", "fields", ...fields.flatMap(it => ["-e", `frame.${it}`])).stdout;
-      const wanted = told.trim().split("\n").map(line => line.split("\t").map(Number));
-      const got = engine.records(new Uint8Array(fs.readFileSync(file))).records
-        .map(it => [it.number, Number(it.time) / 1e9, it.captured, it.whole]);
-      const isSame = got.length === wanted.length && got.every((it, i) =>
-        it.every((n, k) => Math.abs(n - wanted[i][k]) < 1e-5));
-      if (!isSame) fault(`${real} as ${kind}`, "it's read otherwise than by tshark");
-    }
-  } finally {
-    fs.rmSync(folder, { recursive: true });
-  }
-}
-
 // ---- hosts on a wire
 
 // Each host's separate script has the same results as the program after each line, with the module and with the native
@@ -692,7 +667,6 @@ async function main() {
   tryChains(engine);
   tryAllStates(engine);
   tryCaptures(engine, path.join(examples, "play"));
-  tryTshark(engine, path.join(examples, "play", "by_tcpdump.pcap"));
   tryRandomWires(engine);
   tryDrawn(engine);
   const lessonsOfChains = scriptsOf(path.join(lessons, "chain"))

@@ -23,5 +23,5 @@ def test_module_in_node(page, bsdudp, bsdplay):
 @pytest.mark.long
 @pytest.mark.needs("chromium")
 def test_page_in_chromium(page, chromium):
-    faults = faults_of_page(chromium, *SCRIPTS, page.with_name("shots"))
+    faults = faults_of_page(chromium, *SCRIPTS)
     assert not faults, "\n".join(faults)
