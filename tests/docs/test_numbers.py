@@ -1,7 +1,5 @@
-"""The numbers on pages that a program can count or that two tables share, and the chart that is drawn from one."""
+"""The numbers on pages that a program can count or that two tables share."""
 import re
-import subprocess
-import sys
 
 import pytest
 
@@ -144,10 +142,3 @@ def test_costs_that_stand_twice():
             about = f"the instructions of a datagram of {size}, which another table has, too"
             faults.append(Fault(place, about, f"{one:,}", f"{other:,}"))
     none_of(faults)
-
-
-def test_chart():
-    """docs/cost.svg is what bench/chart draws from docs/performance.md."""
-    words = [sys.executable, TOP / "bench/chart", "--check"]
-    done = subprocess.run(words, check=False, capture_output=True, text=True)
-    assert done.returncode == 0 and not done.stderr, f"docs/cost.svg:1: {done.stderr or 'bench/chart --check failed'}"

@@ -83,9 +83,9 @@ def test_each_row_is_written():
 
 
 def test_sentences_have_the_numbers_of_the_tables():
-    """Without a run nothing changes: each sentence about a table has its numbers."""
+    """Without a run nothing changes: each sentence about a table has its numbers, and so has the chart."""
     module = tables()
-    pages = {it.page: read(it.page) for it in (*module.TABLES.values(), *module.SENTENCES)}
+    pages = {it: read(it) for it in module.PAGES}
     new = module.with_run(pages, {})
     none_of(
         Fault(f"{path}:{number}", "a number that follows from a table", line, old)
@@ -191,7 +191,7 @@ def test_a_run_is_read():
 def test_times_have_their_version():
     """A run with times gets the present version beside them, and one without leaves the old one there."""
     module = tables()
-    pages = {it.page: read(it.page) for it in (*module.TABLES.values(), *module.SENTENCES)}
+    pages = {it: read(it) for it in module.PAGES}
     pages[PAGE] = re.sub(r"bsdudp(\s)\d+\.\d+\.\d+", r"bsdudp\g<1>0.0.1", pages[PAGE])
     counts = {module.plain(it): ["1"] * 4 for it in module.costs(read(PAGE), module.TABLES["peers"])}
     times = {f"times to those of the first row: {it}": ["1.00"] * 4 for it in counts}
