@@ -1,5 +1,6 @@
 """The lists that libraries, documents and the web page share, read from the sources: counters, causes, errors,
-settings. tools/lists writes them into files that can't query a program, and page/build writes them into the page."""
+settings, forms of lines. tools/lists writes them into files that can't query a program, and page/build writes them into
+the page."""
 from __future__ import annotations
 
 import functools
@@ -19,6 +20,7 @@ OPTIONS = "crates/link_script/src/options.rt"
 COMMAND_LINE = "crates/link_script/src/command_line.rt"
 CONFIG = "crates/flat_model/src/config.rt"
 PARAMS = "crates/params/src/lib.rt"
+FORMS = "crates/play_forms/src"
 
 # The cause of a drop that doesn't end a packet, for which no `Why` has a text.
 OTHER_CAUSES = {
@@ -283,3 +285,31 @@ def settings() -> list[Setting]:
         default = defaults[field] if most else dotted(defaults[field])
         found.append(Setting(name, params.get(most, 0), values_of(field, most, params), str(default)))
     return found
+
+
+# ---- forms of lines ------------------------------------------------------------------------------------------------
+
+
+def commands(file: str, function: str) -> list[str]:
+    """Returns the commands in a list of play_forms, by the names of their variants."""
+    body = read(f"{FORMS}/{file}").partition(f"fn {function}(")[2].partition("\n}")[0]
+    return re.findall(r"Command::(\w+),", body)
+
+
+def forms() -> dict[str, list[str]]:
+    """Returns the forms of the lines of play scripts: for one host, for hosts on an Ethernet only, and for the wire."""
+    row = r'Command::(\w+) => (?:by_words|otherwise)\(\s*"[^"]+",\s*"([^"]+)"'
+    form_of = dict(pieces(f"{FORMS}/command.rt", row))
+    machine = commands("command.rt", "host_commands")
+    after = machine.index("Rx") + 1
+    machine[after:after] = ["RxPcap", "RxUdp", "RxRaw"]
+    known = {form_of[name] for name in machine}
+    names = {"machine": machine, "wire": commands("command.rt", "wire_commands")}
+    names["ethernet"] = [it for it in commands("hosted.rt", "hosted_commands") if form_of[it] not in known]
+    return {player: [form_of[name] for name in of] for player, of in names.items()}
+
+
+def arguments() -> list[str]:
+    """Returns the arguments of a command: each argument's name, and its values in brackets."""
+    found = pieces(f"{FORMS}/argument.rt", r'Argument::\w+ => (?:\{\s*)?"((?:[^"\\]|\\.)*)"')
+    return [it.replace('\\"', '"') for it in found]
