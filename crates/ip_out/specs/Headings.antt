@@ -1,9 +1,9 @@
 -- IP headers with all their fields (RFC 791, section 3.1). Those of the flat machine have type of service 0, time to
 -- live 64 and "don't fragment" clear.
-use Rattle.std.specs.Prelude.{ℕ, ◌+◌, ◌*◌, ◌/◌, ◌%◌, nat_lt, if◌then◌else◌, List, [], ◌∷◌, ◌++◌, slice_index}
+use Rattle.std.specs.Prelude.{◌≡◌, ℕ, ◌+◌, ◌*◌, ◌/◌, ◌%◌, nat_lt, if◌then◌else◌, List, [], ◌∷◌, ◌++◌, slice_index, None}
 use Rattle.params.specs.declared.TheConstants.{FRAGMENT_UNIT}
 use Rattle.flat_model.specs.Packets.Checksum.{checksum}
-use Rattle.flat_model.specs.Packets.Header.{flag, two_bytes, address_bytes, u16_at, u32_at}
+use Rattle.flat_model.specs.Packets.Header.{flag, two_bytes, address_bytes, head_fault, u16_at, u32_at}
 use Rattle.ip_out.specs.declared.head.IpHead.{IpHead}
 
 -- the field of flags and offset
@@ -42,3 +42,7 @@ head_in bytes = record {
   src = u32_at 12 bytes;
   dst = u32_at 16 bytes;
 }
+
+-- the bytes of a packet whose header has no fault, and its fields
+abbrev pub IsHeadOf : List ℕ → IpHead → Type 0
+IsHeadOf bytes h = (head_fault bytes ≡ None) × (h ≡ head_in bytes)

@@ -5,7 +5,7 @@ ghost use Rattle.flat_model.specs.Packets.Header.{head_fault};
 ghost use Rattle.mbuf_chain.specs.Chain.{IsLive, chain_of, string};
 ghost use Rattle.ip_out.specs.Bytes.{written};
 ghost use Rattle.ip_out.specs.Headed.{IsFaultless, carried_of};
-ghost use Rattle.ip_out.specs.Headings.{flags_of, blank_bytes, bytes_with, head_bytes, head_in};
+ghost use Rattle.ip_out.specs.Headings.{IsHeadOf, flags_of, blank_bytes, bytes_with, head_bytes, head_in};
 
 use crate::bytes::{put_u16, put_u32, u16_at, u32_at};
 use chain_ops::m_copydata;
@@ -181,7 +181,7 @@ fn fault_in(bytes: &[u8; IP_HEADER as usize], len: u32) -> Option<Why>
 fn head_or_fault(bytes: &[u8; IP_HEADER as usize], len: u32) -> Result<IpHead, Why>
     requires few { IP_HEADER ≤ len }
     ensures ok { (packet : List ℕ) → length packet ≡ len → bytes.now ≡ take IP_HEADER packet
-        → IfOk result (λ head. (head_fault packet ≡ None) × (head ≡ head_in packet)) }
+        → IfOk result (IsHeadOf packet) }
     ensures err { (packet : List ℕ) → length packet ≡ len → bytes.now ≡ take IP_HEADER packet
         → IfErr result (λ why. head_fault packet ≡ Some why) }
 {
@@ -196,8 +196,7 @@ fn read_cut(pool: &Pool, chain: &Chain, len: u32) -> Result<IpHead, Why>
     requires live { IsLive pool.now chain.now }
     requires len { len ≡ length (string (chain_of pool.now chain.now)) }
     requires few { IP_HEADER ≤ len }
-    ensures ok { IfOk result (λ head. (head_fault (string (chain_of pool.now chain.now)) ≡ None)
-        × (head ≡ head_in (string (chain_of pool.now chain.now)))) }
+    ensures ok { IfOk result (IsHeadOf (string (chain_of pool.now chain.now))) }
     ensures err { IfErr result (λ why. head_fault (string (chain_of pool.now chain.now)) ≡ Some why) }
 {
     let mut bytes = [0; IP_HEADER as usize];
@@ -218,8 +217,7 @@ fn read_cut(pool: &Pool, chain: &Chain, len: u32) -> Result<IpHead, Why>
 #[inline(always)]
 pub fn read_head(pool: &Pool, chain: &Chain) -> Result<IpHead, Why>
     requires { IsLive pool.now chain.now }
-    ensures ok { IfOk result (λ head. (head_fault (string (chain_of pool.now chain.now)) ≡ None)
-        × (head ≡ head_in (string (chain_of pool.now chain.now)))) }
+    ensures ok { IfOk result (IsHeadOf (string (chain_of pool.now chain.now))) }
     ensures err { IfErr result (λ why. head_fault (string (chain_of pool.now chain.now)) ≡ Some why) }
 {
     let len = pool.len(chain);

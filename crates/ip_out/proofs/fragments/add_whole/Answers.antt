@@ -1,4 +1,4 @@
-use Rattle.std.proofs.Common.{ℕ, false, List, length, arith, ap, ◌∙◌}
+use Rattle.std.proofs.Common.{◌≡◌, ℕ, false, List, length, arith, ap, ◌∙◌}
 use Rattle.std.specs.List.{insert}
 use Rattle.mbuf_chain.specs.Chain.{ChainView, chain_of, entry_of, entry_in}
 use Rattle.mbuf_chain.specs.Train.{QueuedPacket, queued_packets}
@@ -8,7 +8,7 @@ use Rattle.chain_ops.proofs.Laws.Steps.{plain_unshared}
 use Rattle.ip_out.proofs.Later.{length_head}
 use Rattle.ip_out.proofs.Firsts.{IsHeaded, headed_whole, whole_added, plain_added}
 use Rattle.ip_out.proofs.fragments.add_whole.Goals as goal
-use Rattle.ip_out.proofs.fragments.add_whole.Goals.{After-overwrite}
+use Rattle.ip_out.proofs.fragments.add_whole.Goals.{After-insert, After-overwrite}
 
 -- the header that is written
 abbrev whole_head : IpHead → ℕ → IpHead
@@ -39,9 +39,7 @@ headed c =
     c.requires.apart c.requires.has.live c.requires.has.len c.first-at.ensures.index c.overwrite.ensures
 
 pub insert-requires-clause-live : goal.insert-requires-clause-live
-insert-requires-clause-live c =
-    let w = headed (goal.at.insert-requires-clause-live c).After-overwrite in
-    w.live
+insert-requires-clause-live c = (headed (goal.at.insert-requires-clause-live c).After-overwrite).live
 
 pub insert-requires-clause-headed : goal.insert-requires-clause-headed
 insert-requires-clause-headed c =
@@ -49,34 +47,33 @@ insert-requires-clause-headed c =
     ap (λ (x : ChainView). x.front.header) w.shown ∙ c.requires.has.datagram.headed
 
 pub insert-requires-clause-held : goal.insert-requires-clause-held
-insert-requires-clause-held c =
-    let w = headed (goal.at.insert-requires-clause-held c).After-overwrite in
-    w.beside.held
+insert-requires-clause-held c = (headed (goal.at.insert-requires-clause-held c).After-overwrite).beside.held
 
 pub insert-requires-clause-apart : goal.insert-requires-clause-apart
-insert-requires-clause-apart c =
-    let w = headed (goal.at.insert-requires-clause-apart c).After-overwrite in
-    w.apart
+insert-requires-clause-apart c = (headed (goal.at.insert-requires-clause-apart c).After-overwrite).apart
+
+queued : (c : After-insert) → queued_packets c.insert.new.pool c.insert.new.self
+    ≡ insert (queued_packets c.overwrite.new.self c.args.train.now) c.args.train.now.len
+    (record { number = c.args.chain; entries = (chain_of c.overwrite.new.self c.args.chain).entries; tag = 0 })
+queued c =
+    let x : QueuedPacket =
+    record { number = c.args.chain; entries = (chain_of c.overwrite.new.self c.args.chain).entries; tag = 0 } in
+    c.insert.ensures.queued_packets
+    ∙ ap (λ (k : ℕ). insert (queued_packets c.overwrite.new.self c.args.train.now) k x) c.len-end.ensures
 
 pub returns-clause-packets : goal.returns-clause-packets
 returns-clause-packets c mtu fits =
-    let w = headed (goal.at.returns-clause-packets c).After-overwrite in
-    let x : QueuedPacket =
-    record { number = c.args.chain; entries = (chain_of c.overwrite.new.self c.args.chain).entries; tag = 0 } in
-    let end = ap (λ (k : ℕ). insert (queued_packets c.overwrite.new.self c.args.train.now) k x) c.len-end.ensures in
+    let at = goal.at.returns-clause-packets c in
     whole_added c.insert.new.pool c.insert.new.self c.args.chain c.args.len mtu c.args.head c.write_head.new.bytes
-    c.requires.has.datagram c.requires.has.len fits c.write_head.ensures w (c.insert.ensures.queued_packets ∙ end)
+    c.requires.has.datagram c.requires.has.len fits c.write_head.ensures (headed at.After-overwrite)
+    (queued at.After-insert)
 
 pub returns-clause-plain : goal.returns-clause-plain
 returns-clause-plain c before =
-    let w = headed (goal.at.returns-clause-plain c).After-overwrite in
-    let x : QueuedPacket =
-    record { number = c.args.chain; entries = (chain_of c.overwrite.new.self c.args.chain).entries; tag = 0 } in
-    let end = ap (λ (k : ℕ). insert (queued_packets c.overwrite.new.self c.args.train.now) k x) c.len-end.ensures in
-    plain_added c.insert.new.pool c.insert.new.self c.args.chain c.args.len c.write_head.new.bytes c.requires.has.datagram w
-    (c.insert.ensures.queued_packets ∙ end) before
+    let at = goal.at.returns-clause-plain c in
+    plain_added c.insert.new.pool c.insert.new.self c.args.chain c.args.len c.write_head.new.bytes
+    c.requires.has.datagram (headed at.After-overwrite) (queued at.After-insert) before
 
 pub returns-clause-moves : goal.returns-clause-moves
 returns-clause-moves c =
-    let w = headed (goal.at.returns-clause-moves c).After-overwrite in
-    moves_trans w.moves c.insert.ensures.moves
+    moves_trans (headed (goal.at.returns-clause-moves c).After-overwrite).moves c.insert.ensures.moves

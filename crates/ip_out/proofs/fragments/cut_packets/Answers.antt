@@ -1,38 +1,37 @@
 use Rattle.std.proofs.Common.{rules, ◌≡◌, ℕ, ◌+◌, List, length, arith, ap, ◌∙◌}
-use Rattle.mbuf_chain.specs.Chain.{Entry, ChainView, chain_of, entry_in}
+use Rattle.mbuf_chain.specs.Chain.{Entry, ChainView, chain_of, entry_in, entry_of}
 use Rattle.mbuf_chain.proofs.Laws.Owners.{moves_trans}
 use Rattle.mbuf_chain.proofs.Laws.Steps.{live_shown}
 use Rattle.chain_ops.proofs.Laws.Steps.{plain_unshared}
 use Rattle.ip_out.proofs.Later.{length_head}
-use Rattle.ip_out.proofs.Firsts.{entry_trimmed, Written, only_some, string_long, written, packets_are, begun_plain, held_packets}
+use Rattle.ip_out.proofs.Firsts.{entry_trimmed, Written, only_some, trimmed, string_long, written, packets_are, begun_plain, held_packets}
 use Rattle.ip_out.proofs.fragments.cut_packets.Goals as goal
-use Rattle.ip_out.proofs.fragments.cut_packets.Goals.{After-overwrite}
+use Rattle.ip_out.proofs.fragments.cut_packets.Goals.{After-first-at, After-overwrite}
 
 pub first-at-requires : goal.first-at-requires
 first-at-requires c = live_shown _ _ _ _ c.trim_back.ensures
 
+-- its first mbuf after that
+front : (c : After-first-at) → entry_in c.trim_back.new.pool c.args.chain c.first-at.result
+    ≡ entry_of (trimmed (chain_of c.args.pool.now c.args.chain) (20 + c.min.result)) 0
+front c =
+    entry_trimmed c.args.chain (20 + c.min.result) c.first-at.result c.in-Ok.ensures.ok.moves c.requires.has.live
+    c.trim_back.ensures c.first-at.ensures.index
+
 pub overwrite-requires-clause-unshared : goal.overwrite-requires-clause-unshared
 overwrite-requires-clause-unshared c =
-    let l = c.in-Ok.ensures.ok in
-    let v : ChainView = chain_of c.args.pool.now c.args.chain in
-    let e =
-    entry_trimmed c.args.chain (20 + c.min.result) c.first-at.result l.moves c.requires.has.live c.trim_back.ensures
-    c.first-at.ensures.index in
     plain_unshared c.trim_back.new.pool (entry_in c.trim_back.new.pool c.args.chain c.first-at.result)
-    (ap (λ (x : Entry). x.cluster) e
-    ∙ (only_some v.entries (20 + c.min.result) c.requires.has.datagram.room (omega arith)).1 ∙ c.requires.has.datagram.plain)
+    (ap (λ (x : Entry). x.cluster) (front (goal.at.overwrite-requires-clause-unshared c).After-first-at)
+    ∙ (only_some (chain_of c.args.pool.now c.args.chain).entries (20 + c.min.result) c.requires.has.datagram.room
+    (omega arith)).1 ∙ c.requires.has.datagram.plain)
 
 pub overwrite-requires-clause-within : goal.overwrite-requires-clause-within
 overwrite-requires-clause-within c =
-    let l = c.in-Ok.ensures.ok in
-    let v : ChainView = chain_of c.args.pool.now c.args.chain in
-    let e =
-    entry_trimmed c.args.chain (20 + c.min.result) c.first-at.result l.moves c.requires.has.live c.trim_back.ensures
-    c.first-at.ensures.index in
     omega (
       arith,
-      ap (λ (x : Entry). length x.bytes) e,
-      (only_some v.entries (20 + c.min.result) c.requires.has.datagram.room (omega arith)).0,
+      ap (λ (x : Entry). length x.bytes) (front (goal.at.overwrite-requires-clause-within c).After-first-at),
+      (only_some (chain_of c.args.pool.now c.args.chain).entries (20 + c.min.result) c.requires.has.datagram.room
+          (omega arith)).0,
       ap (λ (xs : List ℕ). length xs) c.write_head.ensures,
       length_head c.head_of.result,
     )
@@ -46,9 +45,7 @@ first c =
     c.trim_back.ensures c.first-at.ensures.index c.overwrite.ensures
 
 pub insert-requires-clause-live : goal.insert-requires-clause-live
-insert-requires-clause-live c =
-    let w = first (goal.at.insert-requires-clause-live c).After-overwrite in
-    w.live
+insert-requires-clause-live c = (first (goal.at.insert-requires-clause-live c).After-overwrite).live
 
 pub insert-requires-clause-headed : goal.insert-requires-clause-headed
 insert-requires-clause-headed c =
@@ -56,14 +53,10 @@ insert-requires-clause-headed c =
     ap (λ (x : ChainView). x.front.header) w.shown ∙ c.requires.has.datagram.headed
 
 pub insert-requires-clause-held : goal.insert-requires-clause-held
-insert-requires-clause-held c =
-    let w = first (goal.at.insert-requires-clause-held c).After-overwrite in
-    w.beside.held
+insert-requires-clause-held c = (first (goal.at.insert-requires-clause-held c).After-overwrite).beside.held
 
 pub insert-requires-clause-apart : goal.insert-requires-clause-apart
-insert-requires-clause-apart c =
-    let w = first (goal.at.insert-requires-clause-apart c).After-overwrite in
-    w.apart
+insert-requires-clause-apart c = (first (goal.at.insert-requires-clause-apart c).After-overwrite).apart
 
 pub returns : goal.returns
 returns c =

@@ -1,17 +1,24 @@
-use Rattle.std.proofs.Common.{rules, arith, ap, sym, ◌∙◌, subst}
-use Rattle.std.specs.Prelude.{nat_lt}
+use Rattle.std.proofs.Common.{◌≡◌, ℕ, rules, arith, ap, sym, ◌∙◌, subst}
+use Rattle.std.specs.Prelude.{nat_lt, Err}
 use Rattle.mbuf_chain.specs.Chain.{ChainView, PoolView, chain_of, without}
 use Rattle.mbuf_chain.proofs.Laws.Owners.{moves_trans}
 use Rattle.mbuf_chain.proofs.Laws.Steps.{live_without, base_new}
 use Rattle.mbuf_chain.proofs.Laws.Trains.{beside_without}
+use Rattle.chain_ops.specs.Makes.{LacksMbufs}
 use Rattle.chain_ops.specs.Rooms.{room_low}
+use Rattle.ip_out.specs.declared.head.IpHead.{IpHead}
+use Rattle.ip_out.specs.declared.ways.Way.TheVariants.{Both}
+use Rattle.ip_out.specs.Inside.{IsBothWays}
 use Rattle.ip_out.specs.Packets.{AreBegunPlain, IsDatagramChain, later_need, packets_of}
+use Rattle.ip_out.specs.Ways.{way_need}
 use Rattle.ip_out.proofs.Copies.{IsCopied, IsFirst, copied, length_copied, first_sent, second_sent, then_freed, gone_whole, is_cut}
 use Rattle.ip_out.proofs.ways.both_ways.Goals as goal
 use Rattle.ip_out.proofs.ways.both_ways.Goals.{In-Ok, In-Ok-fragments}
 
-pub returns-in_default : goal.returns-in_default
-returns-in_default c = record {
+-- too few mbufs were free, and the chain was freed
+refused : {E : Type 0} {p : PoolView} {c : ℕ} {h : IpHead} {mtu : ℕ} {q : PoolView} {e : E}
+    → LacksMbufs p (way_need Both (chain_of p c) mtu) → q ≡ without p c → IsBothWays p c h mtu q (Err e)
+refused err freed = record {
   link = tt;
   looped = tt;
   cut = tt;
@@ -19,15 +26,21 @@ returns-in_default c = record {
   plain = tt;
   moves = tt;
   enough = tt;
-  err =
-      omega (
-        arith,
-        c.in_default.ensures.err,
-        length_copied (room_low (chain_of c.args.pool.now c.args.chain).front.header)
-            (chain_of c.args.pool.now c.args.chain).entries,
-      );
-  freed = search rules;
+  err = err;
+  freed = freed;
 }
+
+pub returns-in_default : goal.returns-in_default
+returns-in_default c =
+    let err : LacksMbufs c.args.pool.now (way_need Both (chain_of c.args.pool.now c.args.chain) c.args.mtu) =
+    omega (
+      arith,
+      c.in_default.ensures.err,
+      length_copied (room_low (chain_of c.args.pool.now c.args.chain).front.header)
+          (chain_of c.args.pool.now c.args.chain).entries,
+    ) in
+    let freed : c.free_chain.new.self ≡ without c.args.pool.now c.args.chain = search rules in
+    refused err freed
 
 -- the copy, and what the packets of the chain and of the copy leave
 copy : (c : In-Ok)
@@ -61,27 +74,18 @@ free_chain-requires-in_default-fragments c =
 pub returns-in_default-fragments : goal.returns-in_default-fragments
 returns-in_default-fragments c =
     let k = copy (goal.at.returns-in_default-fragments c).In-Ok in
-    record {
-      link = tt;
-      looped = tt;
-      cut = tt;
-      held = tt;
-      plain = tt;
-      moves = tt;
-      enough = tt;
-      err =
-          omega (
-            arith,
-            c.in_default-fragments.ensures.err,
-            k.held,
-            k.moves.mbufs,
-            ap (λ (v : ChainView). later_need v c.args.mtu) k.same,
-          );
-      freed =
-          c.free_chain-in_default-fragments.ensures
-          ∙ ap (λ (s : PoolView). without s c.in-Ok.copy) c.in_default-fragments.ensures.freed
-          ∙ base_new c.args.pool.now _ c.args.chain c.in-Ok.copy _ c.requires.live c.in-Ok.ensures.ok.adds;
-    }
+    let err : LacksMbufs c.args.pool.now (way_need Both (chain_of c.args.pool.now c.args.chain) c.args.mtu) =
+    omega (
+      arith,
+      c.in_default-fragments.ensures.err,
+      k.held,
+      k.moves.mbufs,
+      ap (λ (v : ChainView). later_need v c.args.mtu) k.same,
+    ) in
+    refused err
+    (c.free_chain-in_default-fragments.ensures
+    ∙ ap (λ (s : PoolView). without s c.in-Ok.copy) c.in_default-fragments.ensures.freed
+    ∙ base_new c.args.pool.now _ c.args.chain c.in-Ok.copy _ c.requires.live c.in-Ok.ensures.ok.adds)
 
 pub fragments-requires-2 : goal.fragments-requires-2
 fragments-requires-2 c =
@@ -102,31 +106,22 @@ returns-in_default-fragments-2 c =
     let at = goal.at.returns-in_default-fragments-2 c in
     let k = copy at.In-Ok in
     let f = first at.In-Ok-fragments k in
-    record {
-      link = tt;
-      looped = tt;
-      cut = tt;
-      held = tt;
-      plain = tt;
-      moves = tt;
-      enough = tt;
-      err =
-          omega (
-            arith,
-            c.in_default-fragments-2.ensures.err,
-            c.in-Ok-fragments.ensures.count,
-            k.held,
-            k.moves.mbufs,
-            f.moves.mbufs,
-            ap (λ (v : ChainView). later_need v c.args.mtu) k.same,
-            ap (λ (v : ChainView). later_need v c.args.mtu) f.same,
-            k.same_need,
-          );
-      freed =
-          gone_whole c.args.chain (moves_trans k.moves
-          (moves_trans f.moves (then_freed c.in-Ok.copy c.in-Ok-fragments.link c.in_default-fragments-2.ensures.freed
-          f.live c.in-Ok-fragments.ensures.held f.apart c.free.ensures))) c.requires.live;
-    }
+    let err : LacksMbufs c.args.pool.now (way_need Both (chain_of c.args.pool.now c.args.chain) c.args.mtu) =
+    omega (
+      arith,
+      c.in_default-fragments-2.ensures.err,
+      c.in-Ok-fragments.ensures.count,
+      k.held,
+      k.moves.mbufs,
+      f.moves.mbufs,
+      ap (λ (v : ChainView). later_need v c.args.mtu) k.same,
+      ap (λ (v : ChainView). later_need v c.args.mtu) f.same,
+      k.same_need,
+    ) in
+    refused err
+    (gone_whole c.args.chain (moves_trans k.moves
+    (moves_trans f.moves (then_freed c.in-Ok.copy c.in-Ok-fragments.link c.in_default-fragments-2.ensures.freed
+    f.live c.in-Ok-fragments.ensures.held f.apart c.free.ensures))) c.requires.live)
 
 pub returns : goal.returns
 returns c =

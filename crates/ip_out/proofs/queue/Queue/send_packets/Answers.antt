@@ -91,20 +91,19 @@ returns-in_ok-link-in_default-clause-lost c =
 pub returns-in_ok-link-in_default-clause-looped : goal.returns-in_ok-link-in_default-clause-looped
 returns-in_ok-link-in_default-clause-looped c =
     let at = goal.at.returns-in_ok-link-in_default-clause-looped c in
-    let o = out at.After-push_all-is_lost (beside at.In_ok-link-in_default) in
-    o.same_packets ∙ c.in_ok-link-in_default.ensures.looped
+    (out at.After-push_all-is_lost (beside at.In_ok-link-in_default)).same_packets
+    ∙ c.in_ok-link-in_default.ensures.looped
 
 pub returns-in_ok-link-in_default-clause-held : goal.returns-in_ok-link-in_default-clause-held
 returns-in_ok-link-in_default-clause-held c =
     let at = goal.at.returns-in_ok-link-in_default-clause-held c in
-    let o = out at.After-push_all-is_lost (beside at.In_ok-link-in_default) in
-    o.held
+    (out at.After-push_all-is_lost (beside at.In_ok-link-in_default)).held
 
 pub returns-in_ok-link-in_default-clause-plain : goal.returns-in_ok-link-in_default-clause-plain
 returns-in_ok-link-in_default-clause-plain c =
     let at = goal.at.returns-in_ok-link-in_default-clause-plain c in
-    let o = out at.After-push_all-is_lost (beside at.In_ok-link-in_default) in
-    subst AreBegunPlain (sym o.same_queued) c.in_ok-link-in_default.ensures.plain.1
+    subst AreBegunPlain (sym (out at.After-push_all-is_lost (beside at.In_ok-link-in_default)).same_queued)
+    c.in_ok-link-in_default.ensures.plain.1
 
 pub returns-in_ok-link-in_default-clause-link_plain : goal.returns-in_ok-link-in_default-clause-link_plain
 returns-in_ok-link-in_default-clause-link_plain c = λ before.
@@ -123,5 +122,4 @@ returns-in_err-link-in_default-clause-link_plain c = λ before.
 pub returns-in_ok-link-in_default-clause-moves : goal.returns-in_ok-link-in_default-clause-moves
 returns-in_ok-link-in_default-clause-moves c =
     let at = goal.at.returns-in_ok-link-in_default-clause-moves c in
-    let o = out at.After-push_all-is_lost (beside at.In_ok-link-in_default) in
-    o.moves
+    (out at.After-push_all-is_lost (beside at.In_ok-link-in_default)).moves
