@@ -21,7 +21,7 @@ help:
 	@echo "make prove                   run the gate: prove everything and run every test: about an hour on four idle cores"
 	@echo "make lib [FOLDER=out]        prove the C library and build it in FOLDER; with TRIAL=1 in a minute, without a proof"
 	@echo "make python [FOLDER=out]     the same with the Python package, in FOLDER/python"
-	@echo "make install [PREFIX=..]     prove the C library and install it with its header below PREFIX"
+	@echo "make install [PREFIX=..]     prove the C library and install it below PREFIX; with TRIAL=1 without a proof"
 	@echo "make packages [FOLDER=out]   make the Debian packages of what make prove has built"
 	@echo "make page                    make the web page page/out/bsdudp.html; with TRIAL=1 page/out/unproved/bsdudp.html"
 	@echo "make setup                   install Debian's packages for the whole gate (or print the command, if not root)"

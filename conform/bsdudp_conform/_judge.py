@@ -121,13 +121,12 @@ def judge(
     cases: Iterable[Case],
     jobs: int = 1,
     timeout: float = TIMEOUT_S,
-    name: Optional[str] = None,
     progress: Optional[bool] = None,
 ) -> Judged:
     """Runs all cases that apply to a stack through its adapter. Raises Fault if the adapter can't be started."""
     limit = Limit()
     with stopped_by_signals(limit):
-        judged = asked(command, cases, jobs, timeout, name, progress, limit)
+        judged = asked(command, cases, jobs, timeout, progress, limit)
         judge_answers(judged, limit)
     return judged
 
@@ -137,13 +136,12 @@ def asked(
     cases: Iterable[Case],
     jobs: int,
     timeout: float,
-    name: Optional[str],
     progress: Optional[bool],
     limit: Limit,
 ) -> Judged:
     """A stack's replies, without verdicts."""
     with Adapter(command, timeout, limit) as first:
-        judged = Judged(name or first.name or command[0], first.abilities)
+        judged = Judged(first.name or command[0], first.abilities)
         for case in cases:
             if applies(case, first.abilities):
                 judged.cases.append(case)

@@ -61,9 +61,9 @@ class Builder:
         cuts = list(itertools.accumulate(sizes))
         return cuts, cuts[-1] + (last or self.random.randint(1, 40))
 
-    def halves(self, length: int = 40, **fields: Any) -> List[bytes]:
-        """Two fragments of a datagram of fresh bytes, cut at 24."""
-        return pieces(udp(self.data(length)), [24], id=self.id, **fields)
+    def halves(self, **fields: Any) -> List[bytes]:
+        """Two fragments of a datagram of 40 fresh bytes, cut at 24."""
+        return pieces(udp(self.data(40)), [24], id=self.id, **fields)
 
     def whole(self, length: int = 10, **fields: Any) -> bytes:
         """A datagram of fresh bytes in one packet."""

@@ -24,9 +24,9 @@ def numbered(to: Builder, count: int, size: int = 10, **fields: int) -> List[byt
     return [packet(udp(to.data(size), sport=5000 + it, **fields), id=to.id) for it in range(count)]
 
 
-def held(steps: Sequence[Given], socket: int = 0) -> List[Given]:
-    """A socket is held, the steps follow, and then all is read: up to one more than packets came."""
-    return [Hold(socket), *steps, ReadHeld(socket, 1 + sum(isinstance(it, bytes) for it in steps))]
+def held(steps: Sequence[Given]) -> List[Given]:
+    """The first socket is held, the steps follow, and then all is read: up to one more than packets came."""
+    return [Hold(0), *steps, ReadHeld(0, 1 + sum(isinstance(it, bytes) for it in steps))]
 
 
 def add_one(to: Builder) -> None:
