@@ -21,7 +21,7 @@ use ip_out::{Headed, IpHead, read_packet};
 use ip_reass::{Arrival, fits_at_once, is_sound};
 use ledger::{are_free, reserve};
 use mbuf_chain::{Chain, Pool};
-use params::{IP_MAX_PACKET, LIMITED_BROADCAST, LOOPBACK, MINCLSIZE};
+use params::{IP_MAX_PACKET, LIMITED_BROADCAST, LOOPBACK, MINCLSIZE, reads_in_place};
 use sock_calls::Socks;
 use udp::read;
 
@@ -63,6 +63,7 @@ fn put_packet(pool: &mut Pool, packet: &[u8]) -> Chain
 
 /// Whether a fragment can be stored without its header, by the tests of `fits_at_once`. If its space is a cluster, the
 /// pool has been tested already.
+// Its contract permits `false` for each fragment. At `-Os`, `portable/core` replaces its result by that.
 #[inline(always)]
 fn can_store_data(pool: &Pool, space: Space, head: &IpHead, packet: &[u8]) -> bool
     requires offset { head.now.offset ≤ IP_MAX_PACKET }
@@ -124,11 +125,24 @@ impl Host {
 
     /// Receives a packet of at most 65,535 bytes from the wire. If the pool has too few free buffers for it, all
     /// unfinished datagrams are freed, and if there are still too few, the packet is dropped and counted.
-    ///
-    /// It's read in place, and stored only when its receiver is known. A dropped packet takes no buffer.
+    #[inline(always)]
+    pub(crate) fn receive(&mut self, packet: &[u8])
+        requires fit { PartsFit self.old [] }
+        requires most { length packet.now ≤ IP_MAX_PACKET }
+        ensures { PacketArrives self.old packet.now self.new }
+    {
+        if reads_in_place() {
+            self.receive_in_place(packet);
+        } else {
+            self.receive_stored(packet);
+        }
+    }
+
+    /// The usual way: the packet is read in place, and stored only when its receiver is known. A dropped packet takes
+    /// no buffer.
     // Looped packets and reassembled datagrams are in chains already. They go through `arrive` and `Socks::input`,
     // which read a chain wherever it's split: that's why there are two paths.
-    pub(crate) fn receive(&mut self, packet: &[u8])
+    fn receive_in_place(&mut self, packet: &[u8])
         requires fit { PartsFit self.old [] }
         requires most { length packet.now ≤ IP_MAX_PACKET }
         ensures { PacketArrives self.old packet.now self.new }
@@ -139,6 +153,21 @@ impl Host {
         };
         if let Err(why) = self.process(space, packet) {
             count_dropped(&mut self.net.counters, why);
+        }
+    }
+
+    /// The way of a library for small flash: the packet is stored first, and then arrives as a looped packet does.
+    fn receive_stored(&mut self, packet: &[u8])
+        requires fit { PartsFit self.old [] }
+        requires most { length packet.now ≤ IP_MAX_PACKET }
+        ensures { PacketArrives self.old packet.now self.new }
+    {
+        if self.reserve_buffers(packet.len() as u32) {
+            let chain = put_packet(&mut self.pool, packet);
+            self.arrive(chain);
+        } else {
+            let net = &mut self.net;
+            net.counters.count_ended(Why::NoBufs);
         }
     }
 

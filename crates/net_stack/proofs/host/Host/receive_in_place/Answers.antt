@@ -12,8 +12,8 @@ use Rattle.net_stack.specs.Inside.Hosts.{PacketArrives, PartsFit, arrival_view}
 use Rattle.net_stack.proofs.Aside.{host_view}
 use Rattle.net_stack.proofs.ReceiveLemmas.{asked_socks, lost}
 use Rattle.net_stack.proofs.InPlace.{again, ended}
-use Rattle.net_stack.proofs.host.Host.receive.Goals as goal
-use Rattle.net_stack.proofs.host.Host.receive.Goals.{In-Some}
+use Rattle.net_stack.proofs.host.Host.receive_in_place.Goals as goal
+use Rattle.net_stack.proofs.host.Host.receive_in_place.Goals.{In-Some}
 
 pub returns-in_default : goal.returns-in_default
 returns-in_default c =
