@@ -13,7 +13,7 @@ use crate::place::{insert_after, next_after, take_after};
 use crate::span::{Span, Tag};
 use chain_ops::{cat_after, trim_front};
 use mbuf_chain::{Chain, Pool, QueuedPlace, Train};
-use params::IP_MAX_DATA;
+use params::{IP_MAX_DATA, appends_fragments};
 
 /// The fragments before the place of a new one.
 #[derive(Clone, Copy)]
@@ -284,6 +284,13 @@ pub(crate) fn insert(
         (is_left result) pool.new datagram.new }
     ensures whole { ReportsWhole (map_of (fragments pool.new datagram.new.fragments)) result }
 {
+    if !appends_fragments() {
+        // `insert_between` also finds the place after the last.
+        if !insert_between(pool, datagram, chain, span) {
+            return Insertion::Covered;
+        }
+        return whole(pool, datagram);
+    }
     let end = end_of_last(pool, &datagram.fragments);
     if end <= span.offset {
         return append(pool, datagram, chain, span);

@@ -5,12 +5,12 @@ use Rattle.ip_reass.proofs.queue.insert.Goals as goal
 
 pub returns-then-bytes-end-clause-whole : goal.returns-then-bytes-end-clause-whole
 returns-then-bytes-end-clause-whole c =
-    gap_stops (fragments c.insert_between.new.pool c.insert_between.new.datagram.fragments)
-    c.insert_between.ensures.inserted.queue.apart
+    gap_stops (fragments c.insert_between-2.new.pool c.insert_between-2.new.datagram.fragments)
+    c.insert_between-2.ensures.inserted.queue.apart
     (omega (
       arith,
-      c.insert_between.ensures.inserted.counted,
-      c.insert_between.ensures.reach,
+      c.insert_between-2.ensures.inserted.counted,
+      c.insert_between-2.ensures.reach,
       c.end_of_last-end.ensures,
       c.if-bytes-end.true,
       c.from-bytes.ensures,
