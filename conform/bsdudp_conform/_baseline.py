@@ -20,7 +20,7 @@ def read_baseline(path: pathlib.Path) -> Known:
     known: Known = set()
     try:
         lines = path.read_text(encoding="utf-8").splitlines()
-    except (OSError, UnicodeDecodeError) as fault:
+    except UnicodeDecodeError as fault:
         raise BadBaseline(f"{path}: {fault}") from None
     for number, line in enumerate(lines, 1):
         words = line.split("#")[0].split()

@@ -142,6 +142,10 @@ def main(argv: Optional[Sequence[str]] = None) -> int:
     except BrokenPipeError:
         os.dup2(os.open(os.devnull, os.O_WRONLY), sys.stdout.fileno())
         return DEVIATES
+    except OSError as fault:
+        if fault.filename is None:
+            raise
+        return fault_line(f"{fault.filename}: {fault.strerror}", USAGE)
 
 
 def command(argv: Optional[Sequence[str]]) -> int:
@@ -198,6 +202,8 @@ def run(words: argparse.Namespace) -> int:
         for it in chosen:
             print(f"{it.name:24} {it.title}")
         return OK if chosen else fault_line(f"there is no case of {' '.join(words.only)}", USAGE)
+    if words.report:  # now, because a folder that can't be made would lose the run's captures
+        pathlib.Path(words.report).mkdir(parents=True, exist_ok=True)
     judged = []
     signal.signal(signal.SIGTERM, signal.default_int_handler)  # in the judge itself, both print what was found so far
     try:

@@ -50,7 +50,6 @@ def write_folder(
     folder: pathlib.Path, stacks: Sequence[Judged], policies: Dict[str, List[Explained]], known: Known, whole: str
 ) -> None:
     """The report's files."""
-    folder.mkdir(parents=True, exist_ok=True)
     captures = {it.name: captures_of(it, folder) for it in stacks}
     (folder / "report.txt").write_text(whole, encoding="utf-8")
     (folder / "report.html").write_text(html(stacks, policies, known, captures), encoding="utf-8")

@@ -1,6 +1,8 @@
-"""What the judge reports about a deviation: the number of cases that have it, and the sender of a datagram."""
+"""What the judge reports about a deviation: the number of cases that have it, and the sender of a datagram; about a file
+that can't be read or written, one line."""
 import functools
 import re
+import sys
 
 import pytest
 
@@ -11,8 +13,11 @@ from bsdudp_conform._judge import Deviation, Judged
 from bsdudp_conform._packets import packet, pieces, udp
 from bsdudp_conform._report import text
 from bsdudp_conform._verdict import verdict
+from tests.cases import TOP
 
 pytestmark = pytest.mark.needs("scapy")
+# An adapter that is there: the template, which isn't filled in.
+TEMPLATE = [sys.executable, str(TOP / "conform/bsdudp_conform/templates/template.py")]
 
 
 @functools.lru_cache(maxsize=None)
@@ -87,3 +92,23 @@ def test_the_report_counts_cases_and_not_what_they_break():
     assert re.findall(r"(?m)NEVER 2: .* wrong source port.*; (\d+) cases$", text([judged], {}, set())) == ["2"]
     page = html([judged], {}, set(), {})
     assert re.findall(r"\((\d+) cases\)", page) == ["2"] and page.count("udp.data:2") == 1
+
+
+@pytest.mark.parametrize(
+    "words, said",
+    [
+        (["run", "--baseline", "FILE", "--only", "ip.tos", "--", "./none"], ": No such file or directory"),
+        (["run", "--write-baseline", "FILE/x", "--only", "udp.data:1", "--", *TEMPLATE], "/x: Not a directory"),
+        (["run", "--report", "FILE/x", "--only", "udp.data:1", "--", *TEMPLATE], "/x: Not a directory"),
+        (["reduce", "--pcap", "FILE/x", "udp.data:1", *TEMPLATE], "/x: Not a directory"),
+        (["template", "FILE/x"], "/x: Not a directory"),
+    ],
+)
+def test_a_file_that_cannot_be_used_is_named_in_one_line(words, said, conform, tmp_path):
+    """FILE is a file, and not a folder; as a baseline it isn't there."""
+    file = tmp_path / "file"
+    if "--baseline" not in words:
+        file.touch()
+    status, printed = conform(sys.executable, "-m", "bsdudp_conform", *(it.replace("FILE", str(file)) for it in words))
+    last = printed.splitlines()[-1]
+    assert (status, last) == (2, f"bsdudp-conform: {file}{said}") and "Traceback" not in printed
