@@ -1,5 +1,6 @@
 """The arguments of a script, read by argparse: `--help` prints its docstring, and a wrong argument ends it with a usage
-line and status 2. A script whose reader has ended, as in `SCRIPT | head -1`, ends without a message."""
+line and status 2. A script whose reader has ended, as in `SCRIPT | head -1`, ends without a message. A file that the
+command line names and that can't be used ends it with one line and status 1."""
 from __future__ import annotations
 
 import argparse
@@ -13,27 +14,43 @@ from types import TracebackType
 TOP = pathlib.Path(__file__).resolve().parent.parent
 
 
-def parser(about: str | None, epilog: str | None = None) -> argparse.ArgumentParser:
-    """Returns a parser for the running script, named by its path in the repository. `about` is its docstring."""
-    end_quietly()
+def script() -> str:
+    """Returns the running script's path in the repository."""
     path = pathlib.Path(sys.argv[0]).resolve()
-    name = str(path.relative_to(TOP)) if path.is_relative_to(TOP) else path.name
+    return str(path.relative_to(TOP)) if path.is_relative_to(TOP) else path.name
+
+
+def parser(about: str | None, epilog: str | None = None) -> argparse.ArgumentParser:
+    """Returns a parser for the running script. `about` is its docstring."""
+    end_quietly()
     how = argparse.RawDescriptionHelpFormatter
     return argparse.ArgumentParser(
-        prog=name, description=about, epilog=epilog, formatter_class=how, allow_abbrev=False
+        prog=script(), description=about, epilog=epilog, formatter_class=how, allow_abbrev=False
     )
 
 
 def end_quietly() -> None:
-    """From now on, a BrokenPipeError of standard output prints nothing. One of another pipe prints its traceback."""
+    """From now on, a BrokenPipeError of standard output prints nothing, and an OSError of a named file one line. Others
+    print their tracebacks."""
     sys.excepthook = report
     atexit.register(flush)
 
 
 def report(kind: type[BaseException], fault: BaseException, trace: TracebackType | None) -> None:
-    """Prints an uncaught exception, unless the reader of standard output has ended."""
-    if not (issubclass(kind, BrokenPipeError) and is_unread()):
+    """Prints an uncaught exception."""
+    if isinstance(fault, BrokenPipeError) and is_unread():
+        return
+    if isinstance(fault, OSError) and fault.filename and is_named(fault.filename):
+        print(f"{script()}: {fault.filename}: {fault.strerror}", file=sys.stderr)
+    else:
         sys.__excepthook__(kind, fault, trace)
+
+
+def is_named(file: str) -> bool:
+    """Returns whether an argument names a file, a folder above it, or a file in it."""
+    path = pathlib.Path(file).resolve()
+    words = (pathlib.Path(it.rpartition("=")[2]).resolve() for it in sys.argv[1:] if it)
+    return any(it.is_relative_to(path) or path.is_relative_to(it) for it in words)
 
 
 def flush() -> None:

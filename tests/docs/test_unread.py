@@ -1,4 +1,5 @@
-"""A Python program whose reader has ended, as in `PROGRAM | head -1`, ends without a message."""
+"""A Python program whose reader has ended, as in `PROGRAM | head -1`, ends without a message, and one that can't use a
+file of its command line with one line."""
 import os
 import subprocess
 import sys
@@ -60,3 +61,24 @@ def test_the_list_of_the_cases():
 def test_another_pipe_that_nobody_reads_is_a_fault():
     done = subprocess.run([sys.executable, "-c", OTHER], capture_output=True, text=True, check=False)
     assert done.returncode == 1 and done.stderr.rstrip().endswith("BrokenPipeError: [Errno 32] Broken pipe")
+
+
+@pytest.mark.parametrize(
+    "words, reason",
+    [
+        (["dist/wheel", "FILE/none", "."], "FILE/none: Not a directory"),
+        (["dist/man", "FILE/none"], "FILE/none: Not a directory"),
+    ],
+    ids=["a file to read", "a folder to make"],
+)
+def test_a_file_that_is_named_has_one_line(words, reason, tmp_path):
+    file = tmp_path / "file"
+    file.touch()
+    words = [it.replace("FILE", str(file)) for it in words]
+    done = subprocess.run([TOP / words[0], *words[1:]], capture_output=True, text=True, check=False)
+    assert (done.returncode, done.stderr) == (1, f"{words[0]}: {reason.replace('FILE', str(file))}\n")
+
+
+def test_a_file_that_nobody_named_is_a_fault():
+    done = subprocess.run([sys.executable, "-c", f"{HEAD}open('/none')"], capture_output=True, text=True, check=False)
+    assert done.returncode == 1 and done.stderr.startswith("Traceback")
