@@ -1,6 +1,7 @@
 """The bytes of flash and memory that the board's programs take: at most those below, and those of docs/memory.md and
 docs/device.md."""
 import re
+import subprocess
 
 import pytest
 
@@ -58,3 +59,9 @@ def test_a_page_has_the_figures(page, printed):
         if abs(was - now) > max(NEAR * now, ALIGNED)
     ]
     assert not faults, f"{page}: {faults}; portable/board/sizes prints the table"
+
+
+def test_a_folder_without_a_library_is_named_at_once(tmp_path):
+    done = subprocess.run([BOARD / "build", tmp_path, tmp_path / "to"], capture_output=True, text=True, check=False)
+    said = f"portable/board/build: there is no library in {tmp_path}: portable/core cortex-m3 {tmp_path} makes it\n"
+    assert (done.returncode, done.stderr, [*(tmp_path / "to").iterdir()]) == (2, said, [])
