@@ -1,7 +1,9 @@
 -- What is passed, if the indexed ports of some places are others.
-use Rattle.std.proofs.Common.{◌≡◌, ℕ, zero, suc, ◌+◌, ◌-◌, ◌<◌, ◌≤◌, true, false, ◌==◌, cond, List, [], ◌∷◌, ◌++◌, drop, take, take_all, length, get_or, Option, Some, None, unwrap_or, refl, sym, ap, ◌∙◌, arith, inl, inr}
+use Rattle.std.proofs.Common.{◌≡◌, ◌≢◌, ℕ, zero, suc, ◌+◌, ◌-◌, ◌<◌, ◌≤◌, true, false, ◌==◌, cond, List, [], ◌∷◌, ◌++◌, drop, take, take_all, length, get_or, Option, Some, None, unwrap_or, refl, sym, ap, ◌∙◌, arith, inl, inr}
 use Rattle.std.proofs.lemmas.Bool.{cases_lt}
 use Rattle.std.proofs.lemmas.List.{length-drop}
+use Rattle.std.proofs.lemmas.Nat.{and_le_l}
+use Rattle.std.specs.Int.Bits.{bit_and, and_zero_r}
 use Rattle.flat_model.specs.declared.lookup_key.LookupKey.{LookupKey}
 use Rattle.flat_model.specs.Sockets.Lookup.{are_same}
 use Rattle.pcb_table.specs.declared.block.Block.{Block}
@@ -80,24 +82,29 @@ from_passed port bs ports at (suc n) has pass = elim (cases_lt at (length bs)) [
   | inr le ↦ from_past port bs at le ∙ sym (from_past port bs (at + suc n) (omega arith))
 ]
 
+-- those that a mask leaves of these places
+pub from_masked : (port : ℕ) (bs : List Block) (ports : List ℕ) (at n mask : ℕ) → (mask ≢ 0 → HasPorts bs ports)
+    → PassesLanes ports port at n → from_port port (drop (at + bit_and n mask) bs) ≡ from_port port (drop at bs)
+from_masked port bs ports at n zero has pass =
+    let e : at + bit_and n 0 ≡ at = omega (arith, and_zero_r n) in ap (λ k. from_port port (drop k bs)) e
+from_masked port bs ports at n (suc m) has pass =
+    let most = and_le_l n (suc m) in
+    sym (from_passed port bs ports at (bit_and n (suc m)) (has (λ z. omega (arith, z)))
+    (λ k from to. pass k from (omega (arith, most, to))))
+
 -- the next block after those, if it has another port too
-pub from_after : (port : ℕ) (bs : List Block) (ports : List ℕ) (at n : ℕ) (d : Block) → HasPorts bs ports
-    → PassesLanes ports port at n → at + n < length bs → has_port port (get_or bs (at + n) d) ≡ false
-    → from_port port (drop at bs) ≡ from_port port (drop (at + n + 1) bs)
-from_after port bs ports at n d has pass lt lacking =
-    let e : suc (at + n) ≡ at + n + 1 = omega arith in
-    from_passed port bs ports at n has pass ∙ from_next port bs (at + n) d lt lacking
-    ∙ ap (λ k. from_port port (drop k bs)) e
+pub from_after : (port : ℕ) (bs : List Block) (next : ℕ) (d : Block) → next < length bs
+    → has_port port (get_or bs next d) ≡ false → from_port port (drop (next + 1) bs) ≡ from_port port (drop next bs)
+from_after port bs next d lt lacking =
+    let e : next + 1 ≡ suc next = omega arith in
+    ap (λ k. from_port port (drop k bs)) e ∙ sym (from_next port bs next d lt lacking)
 
 -- the blocks from it on, if it has the port
-pub from_found : (port : ℕ) (bs : List Block) (ports : List ℕ) (at n : ℕ) (d : Block) → HasPorts bs ports
-    → PassesLanes ports port at n → at + n < length bs → has_port port (get_or bs (at + n) d) ≡ true
-    → take (length bs - (at + n)) (drop (at + n) bs) ≡ from_port port (drop at bs)
-from_found port bs ports at n d has pass lt met =
-    take_all (length bs - (at + n)) (drop (at + n) bs) (omega (arith, length-drop (at + n) bs))
-    ∙ sym (from_here port bs (at + n) d lt met) ∙ sym (from_passed port bs ports at n has pass)
+pub from_found : (port : ℕ) (bs : List Block) (next : ℕ) (d : Block) → next < length bs
+    → has_port port (get_or bs next d) ≡ true → take (length bs - next) (drop next bs) ≡ from_port port (drop next bs)
+from_found port bs next d lt met =
+    take_all (length bs - next) (drop next bs) (omega (arith, length-drop next bs)) ∙ sym (from_here port bs next d lt met)
 
 -- none, if no block is left
-pub from_none : (port : ℕ) (bs : List Block) (ports : List ℕ) (at n : ℕ) → HasPorts bs ports
-    → PassesLanes ports port at n → length bs ≤ at + n → [] ≡ from_port port (drop at bs)
-from_none port bs ports at n has pass le = sym (from_passed port bs ports at n has pass ∙ from_past port bs (at + n) le)
+pub from_none : (port : ℕ) (bs : List Block) (next : ℕ) → length bs ≤ next → [] ≡ from_port port (drop next bs)
+from_none port bs next le = sym (from_past port bs next le)

@@ -3,7 +3,7 @@ ghost use Rattle.std.specs.Prelude.{◌≡◌, ◌+◌, ◌<◌, ◌≤◌, ◌�
 ghost use Rattle.arrayvec.specs.ArrayVec.{array_vec_len};
 ghost use Rattle.params.specs.declared.TheConstants.{MAX_SOCKETS};
 ghost use Rattle.pcb_table.specs.Apart.{has_fd};
-ghost use Rattle.pcb_table.specs.Inside.Fields.{IsLocated, Locates, HasPorts, ImpliesNoneConnected, PassesLanes, is_connected};
+ghost use Rattle.pcb_table.specs.Inside.Fields.{IsIndexOf, IsLocated, Locates, HasPorts, ImpliesNoneConnected, PassesLanes, is_connected};
 ghost use Rattle.pcb_table.specs.Inside.Search.{from_port};
 
 use crate::block::Block;
@@ -20,20 +20,30 @@ const LANES: usize = 16;
 /// from the last block on.
 const INDEXED_PORTS: usize = SOCKETS + LANES;
 
-/// The blocks of at most 64 sockets, the youngest first.
-///
-/// Two arrays index them, and each change writes both again. `ports` has the port of the block at each index, so that
-/// one comparison skips sixteen blocks with another port: if 63 other sockets are open, a datagram of 2 bytes takes
-/// 1,638 instructions instead of the 2,600 of a walk from block to block. `places` has the index of the block of each
-/// descriptor. It's a hint: the block at that index is tested, and if it's another one, a walk finds the right one.
+/// The blocks of at most 64 sockets, the youngest first. Each change writes their index again.
 #[derive(Drop)]
 pub(crate) struct Blocks {
     blocks: ArrayVec<Block, SOCKETS>,
+    index: Index,
+}
+
+/// Two arrays that index blocks, and whether no block is connected.
+///
+/// `ports` has the port of the block at each index, so that one comparison skips sixteen blocks with another port: if
+/// 63 other sockets are open, a datagram of 2 bytes takes 1,638 instructions instead of the 2,600 of a walk from block
+/// to block. `places` has the index of the block of each descriptor. It's a hint: the block at that index is tested,
+/// and if it's another one, a walk finds the right one.
+///
+/// If `params::indexes_sockets` returns `false`, neither is written, and the blocks are walked.
+#[derive(Drop)]
+pub(crate) struct Index {
     // 0 for a block without a port
     ports: [u16; INDEXED_PORTS],
     // the index of a descriptor's block, by descriptor modulo 64
     places: [u8; SOCKETS],
-    // if true, none of them is connected
+    // a mask for the number of blocks that `ports` skips: 0 if `ports` isn't written
+    skips: u32,
+    // if true, none of the blocks is connected
     none_connected: bool,
 }
 
@@ -43,11 +53,11 @@ impl Model for Blocks {
 
     ghost Value = { List Block };
 
-    ghost use Rattle.pcb_table.specs.Inside.Fields.{HasPorts, ImpliesNoneConnected};
+    ghost use Rattle.pcb_table.specs.Inside.Fields.{IsIndexOf};
 
     ghost view = { λ b. b.blocks.items };
 
-    ghost invariant = { λ b. HasPorts b.blocks.items b.ports × ImpliesNoneConnected b.none_connected b.blocks.items };
+    ghost invariant = { λ b. IsIndexOf b.blocks.items b.index };
 }
 
 impl Blocks {
@@ -57,9 +67,12 @@ impl Blocks {
     {
         Blocks {
             blocks: ArrayVec::new(),
-            ports: [0; INDEXED_PORTS],
-            places: [0; SOCKETS],
-            none_connected: true,
+            index: Index {
+                ports: [0; INDEXED_PORTS],
+                places: [0; SOCKETS],
+                skips: u32::MAX,
+                none_connected: true,
+            },
         }
     }
 
@@ -83,7 +96,7 @@ impl Blocks {
     pub(crate) fn is_none_connected(&self) -> bool
         ensures { ImpliesNoneConnected result self.now }
     {
-        self.none_connected
+        params::indexes_sockets() && self.index.none_connected
     }
 
     /// The index of an open descriptor's block, and the block, if `places` has that index.
@@ -92,8 +105,11 @@ impl Blocks {
     pub(crate) fn indexed(&self, fd: u32) -> Option<(usize, &Block)>
         ensures { IfSome result (λ r. IsLocated fd self.now r.0 r.1.now) }
     {
+        if !params::indexes_sockets() {
+            return None;
+        }
         let blocks = self.blocks.as_slice();
-        let index = self.places[fd as usize % SOCKETS] as usize;
+        let index = self.index.places[fd as usize % SOCKETS] as usize;
         if index < blocks.len() && fd == blocks[index].fd {
             return Some((index, &blocks[index]));
         }
@@ -106,8 +122,7 @@ impl Blocks {
         ensures { self.new ≡ slice_set self.old index block }
     {
         self.blocks[index] = block;
-        update_index(self.blocks.as_slice(), &mut self.ports, &mut self.places);
-        self.none_connected = is_none_connected(self.blocks.as_slice());
+        self.index.update(self.blocks.as_slice());
     }
 
     /// Inserts a block before the others.
@@ -116,8 +131,7 @@ impl Blocks {
         ensures { self.new ≡ block ∷ self.old }
     {
         insert_first(&mut self.blocks, block);
-        update_index(self.blocks.as_slice(), &mut self.ports, &mut self.places);
-        self.none_connected = is_none_connected(self.blocks.as_slice());
+        self.index.update(self.blocks.as_slice());
     }
 
     /// Removes the block at an index, and moves the later ones down.
@@ -126,8 +140,7 @@ impl Blocks {
         ensures { self.new ≡ remove self.old index }
     {
         remove_at(&mut self.blocks, index);
-        update_index(self.blocks.as_slice(), &mut self.ports, &mut self.places);
-        self.none_connected = is_none_connected(self.blocks.as_slice());
+        self.index.update(self.blocks.as_slice());
     }
 
     /// The block of a descriptor, with its index.
@@ -136,15 +149,13 @@ impl Blocks {
     pub(crate) fn locate(&self, fd: u32) -> Option<Place>
         ensures { Locates fd self.now result }
     {
-        let blocks = self.blocks.as_slice();
-        let index = self.places[fd as usize % SOCKETS] as usize;
-        if index < blocks.len() && blocks[index].fd == fd {
-            return Some(Place {
+        match self.indexed(fd) {
+            Some((index, block)) => Some(Place {
                 index,
-                block: blocks[index],
-            });
+                block: *block,
+            }),
+            None => locate_by_walk(self.blocks.as_slice(), fd),
         }
-        locate_by_walk(blocks, fd)
     }
 
     /// The block of an open descriptor, with its index.
@@ -153,6 +164,20 @@ impl Blocks {
         ensures { IsLocated fd self.now result.index result.block }
     {
         self.locate(fd).unwrap()
+    }
+
+    /// How many blocks from this index on `ports` skips, because they have another port.
+    // A mask takes fewer instructions than a branch, which each comparison of sixteen ports would have.
+    #[inline(always)]
+    fn others_from(&self, at: usize, port: u16) -> usize
+        requires { at ≤ SOCKETS }
+        ensures skipped { from_port port (drop (at + result) self.now) ≡ from_port port (drop at self.now) }
+        ensures most { result ≤ LANES }
+    {
+        if !params::indexes_sockets() {
+            return 0;
+        }
+        lanes_before(&self.index.ports, at, port) & self.index.skips as usize
     }
 
     /// The blocks from the first one with this port on, after the first `passed` blocks.
@@ -165,7 +190,7 @@ impl Blocks {
         let blocks = self.blocks.as_slice();
         let mut at = passed;
         'places: while at < blocks.len() {
-            let next = at + lanes_before(&self.ports, at, port);
+            let next = at + self.others_from(at, port);
             if next >= blocks.len() {
                 return &blocks[blocks.len()..];
             }
@@ -175,6 +200,21 @@ impl Blocks {
             at = next + 1;
         }
         &blocks[blocks.len()..]
+    }
+}
+
+impl Index {
+    /// Indexes these blocks.
+    fn update(&mut self, blocks: &[Block])
+        requires { length blocks.now ≤ SOCKETS }
+        ensures { IsIndexOf blocks.now self.new }
+    {
+        let indexes = params::indexes_sockets();
+        if indexes {
+            update_index(blocks, &mut self.ports, &mut self.places);
+        }
+        self.skips = if indexes { u32::MAX } else { 0 };
+        self.none_connected = indexes && is_none_connected(blocks);
     }
 }
 

@@ -83,7 +83,7 @@ pub(crate) fn exact(blocks: &Blocks, key: LookupKey) -> Option<&Block>
     ensures { option_copied result ≡ youngest_block 0 key blocks.now }
 {
     let all = blocks.as_slice();
-    if all.len() <= FEW {
+    if !params::indexes_sockets() || all.len() <= FEW {
         return exact_by_walk(all, key);
     }
     let Some(block) = best(blocks, key) else {

@@ -138,7 +138,7 @@ impl Pcbs {
             port,
         };
         if let Some(cached) = self.cache {
-            if cached.has_ends(local, source) {
+            if params::indexes_sockets() && cached.has_ends(local, source) {
                 return Some(cached.fd);
             }
         }
@@ -150,6 +150,9 @@ impl Pcbs {
         match best(&self.blocks, key) {
             None => None,
             Some(block) => {
+                if !params::indexes_sockets() {
+                    return Some(block.fd);
+                }
                 // A block that isn't connected leaves the cache as it is.
                 let Some(connection) = block.connection() else {
                     return Some(block.fd);

@@ -1,9 +1,10 @@
 -- The invariants of the fields of a table, and the index of a block (this project's own).
-use Rattle.std.specs.Prelude.{◌≡◌, ℕ, ◌+◌, ◌<◌, ◌≤◌, Bool, true, false, is_some, ◌&&◌, ◌==◌, List, length, get_or, slice_index_or, count_by, find, Option, Some, None, IsSome, unwrap_or}
+use Rattle.std.specs.Prelude.{◌≡◌, ◌≢◌, ℕ, ◌+◌, ◌<◌, ◌≤◌, Bool, true, false, is_some, ◌&&◌, ◌==◌, List, length, get_or, slice_index_or, count_by, find, Option, Some, None, IsSome, unwrap_or}
 use Rattle.params.specs.declared.TheConstants.{FIRST_DESCRIPTOR, FIRST_EPHEMERAL_PORT, LAST_EPHEMERAL_PORT}
 use Rattle.pcb_table.specs.Apart.{has_fd, has_four}
 use Rattle.pcb_table.specs.declared.block.Block.{Block}
 use Rattle.pcb_table.specs.declared.block.Connection.{Connection}
+use Rattle.pcb_table.specs.declared.blocks.Index.{Index}
 use Rattle.pcb_table.specs.declared.search.Place.{Place}
 
 -- the block has the descriptor, the addresses and the ports of this connection
@@ -55,3 +56,8 @@ is_connected b = is_some b.peer
 -- if the index says that none is connected, none is
 abbrev pub ImpliesNoneConnected : Bool → List Block → Type 0
 ImpliesNoneConnected none bs = none ≡ true → find is_connected bs ≡ None
+
+-- what the index says of these blocks is so
+pub record IsIndexOf (bs : List Block) (i : Index) : Type 0 where
+  pub ports : i.skips ≢ 0 → HasPorts bs i.ports
+  pub none_connected : ImpliesNoneConnected i.none_connected bs

@@ -4,8 +4,8 @@ use Rattle.pcb_table.specs.Inside.Search.{youngest_block}
 use Rattle.pcb_table.proofs.Exactly.{exact_is, exact_none, exact_not}
 use Rattle.pcb_table.proofs.search.exact.Goals as goal
 
-pub returns-then-all-le-FEW : goal.returns-then-all-le-FEW
-returns-then-all-le-FEW c = c.exact_by_walk.ensures ∙ ap (youngest_block 0 c.args.key) c.as_slice-all.ensures.value
+pub returns-then-not-indexes_sockets : goal.returns-then-not-indexes_sockets
+returns-then-not-indexes_sockets c = c.exact_by_walk.ensures ∙ ap (youngest_block 0 c.args.key) c.as_slice-all.ensures.value
 
 pub returns-in_default : goal.returns-in_default
 returns-in_default c =

@@ -64,6 +64,14 @@ returns-in-None-clause-found c =
     (best_none c.self.inside.interface c.self.inside.blocks c.self.inside.last_port q
     (sym c.best.ensures ∙ ap option_copied c.in-None.is))
 
+pub returns-then-not-indexes_sockets-clause-found : goal.returns-then-not-indexes_sockets-clause-found
+returns-then-not-indexes_sockets-clause-found c =
+    finds (goal.at.returns-then-not-indexes_sockets-clause-found c).In-Some-best
+
+pub returns-then-not-indexes_sockets-clause-range : goal.returns-then-not-indexes_sockets-clause-range
+returns-then-not-indexes_sockets-clause-range c =
+    range (goal.at.returns-then-not-indexes_sockets-clause-range c).In-Some-best
+
 pub returns-in_default-connection-clause-found : goal.returns-in_default-connection-clause-found
 returns-in_default-connection-clause-found c =
     finds (goal.at.returns-in_default-connection-clause-found c).In-Some-best
