@@ -1,5 +1,5 @@
 """The C header documents what each call returns, each of its errors with sign and name, and its parameters. And the
-sections of its manual page."""
+sections of its manual page, and the symbols of Debian's package."""
 import re
 import subprocess
 import sys
@@ -7,6 +7,7 @@ import sys
 import pytest
 
 from tests.docs.pages import TOP, read
+from tools import version
 
 HEADER = read("capi/include/bsdudp.h")
 BOTH = HEADER + read("capi/include/bsdudp_notes.h")
@@ -37,6 +38,15 @@ def test_call(name):
     known = re.findall(r"(BSDUDP_E[A-Z]+) = ", HEADER)
     assert set(re.findall(r"-(BSDUDP_E[A-Z]+)", errors)) <= set(known)
     assert not re.search(r"(?<!BSDUDP_)\bE[A-Z]{4,}\b", comment), "a bare name of an error"
+
+
+def test_symbols_of_debian():
+    """Each call has the version that brought it: the newest one if the last release's header lacks the call."""
+    brought = dict(re.findall(r"(?m)^ (bsdudp_\w+)@Base (\S+)$", read("dist/debian/libbsdudp0.symbols")))
+    assert sorted(brought) == sorted(CALLS)
+    old, new = read("capi/tests/released/bsdudp.h"), f"{version.newest()}~"
+    of_header = [it for it in brought if re.search(rf"\b{it}\(", HEADER)]
+    assert [it for it in of_header if brought[it] == new] == [it for it in of_header if f"{it}(" not in old]
 
 
 def test_sections_of_the_manual_page():
