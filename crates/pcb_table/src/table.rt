@@ -88,6 +88,8 @@ impl Pcbs {
     }
 
     /// The block of a descriptor, or `None` if it isn't open.
+    // Inlined, or an echo on a board takes 200 instructions more.
+    #[inline(always)]
     pub fn block(&self, fd: u32) -> Option<Block>
         ensures value { result ≡ block_at fd self.now }
         ensures named { IfSome result (λ block. block.fd ≡ fd) }
