@@ -12,7 +12,7 @@ use crate::time::nanoseconds;
 use arrayvec::ArrayVec;
 
 /// How many interfaces a section may describe.
-pub const INTERFACES: usize = 64;
+const INTERFACES: usize = 64;
 
 /// The types of blocks that are parsed, apart from section headers (sections 4.2 to 4.4).
 const INTERFACE: u32 = 1;

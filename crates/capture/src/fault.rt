@@ -24,7 +24,7 @@ pub enum Why {
     /// A packet is of an interface that its section doesn't describe.
     #[error("packet of an unknown interface")]
     NoInterface,
-    /// A section describes more than [`crate::INTERFACES`] interfaces.
+    /// A section describes more than 64 interfaces.
     #[error("more than 64 interfaces")]
     TooManyInterfaces,
     /// A record or a block has more than [`crate::LONGEST_RECORD`] bytes.

@@ -12,7 +12,6 @@ mod records;
 mod section;
 mod time;
 
-pub use blocks::INTERFACES;
 pub use fault::{Fault, Why};
 pub use feed::LONGEST_RECORD;
 pub use records::{Record, Records};

@@ -10,6 +10,5 @@ mod nearest;
 mod text;
 
 pub use advice::{Advice, Player, advice_on, command_of};
-pub use argument::Argument;
 pub use command::{Command, Row, host_commands, wire_commands};
 pub use text::{ADVICE, put_advice};
