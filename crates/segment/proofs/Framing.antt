@@ -1,9 +1,9 @@
 -- Frames that hosts on an Ethernet give and take, one after another.
-use Rattle.std.proofs.Common.{◌≡◌, ◌⊎◌, inl, inr, ℕ, ◌+◌, ◌<◌, ◌≤◌, Bool, true, false, List, [], ◌∷◌, ◌++◌, length, map, take, get_or, zero, suc, Option, None, Some, refl, sym, ap, ◌∙◌, subst, cond, add-one, append_assoc, arith}
+use Rattle.std.proofs.Common.{◌≡◌, ◌⊎◌, inl, inr, ℕ, ◌+◌, ◌<◌, ◌≤◌, Bool, true, false, List, [], ◌∷◌, ◌++◌, drop, length, map, take, get_or, zero, suc, Option, None, Some, refl, sym, ap, ◌∙◌, subst, add-one, append_assoc, arith}
 use Rattle.std.specs.Prelude.{if◌then◌else◌, slice_get, slice_set}
 use Rattle.std.specs.List.{cons_option}
-use Rattle.std.proofs.lemmas.List.{append-nil, length-append, map-append, take_more}
-use Rattle.std.proofs.lemmas.List.Elements.{filter_map-append}
+use Rattle.std.proofs.Math.ListN.{length-set}
+use Rattle.std.proofs.lemmas.List.{append-nil, drop-set-lt, length-map, map-append}
 use Rattle.flat_ether.specs.Hosts.{Host}
 use Rattle.flat_model.specs.declared.config.Config.{Config}
 use Rattle.flat_ether.specs.Links.{LinkState, ticks}
@@ -18,15 +18,16 @@ use Rattle.net_stack.specs.declared.stack.BootFault.{BootFault}
 use Rattle.net_stack.specs.declared.stack.BootFault.TheVariants.{Memory, BadSizes, BadConfig}
 use Rattle.segment.specs.Flying.{Flying, sent_by}
 use Rattle.segment.specs.Frames.{ReceiveEach, IsEtherRefused, IsFree, aged_in, frame_goes_to, frames_below, frames_given, frames_to, given_in, gives_short, hosts_of, or_more}
-use Rattle.segment.specs.Inside.{flying}
+use Rattle.segment.specs.Inside.{EachHost, flying}
 use Rattle.segment.specs.Segment.{SegmentView, AreBoth}
 use Rattle.segment.specs.declared.frame.Frame.{Frame}
 use Rattle.segment.specs.declared.chances.Chances.{Chances}
 use Rattle.segment.specs.declared.segment.JoinFault.TheVariants.{Unbooted}
 use Rattle.segment.specs.declared.tally.Tally.{Tally}
 use Rattle.segment.specs.declared.links.TheConstants.{FRAMES}
-use Rattle.segment.proofs.Walking.{IsWalked, below_or, get_at, get_past, walk_on}
+use Rattle.segment.proofs.Walking.{IsWalked, below_or, get_at, get_past, walk_ends, walk_on}
 use Rattle.segment.proofs.Frames.{map_get, map_set}
+use Rattle.segment.proofs.Taking.{if_goes, received_next}
 
 -- ---- frames that a host gives
 
@@ -147,69 +148,29 @@ pub then_receive : (a b c : Host) (xs ys : List (List ℕ)) → ReceiveEach xs a
 then_receive a b c [] ys same later = subst (λ (h : Host). ReceiveEach ys h c) same later
 then_receive a b c (x ∷ xs) ys (mid, received, rest) later = (mid, received, then_receive mid b c xs ys rest later)
 
--- the frame, if it's for the host at this place
-abbrev pub if_received : ℕ → Mac → Flying → List (List ℕ)
-if_received place mac f = cons_option (if frame_goes_to place mac f then Some f.packet else None) []
-
-pub received_next : (place : ℕ) (mac : Mac) (i : ℕ) (frames : List Frame) (frame : Frame) → i < length frames
-    → frame ≡ get_or frames i frame
-    → frames_to place mac (map flying (take (i + 1) frames))
-    ≡ frames_to place mac (map flying (take i frames)) ++ if_received place mac (flying frame)
-received_next place mac i frames frame within is =
-    ap (λ (fs : List Frame). frames_to place mac (map flying fs))
-    (take_more frames i frame within ∙ ap (λ (f : Frame). take i frames ++ f ∷ []) (sym is))
-    ∙ ap (frames_to place mac) (map-append flying (take i frames) (frame ∷ []))
-    ∙ filter_map-append _ (map flying (take i frames)) (flying frame ∷ [])
-
 pub more_received : (place : ℕ) (mac : Mac) (i : ℕ) (frames : List Frame) (frame : Frame) (a h k : Host)
     → i < length frames → frame ≡ get_or frames i frame
     → ReceiveEach (frames_to place mac (map flying (take i frames))) a h
-    → ReceiveEach (if_received place mac (flying frame)) h k
+    → ReceiveEach (if_goes (frame_goes_to place mac) (flying frame)) h k
     → ReceiveEach (frames_to place mac (map flying (take (i + 1) frames))) a k
 more_received place mac i frames frame a h k within is before one =
-    subst (λ (fs : List (List ℕ)). ReceiveEach fs a k) (sym (received_next place mac i frames frame within is))
-    (then_receive a h k (frames_to place mac (map flying (take i frames))) (if_received place mac (flying frame))
-    before one)
+    let goes = frame_goes_to place mac in
+    subst (λ (fs : List (List ℕ)). ReceiveEach fs a k) (sym (received_next goes i frames frame within is))
+    (then_receive a h k (frames_to place mac (map flying (take i frames))) (if_goes goes (flying frame)) before one)
 
 pub receive_goes : (place : ℕ) (mac : Mac) (f : Flying) (h k u : Host) (bytes : List ℕ) → frame_goes_to place mac f
     ≡ true
     → bytes ≡ f.packet → u ≡ k → ReceiveEach (bytes ∷ []) h k
-    → ReceiveEach (if_received place mac f) h u
+    → ReceiveEach (if_goes (frame_goes_to place mac) f) h u
 receive_goes place mac f h k u bytes is same end received =
     subst (λ (b : Bool). ReceiveEach (cons_option (if b then Some f.packet else None) []) h u) (sym is)
     (subst (λ (p : List ℕ). ReceiveEach (p ∷ []) h u) same
     (subst (λ (x : Host). ReceiveEach (bytes ∷ []) h x) (sym end) received))
 
 pub receive_not : (place : ℕ) (mac : Mac) (f : Flying) (h k : Host) → frame_goes_to place mac f ≡ false → k ≡ h
-    → ReceiveEach (if_received place mac f) h k
+    → ReceiveEach (if_goes (frame_goes_to place mac) f) h k
 receive_not place mac f h k is same =
     subst (λ (b : Bool). ReceiveEach (cons_option (if b then Some f.packet else None) []) h k) (sym is) same
-
--- How many frames come, with one more looked at. `counted_next` in Taking has the same form for packets: frames go by a
--- hardware address, packets by a configuration, so one lemma would take both tests as arguments.
-pub received_counted : (place : ℕ) (mac : Mac) (i : ℕ) (frames : List Frame) (frame : Frame) (n m : ℕ) (goes : Bool)
-    → i < length frames → frame ≡ get_or frames i frame
-    → n ≡ length (frames_to place mac (map flying (take i frames))) → goes ≡ frame_goes_to place mac (flying frame)
-    → m ≡ cond goes (n + 1) n
-    → m ≡ length (frames_to place mac (map flying (take (i + 1) frames)))
-received_counted place mac i frames frame n m goes within is before test after = go goes test after
-  where
-    all : length (frames_to place mac (map flying (take (i + 1) frames)))
-        ≡ length (frames_to place mac (map flying (take i frames))) + length (if_received place mac (flying frame))
-    all =
-        ap length (received_next place mac i frames frame within is)
-        ∙ length-append (frames_to place mac (map flying (take i frames))) (if_received place mac (flying frame))
-
-    go : (b : Bool) → b ≡ frame_goes_to place mac (flying frame) → m ≡ cond b (n + 1) n
-        → m ≡ length (frames_to place mac (map flying (take (i + 1) frames)))
-    go true e h =
-        let one : length (if_received place mac (flying frame)) ≡ 1 =
-        ap (λ b. length (cons_option (cond b (Some (flying frame).packet) None) [])) (sym e) in
-        omega (arith, all, before)
-    go false e h =
-        let none : length (if_received place mac (flying frame)) ≡ 0 =
-        ap (λ b. length (cons_option (cond b (Some (flying frame).packet) None) [])) (sym e) in
-        omega (arith, all, before)
 
 -- ---- one host of a segment
 
@@ -238,6 +199,51 @@ walked_past R old stacks ss links ls place w past a b =
     (sym (ap (λ (xs : List StackView). hosts_of xs (map link_seen ls)) a
     ∙ ap (λ (ys : List LinkLayer). hosts_of stacks (map link_seen ys)) b))
     (walk_none R old (hosts_of stacks (map link_seen links)) place w (omega (arith, hosts_short stacks links)))
+
+-- ---- all hosts of a segment, one after another
+
+-- the hosts below a place went by this relation; a stack without a link is as it was
+pub record HaveGone (R : ℕ → Host → Host → Type 0) (ss : List StackView) (ls : List LinkLayer)
+    (ss' : List StackView) (ls' : List LinkLayer) (place : ℕ) : Type 0 where
+  pub walked : IsWalked R (hosts_of ss (map link_seen ls)) (hosts_of ss' (map link_seen ls')) place
+  pub links : length ls' ≡ length ls
+  pub others : drop (length (map link_seen ls)) ss' ≡ drop (length (map link_seen ls)) ss
+
+module _ {R : ℕ → Host → Host → Type 0} {stacks ss : List StackView} {links ls : List LinkLayer} {place : ℕ}
+    (gone : HaveGone R stacks links ss ls place) where
+  -- the next one goes
+  pub one_gone : {ts : List StackView} {ms : List LinkLayer} (s t : StackView) (l m : LinkLayer) → place < length ss
+      → place < length links → s ≡ get_or ss place s → l ≡ get_or ls place l
+      → R place (halves s (link_seen l)) (halves t (link_seen m)) → ts ≡ slice_set ss place t
+      → ms ≡ slice_set ls place m → HaveGone R stacks links ts ms (place + 1)
+  one_gone {ts} {ms} s t l m within near is at step a b = record {
+    walked =
+        walked_by R (hosts_of stacks (map link_seen links)) ss ts ls ms place s t l m gone.walked within
+        (omega (arith, gone.links)) is at step a b;
+    links = ap (λ ys. length ys) b ∙ length-set ls place m ∙ gone.links;
+    others =
+        ap (drop (length (map link_seen links))) a
+        ∙ drop-set-lt (length (map link_seen links)) ss place t (omega (arith, length-map links link_seen))
+        ∙ gone.others;
+  }
+
+  -- the next link has no stack
+  pub past_gone : {ts : List StackView} {ms : List LinkLayer} → length ss ≤ place → ts ≡ ss → ms ≡ ls
+      → HaveGone R stacks links ts ms (place + 1)
+  past_gone {ts} {ms} past a b = record {
+    walked = walked_past R (hosts_of stacks (map link_seen links)) ss ts ls ms place gone.walked past a b;
+    links = ap (λ ys. length ys) b ∙ gone.links;
+    others = ap (drop (length (map link_seen links))) a ∙ gone.others;
+  }
+
+  pub all_gone : length links ≤ place → EachHost R stacks links ss ls
+  all_gone all = record {
+    hosts =
+        walk_ends R (hosts_of stacks (map link_seen links)) (hosts_of ss (map link_seen ls)) place gone.walked
+        (omega (arith, hosts_length stacks links));
+    links = gone.links;
+    others = gone.others;
+  }
 
 -- the frames of the host at the next place
 pub below_by : (place : ℕ) (R : ℕ → Host → Host → Type 0) (old : List Host) (stacks : List StackView)

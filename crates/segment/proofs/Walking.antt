@@ -42,9 +42,6 @@ pub record IsWalked {X : Type 0} (R : ℕ → X → X → Type 0) (old now : Lis
   pub rest : (k : ℕ) → place ≤ k → slice_get now k ≡ slice_get old k
   pub len : length now ≡ length old
 
-pub walk_begins : {X : Type 0} (R : ℕ → X → X → Type 0) (old : List X) → IsWalked R old old 0
-walk_begins R old = record { done = λ k h. absurd (omega arith); rest = λ k h. refl; len = refl }
-
 abbrev both_are : {X : Type 0} (R : X → X → Type 0) (a b : Option X) (s t : X) → a ≡ Some s → b ≡ Some t → R s t
     → AreBoth R a b
 both_are R a b s t e f r = subst (λ x. AreBoth R x b) (sym e) (subst (λ y. AreBoth R (Some s) y) (sym f) r)

@@ -1,8 +1,10 @@
 -- What the fields say is under way (this project's own).
-use Rattle.std.specs.Prelude.{◌≡◌, ℕ, List, ◌++◌, map, take, vec_capacity, Option}
+use Rattle.std.specs.Prelude.{◌≡◌, ℕ, List, ◌++◌, drop, length, map, take, vec_capacity, Option}
 use Rattle.std.specs.Borrow.{LendsIf, MutBor, Fml}
 use Rattle.std.specs.Vec.{with_item}
+use Rattle.flat_ether.specs.Hosts.{Host}
 use Rattle.ether_host.specs.Inside.{link_seen}
+use Rattle.ether_host.specs.declared.layer.LinkLayer.{LinkLayer}
 use Rattle.net_stack.specs.Stack.{StackView}
 use Rattle.net_stack.specs.contracts.stack.Stack.{the_row as stack_row}
 use Rattle.segment.specs.contracts.segment.Segment.{the_row}
@@ -10,7 +12,8 @@ use Rattle.segment.specs.Chances.{entering}
 use Rattle.segment.specs.Tallies.{tallied}
 use Rattle.segment.specs.declared.chances.Impairment.{Impairment}
 use Rattle.segment.specs.Flying.{Flying}
-use Rattle.segment.specs.Segment.{SegmentView}
+use Rattle.segment.specs.Frames.{hosts_of}
+use Rattle.segment.specs.Segment.{AtEach, SegmentView}
 use Rattle.segment.specs.declared.frame.Frame.{Frame}
 use Rattle.segment.specs.declared.flight.Flight.{Flight}
 use Rattle.segment.specs.declared.segment.Segment.{Segment}
@@ -34,6 +37,18 @@ pub record Enters (room room' : ℕ) (first last : List Flying) (i i' : Impairme
 abbrev pub AreSentBy : Flight → Impairment → List Flying → Flight → Impairment → Type 0
 AreSentBy f i sent f' i' =
     Enters (vec_capacity f.frames) (vec_capacity f'.frames) (under_way f) (under_way f') i i' sent
+
+-- these copies went under way, as many as the capacity allows
+pub record GoUnderWay (f : Flight) (copies : List Flying) (f' : Flight) : Type 0 where
+  pub entered : under_way f' ≡ take (vec_capacity f.frames) (under_way f ++ copies)
+  pub room : vec_capacity f'.frames ≡ vec_capacity f.frames
+
+-- each host went by this relation; a stack without a link is as it was
+pub record EachHost (R : ℕ → Host → Host → Type 0) (ss : List StackView) (ls : List LinkLayer)
+    (ss' : List StackView) (ls' : List LinkLayer) : Type 0 where
+  pub hosts : AtEach R (hosts_of ss (map link_seen ls)) (hosts_of ss' (map link_seen ls'))
+  pub links : length ls' ≡ length ls
+  pub others : drop (length (map link_seen ls)) ss' ≡ drop (length (map link_seen ls)) ss
 
 -- what a segment shows
 abbrev pub view : Segment → SegmentView

@@ -1,5 +1,5 @@
 //! Hosts on an Ethernet: their links send frames, and frames arrive at them.
-ghost use Rattle.std.specs.Prelude.{◌≡◌, ◌≤◌, ◌∷◌, [], if◌then◌else◌, take, drop, Some, None, map, slice_get, length};
+ghost use Rattle.std.specs.Prelude.{◌≡◌, ◌≤◌, ◌∷◌, [], if◌then◌else◌, take, Some, None, map, slice_get, length};
 ghost use Rattle.params.specs.declared.TheConstants.{MAX_MTU};
 ghost use Rattle.ether_host.specs.Inside.{link_seen};
 ghost use Rattle.ether_host.specs.View.{halves};
@@ -8,7 +8,7 @@ ghost use Rattle.segment.specs.Frames.{AreFramesCollected, AreFramesDelivered, R
 ghost use Rattle.segment.specs.Segment.{AtEach};
 ghost use Rattle.segment.specs.declared.segment.TheConstants.{MAX_HOSTS};
 ghost use Rattle.segment.specs.Tallies.{with_received};
-ghost use Rattle.segment.specs.Inside.{AreSentBy, flying, view};
+ghost use Rattle.segment.specs.Inside.{AreSentBy, EachHost, flying, view};
 
 use crate::chances::Impairment;
 use crate::flight::Flight;
@@ -95,15 +95,11 @@ fn collect_frames<W: Watch>(
     links: &mut Vec<LinkLayer>,
     watch: &mut W,
 )
-    ensures hosts { AtEach (λ place h k. k ≡ (frames_given FRAMES h).1)
-        (hosts_of stacks.old.items (map link_seen links.old.items))
-        (hosts_of stacks.new.items (map link_seen links.new.items)) }
+    ensures hosts { EachHost (λ place h k. k ≡ (frames_given FRAMES h).1)
+        stacks.old.items links.old.items stacks.new.items links.new.items }
     ensures sent { AreSentBy flight.old impairment.old
         (frames_below (hosts_of stacks.old.items (map link_seen links.old.items)) (length links.old.items))
         flight.new impairment.new }
-    ensures links { length links.new.items ≡ length links.old.items }
-    ensures others { drop (length (map link_seen links.old.items)) stacks.new.items
-        ≡ drop (length (map link_seen links.old.items)) stacks.old.items }
 {
     for place in 0..links.len() {
         if place < stacks.len() {
@@ -205,12 +201,8 @@ fn deliver_frames<W: Watch>(
     links: &mut Vec<LinkLayer>,
     watch: &mut W,
 )
-    ensures hosts { AtEach (λ place h k. ReceiveEach (frames_to place h.link.link.mac (map flying due.now)) h k)
-        (hosts_of stacks.old.items (map link_seen links.old.items))
-        (hosts_of stacks.new.items (map link_seen links.new.items)) }
-    ensures links { length links.new.items ≡ length links.old.items }
-    ensures others { drop (length (map link_seen links.old.items)) stacks.new.items
-        ≡ drop (length (map link_seen links.old.items)) stacks.old.items }
+    ensures { EachHost (λ place h k. ReceiveEach (frames_to place h.link.link.mac (map flying due.now)) h k)
+        stacks.old.items links.old.items stacks.new.items links.new.items }
 {
     for place in 0..links.len() {
         if place < stacks.len() {

@@ -1,8 +1,8 @@
 //! How packets go under way, and leave.
-ghost use Rattle.std.specs.Prelude.{◌≡◌, ◌≤◌, ◌++◌, ◌∷◌, [], filter, length, map, take, vec_capacity, vec_len};
+ghost use Rattle.std.specs.Prelude.{◌≡◌, ◌≤◌, ◌∷◌, [], filter, length, map, vec_capacity, vec_len};
 ghost use Rattle.segment.specs.Chances.{copies_before};
 ghost use Rattle.segment.specs.Flying.{flying_aged, is_due, is_early, waits};
-ghost use Rattle.segment.specs.Inside.{flying, under_way};
+ghost use Rattle.segment.specs.Inside.{GoUnderWay, flying, under_way};
 
 use crate::chances::Fate;
 use crate::flight::Flight;
@@ -36,10 +36,8 @@ fn part(all: &[Frame], due: &mut Vec<Frame>, early: &mut Vec<Frame>)
 impl Flight {
     /// A copy of the packet in `hand` goes under way, not due for `wait` carries, if the capacity allows.
     fn put(&mut self, wait: u64)
-        ensures put { under_way self.new
-            ≡ take (vec_capacity self.old.frames) (under_way self.old ++ waits wait (flying self.old.hand) ∷ []) }
+        ensures put { GoUnderWay self.old (waits wait (flying self.old.hand) ∷ []) self.new }
         ensures hand { waits 0 (flying self.new.hand) ≡ waits 0 (flying self.old.hand) }
-        ensures room { vec_capacity self.new.frames ≡ vec_capacity self.old.frames }
     {
         self.hand.wait = wait;
         if self.frames.len() < self.frames.capacity() {
@@ -49,9 +47,7 @@ impl Flight {
 
     /// Copies of the packet in `hand` go under way by its fate.
     fn put_copies(&mut self, fate: Fate)
-        ensures entered { under_way self.new
-            ≡ take (vec_capacity self.old.frames) (under_way self.old ++ copies_before fate (flying self.old.hand) []) }
-        ensures room { vec_capacity self.new.frames ≡ vec_capacity self.old.frames }
+        ensures { GoUnderWay self.old (copies_before fate (flying self.old.hand) []) self.new }
     {
         match fate {
             Fate::Lost => {}
@@ -65,9 +61,7 @@ impl Flight {
 
     /// The packet in `hand` is sent by its fate.
     pub(crate) fn enter<W: Watch>(&mut self, fate: Fate, watch: &mut W)
-        ensures entered { under_way self.new
-            ≡ take (vec_capacity self.old.frames) (under_way self.old ++ copies_before fate (flying self.old.hand) []) }
-        ensures room { vec_capacity self.new.frames ≡ vec_capacity self.old.frames }
+        ensures { GoUnderWay self.old (copies_before fate (flying self.old.hand) []) self.new }
     {
         let before = self.frames.len();
         self.put_copies(fate);

@@ -1,6 +1,4 @@
-use Rattle.std.proofs.Common.{◌≡◌, ◌∙◌, ◌<◌, ◌≤◌, ℕ, drop, length, map, sym, ap, subst, arith}
-use Rattle.std.proofs.Math.ListN.{length-set}
-use Rattle.std.proofs.lemmas.List.{drop-set-lt, length-map}
+use Rattle.std.proofs.Common.{◌≡◌, ◌<◌, ◌≤◌, ℕ, length, map, sym, ap, subst, arith}
 use Rattle.flat_ether.specs.Hosts.{Host}
 use Rattle.ether_host.specs.Inside.{link_seen}
 use Rattle.ether_host.specs.View.{halves}
@@ -9,8 +7,7 @@ use Rattle.segment.specs.Frames.{frames_below, frames_given, hosts_of}
 use Rattle.segment.specs.Inside.{AreSentBy}
 use Rattle.segment.specs.declared.links.TheConstants.{FRAMES}
 use Rattle.segment.proofs.Entering.{more_enter, sent_moved}
-use Rattle.segment.proofs.Framing.{below_by, below_past, hosts_length, walked_by, walked_past}
-use Rattle.segment.proofs.Walking.{walk_ends}
+use Rattle.segment.proofs.Framing.{all_gone, below_by, below_past, one_gone, past_gone}
 use Rattle.segment.proofs.links.collect_frames.Goals as goal
 use Rattle.segment.proofs.links.collect_frames.Goals.{then-place-len, else-place-len}
 
@@ -24,49 +21,38 @@ loop-place-preserved g c =
     let old = hosts_of c.args.stacks.now.items (map link_seen c.args.links.now.items) in
     let stacks = c.loop-place.stacks.items in
     let links = c.loop-place.links.items in
-    let most = length (map link_seen c.args.links.now.items) in
-    let as_many : most ≡ length c.args.links.now.items = length-map c.args.links.now.items link_seen in
     let now = c.if-place-len in
     elim c.if-place-len.branch [
       | then-place-len w ↦
           let s = w.index_mut.result.now in
           let l = w.index_mut-then-place-len.result.now in
           let within : place < length stacks = omega (arith, c.len.ensures, w.if-place-len.true) in
-          let near : place < length links = omega (arith, inv.links, inv.end) in
+          let near : place < length c.args.links.now.items = omega (arith, inv.end) in
           let given : AreSentBy c.loop-place.flight c.loop-place.impairment
           (sent_by place (frames_given FRAMES (halves s (link_seen l))).0) now.flight now.impairment =
           sent_moved c.loop-place.flight c.loop-place.impairment _ w.take_frames.new.flight now.flight
           w.take_frames.new.impairment now.impairment w.flight-is w.impairment-is w.take_frames.ensures.sent in
           record {
-            walked =
-                walked_by gives_so old stacks now.stacks.items links now.links.items place s
-                w.take_frames.new.stack l w.take_frames.new.link inv.walked within near
+            gone =
+                one_gone inv.gone s w.take_frames.new.stack l w.take_frames.new.link within near
                 w.index_mut.ensures.value w.index_mut-then-place-len.ensures.value w.take_frames.ensures.host
                 (ap (λ v. v.items) w.stacks-is) (ap (λ v. v.items) w.links-is);
             sent =
                 more_enter inv.sent given
-                (below_by place gives_so old stacks links s l inv.walked within near
+                (below_by place gives_so old stacks links s l inv.gone.walked within (omega (arith, inv.gone.links))
                 w.index_mut.ensures.value w.index_mut-then-place-len.ensures.value);
-            links = ap (λ v. length v.items) w.links-is ∙ length-set links place w.take_frames.new.link ∙ inv.links;
-            others =
-                ap (λ v. drop most v.items) w.stacks-is
-                ∙ drop-set-lt most stacks place w.take_frames.new.stack (omega (arith, inv.end, as_many)) ∙ inv.others;
             end = inv.end;
           }
       | else-place-len w ↦
           let past : length stacks ≤ place = omega (arith, c.len.ensures, w.if-place-len.false) in
-          let none = below_past place gives_so old stacks links inv.walked past in
+          let none = below_past place gives_so old stacks links inv.gone.walked past in
           record {
-            walked =
-                walked_past gives_so old stacks now.stacks.items links now.links.items place inv.walked past
-                (ap (λ v. v.items) w.stacks-is) (ap (λ v. v.items) w.links-is);
+            gone = past_gone inv.gone past (ap (λ v. v.items) w.stacks-is) (ap (λ v. v.items) w.links-is);
             sent =
                 sent_moved c.args.flight.now c.args.impairment.now _ c.loop-place.flight now.flight
                 c.loop-place.impairment now.impairment w.flight-is w.impairment-is
                 (subst (λ fs. AreSentBy c.args.flight.now c.args.impairment.now fs c.loop-place.flight
                 c.loop-place.impairment) (sym none) inv.sent);
-            links = ap (λ v. length v.items) w.links-is ∙ inv.links;
-            others = ap (λ v. drop most v.items) w.stacks-is ∙ inv.others;
             end = inv.end;
           }
     ]
@@ -79,10 +65,4 @@ returns-clause-sent g c =
     c.loop-place.impairment) all c.loop-place.invariant.sent
 
 pub returns-clause-hosts : goal.returns-clause-hosts
-returns-clause-hosts g c =
-    let inv = c.loop-place.invariant in
-    walk_ends (λ place h k. k ≡ (frames_given FRAMES h).1) (hosts_of c.args.stacks.now.items
-    (map link_seen c.args.links.now.items)) (hosts_of c.loop-place.stacks.items
-    (map link_seen c.loop-place.links.items))
-    c.loop-place.place inv.walked
-    (omega (arith, inv.end, hosts_length c.args.stacks.now.items c.args.links.now.items))
+returns-clause-hosts g c = all_gone c.loop-place.invariant.gone (omega (arith, c.loop-place.invariant.end))

@@ -1,5 +1,6 @@
 use Rattle.std.proofs.Common.{◌+◌, ◌∙◌, ap, cond, sym, arith}
-use Rattle.segment.proofs.Framing.{received_counted}
+use Rattle.segment.specs.Frames.{frame_goes_to}
+use Rattle.segment.proofs.Taking.{counted_next}
 use Rattle.segment.proofs.links.count_to.Goals as goal
 use Rattle.segment.proofs.links.count_to.Goals.{then-is_addressed, else-is_addressed}
 
@@ -10,7 +11,7 @@ loop-at-preserved c =
     elim c.if-is_addressed.branch [
       | then-is_addressed w ↦ record {
         counted =
-            received_counted c.args.place c.args.mac c.loop-at.at c.args.due.now c.index-due-at.result n
+            counted_next (frame_goes_to c.args.place c.args.mac) c.loop-at.at c.args.due.now c.index-due-at.result n
             c.if-is_addressed.frames c.is_addressed.result (omega arith) c.index-due-at.is inv.counted
             c.is_addressed.ensures
             (w.frames-is ∙ ap (λ b. cond b (n + 1) n) (sym w.if-is_addressed.true));
@@ -18,7 +19,7 @@ loop-at-preserved c =
       }
       | else-is_addressed w ↦ record {
         counted =
-            received_counted c.args.place c.args.mac c.loop-at.at c.args.due.now c.index-due-at.result n
+            counted_next (frame_goes_to c.args.place c.args.mac) c.loop-at.at c.args.due.now c.index-due-at.result n
             c.if-is_addressed.frames c.is_addressed.result (omega arith) c.index-due-at.is inv.counted
             c.is_addressed.ensures
             (w.frames-is ∙ ap (λ b. cond b (n + 1) n) (sym w.if-is_addressed.false));
