@@ -1,20 +1,18 @@
--- The index after an arrival and after a tick has the rows of the table.
+-- The index after an arrival and after a tick has the first rows of the table.
 use Rattle.std.proofs.Common.{◌≡◌, ℕ, zero, suc, ◌+◌, ◌-◌, ◌<◌, ◌≤◌, Bool, true, false, cond, List, [], ◌∷◌, ◌++◌, map, take, get_or, length, set, refl, sym, ap, ◌∙◌, arith}
 use Rattle.std.specs.Prelude.{remove, nat_lt, count_by}
-use Rattle.std.proofs.lemmas.List.{length-map}
+use Rattle.std.proofs.lemmas.List.{append_assoc, length-map, take-map}
 use Rattle.flat_model.specs.Machine.State.{Key, is_key}
 use Rattle.flat_model.proofs.Laws.{count_cons}
 use Rattle.mbuf_chain.specs.Chain.{PoolView}
 use Rattle.ip_reass.specs.Fragments.{QueuedFragment}
-use Rattle.ip_reass.specs.Inside.Index.{bucket_of, buckets_of}
+use Rattle.ip_reass.specs.Inside.Index.{AreFirst, bucket_of, buckets_of, rows_left}
 use Rattle.ip_reass.specs.Layouts.{KeyedQueue, LeavesAt, keyed_queue_at, queue_of, queues, with_inserted}
 use Rattle.ip_reass.specs.Table.{aged, has_key, unfinished, unfinished_of}
 use Rattle.ip_reass.specs.declared.arrival.Arrival.{Arrival}
 use Rattle.ip_reass.specs.declared.arrival.Arrival.TheVariants.{Kept, Whole, Dropped}
 use Rattle.ip_reass.specs.declared.datagram.Datagram.{Datagram}
-
-pub length_buckets : (n : ℕ) (ds : List Datagram) → length (buckets_of n ds) ≡ length ds
-length_buckets n ds = length-map ds (λ (d : Datagram). bucket_of n d.key)
+use Rattle.ip_out.specs.declared.head.IpHead.{IpHead}
 
 -- how often a key occurs
 pub once_held : (p : PoolView) (k : Key) (ds : List Datagram)
@@ -28,6 +26,37 @@ once_held p k (d ∷ ds) =
       count_cons (is_key k) (unfinished_of p d) (unfinished p ds),
     )
 
+-- ---- the first rows
+
+pub none_first : (cs : List ℕ) → AreFirst [] cs
+none_first cs = record { rest = cs; are = refl }
+
+pub first_same : (bs cs ds : List ℕ) → AreFirst bs cs → cs ≡ ds → AreFirst bs ds
+first_same bs cs ds first e = record { rest = first.rest; are = sym e ∙ first.are }
+
+-- a row that isn't among them is removed
+pub first_past : (bs cs : List ℕ) (i : ℕ) → AreFirst bs cs → length bs ≤ i → AreFirst bs (remove cs i)
+first_past bs cs i first le =
+    first_same bs (remove (bs ++ first.rest) i) (remove cs i) (go bs i le) (ap (λ xs. remove xs i) (sym first.are))
+  where
+    go : (xs : List ℕ) (j : ℕ) → length xs ≤ j → AreFirst xs (remove (xs ++ first.rest) j)
+    go [] j le = none_first (remove first.rest j)
+    go (x ∷ xs) zero le = absurd (omega arith)
+    go (x ∷ xs) (suc j) le =
+        let rest = go xs j (omega arith) in
+        record { rest = rest.rest; are = ap (λ ys. x ∷ ys) rest.are }
+
+-- they are those of the first datagrams
+pub first_taken : (n j : ℕ) (bs : List ℕ) (ds : List Datagram) → AreFirst bs (buckets_of n ds) → j ≡ length bs
+    → bs ≡ buckets_of n (take j ds)
+first_taken n j bs ds first e =
+    sym (go bs) ∙ ap (take (length bs)) (sym first.are) ∙ ap (λ k. take k (buckets_of n ds)) (sym e)
+    ∙ take-map (λ (d : Datagram). bucket_of n d.key) j ds
+  where
+    go : (xs : List ℕ) → take (length xs) (xs ++ first.rest) ≡ xs
+    go [] = refl
+    go (x ∷ xs) = ap (λ ys. x ∷ ys) (go xs)
+
 -- ---- a datagram begins
 
 buckets_more : (n : ℕ) (ds : List Datagram) (d : Datagram)
@@ -35,10 +64,13 @@ buckets_more : (n : ℕ) (ds : List Datagram) (d : Datagram)
 buckets_more n [] d = refl
 buckets_more n (x ∷ ds) d = ap (λ bs. bucket_of n x.key ∷ bs) (buckets_more n ds d)
 
-pub pushed : (n b : ℕ) (bs : List ℕ) (ds es : List Datagram) (d : Datagram) → bs ≡ buckets_of n ds
-    → b ≡ bucket_of n d.key → es ≡ ds ++ d ∷ [] → bs ++ b ∷ [] ≡ buckets_of n es
-pushed n b bs ds es d same is more =
-    (λ i. same i ++ is i ∷ []) ∙ sym (buckets_more n ds d) ∙ ap (buckets_of n) (sym more)
+pub begun : (n : ℕ) (bs : List ℕ) (ds es : List Datagram) (d : Datagram) → AreFirst bs (buckets_of n ds)
+    → es ≡ ds ++ d ∷ [] → AreFirst bs (buckets_of n es)
+begun n bs ds es d first more = record {
+  rest = first.rest ++ bucket_of n d.key ∷ [];
+  are = ap (buckets_of n) more ∙ buckets_more n ds d ∙ (λ i. first.are i ++ bucket_of n d.key ∷ [])
+      ∙ append_assoc bs first.rest (bucket_of n d.key ∷ []);
+}
 
 pub length_more : (ds : List Datagram) (d : Datagram) → length (ds ++ d ∷ []) ≡ length ds + 1
 length_more [] d = omega arith
@@ -57,6 +89,12 @@ renewed n b bs ds k x same lt is =
     more (e ∷ es) zero lt = refl
     more (e ∷ es) (suc j) lt = ap (λ cs. bucket_of n e.key ∷ cs) (more es j (omega arith))
 
+pub other_left : (a : Arrival) (i : ℕ) (bs : List ℕ) → ((c : ℕ) (h : IpHead) → ¬ (a ≡ Whole c h))
+    → rows_left a i bs ≡ bs
+other_left Kept i bs other = refl
+other_left (Whole c h) i bs other = absurd (other c h refl)
+other_left (Dropped why) i bs other = refl
+
 -- ---- a fragment is inserted at a place
 
 -- the buckets of the queues' keys, which are those of the datagrams
@@ -73,16 +111,6 @@ by_remove n (suc i) [] = refl
 by_remove n zero (q ∷ qs) = refl
 by_remove n (suc i) (q ∷ qs) = ap (λ bs. bucket_of n q.key ∷ bs) (by_remove n i qs)
 
-length_remove : (i : ℕ) (qs : List KeyedQueue) → i < length qs → length (remove qs i) + 1 ≡ length qs
-length_remove i [] lt = absurd (omega arith)
-length_remove zero (q ∷ qs) lt = omega arith
-length_remove (suc i) (q ∷ qs) lt = omega (arith, length_remove i qs (omega arith))
-
-length_set : (j : ℕ) (x : KeyedQueue) (qs : List KeyedQueue) → length (set qs j x) ≡ length qs
-length_set j x [] = refl
-length_set zero x (y ∷ qs) = refl
-length_set (suc j) x (y ∷ qs) = ap suc (length_set j x qs)
-
 same_set : (n i : ℕ) (f : QueuedFragment) (qs : List KeyedQueue) → i < length qs
     → by_queues n (set qs i (with_inserted f (keyed_queue_at qs i))) ≡ by_queues n qs
 same_set n i f [] lt = absurd (omega arith)
@@ -92,50 +120,22 @@ same_set n (suc i) f (q ∷ qs) lt = ap (λ bs. bucket_of n q.key ∷ bs) (same_
 queues_long : (p : PoolView) (ds : List Datagram) → length (queues p ds) ≡ length ds
 queues_long p ds = length-map ds (queue_of p)
 
--- the row at the place is removed exactly if the table has one datagram less
-pub followed : (n i : ℕ) (f : QueuedFragment) (p q : PoolView) (ds es : List Datagram) (bs now : List ℕ)
-    (result : Arrival) → bs ≡ buckets_of n ds → i < length ds → LeavesAt i f (queues p ds) q result (queues q es)
-    → (length es < length bs → now ≡ remove bs i) → (length bs ≤ length es → now ≡ bs) → now ≡ buckets_of n es
-followed n i f p q ds es bs now result same lt left fewer equal = go result left
+-- the row at the place is removed exactly if the datagram is whole
+pub buckets_after : (n i : ℕ) (f : QueuedFragment) (p q : PoolView) (ds es : List Datagram) (result : Arrival)
+    → i < length ds → LeavesAt i f (queues p ds) q result (queues q es)
+    → rows_left result i (buckets_of n ds) ≡ buckets_of n es
+buckets_after n i f p q ds es result lt left = go result left
   where
-    long : length bs ≡ length ds
-    long = ap (λ (xs : List ℕ). length xs) same ∙ length_buckets n ds
-
-    inside : i < length (queues p ds)
-    inside = omega (arith, lt, queues_long p ds)
-
-    stays : length (queues q es) ≡ length (queues p ds) → by_queues n (queues q es) ≡ by_queues n (queues p ds)
-        → now ≡ buckets_of n es
-    stays size e =
-        equal (omega (arith, long, size, queues_long p ds, queues_long q es)) ∙ same ∙ by_queues-are n p ds ∙ sym e
-        ∙ sym (by_queues-are n q es)
-
-    go : (r : Arrival) → LeavesAt i f (queues p ds) q r (queues q es) → now ≡ buckets_of n es
+    go : (r : Arrival) → LeavesAt i f (queues p ds) q r (queues q es)
+        → rows_left r i (buckets_of n ds) ≡ buckets_of n es
     go Kept l =
-        stays (ap (λ (xs : List KeyedQueue). length xs) l
-        ∙ length_set i (with_inserted f (keyed_queue_at (queues p ds) i)) (queues p ds)) (ap (by_queues n) l
-        ∙ same_set n i f (queues p ds) inside)
+        by_queues-are n p ds
+        ∙ sym (ap (by_queues n) l ∙ same_set n i f (queues p ds) (omega (arith, lt, queues_long p ds)))
+        ∙ sym (by_queues-are n q es)
     go (Whole c h) l =
-        let size : length es < length bs =
-        omega (
-          arith,
-          long,
-          ap (λ (xs : List KeyedQueue). length xs) l.1,
-          length_remove i (queues p ds) inside,
-          queues_long p ds,
-          queues_long q es,
-        ) in
-        fewer size ∙ ap (λ xs. remove xs i) (same ∙ by_queues-are n p ds) ∙ by_remove n i (queues p ds)
-        ∙ ap (by_queues n) (sym l.1) ∙ sym (by_queues-are n q es)
-    go (Dropped why) l = stays (ap (λ (xs : List KeyedQueue). length xs) l.0) (ap (by_queues n) l.0)
-
--- the buckets are unchanged if the fragment is kept
-pub kept_followed : (n i : ℕ) (f : QueuedFragment) (p q : PoolView) (ds es : List Datagram) (bs : List ℕ)
-    → bs ≡ buckets_of n ds → i < length ds → LeavesAt i f (queues p ds) q Kept (queues q es) → bs ≡ buckets_of n es
-kept_followed n i f p q ds es bs same lt l =
-    same ∙ by_queues-are n p ds ∙ sym
-    (ap (by_queues n) l ∙ same_set n i f (queues p ds) (omega (arith, lt, queues_long p ds)))
-    ∙ sym (by_queues-are n q es)
+        ap (λ xs. remove xs i) (by_queues-are n p ds) ∙ by_remove n i (queues p ds) ∙ ap (by_queues n) (sym l.1)
+        ∙ sym (by_queues-are n q es)
+    go (Dropped why) l = by_queues-are n p ds ∙ ap (by_queues n) (sym l.0) ∙ sym (by_queues-are n q es)
 
 -- ---- a tick
 

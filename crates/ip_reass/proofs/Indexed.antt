@@ -51,12 +51,17 @@ compared k d =
     regroup (eqb d.key.source k.source) (eqb d.key.destination k.destination) (eqb d.key.id k.id)
     (eqb d.key.protocol k.protocol)
 
-none_found : (p : Datagram → Bool) (ds : List Datagram)
+pub none_found : (p : Datagram → Bool) (ds : List Datagram)
     → ((k : ℕ) (d : Datagram) → k < length ds → p (get_or ds k d) ≡ false) → find p ds ≡ None
 none_found p [] none = refl
 none_found p (x ∷ ds) none =
     ap (λ t. cond t (Some x) (find p ds)) (none 0 x (omega arith))
     ∙ none_found p ds (λ k d lt. none (suc k) d (omega arith))
+
+pub any_default : (ds : List Datagram) (i : ℕ) (a b : Datagram) → i < length ds → get_or ds i a ≡ get_or ds i b
+any_default [] i a b lt = absurd (omega arith)
+any_default (x ∷ ds) zero a b lt = refl
+any_default (x ∷ ds) (suc i) a b lt = any_default ds i a b (omega arith)
 
 -- ---- buckets
 
@@ -130,11 +135,6 @@ walk_goes_on n key ds bs rows place next x same some at other e w =
           ∙ ap (has_key key) (any_default ds place d x (omega (arith, w.within, row))) ∙ other
       | inr ne ↦ w.none k d (omega (arith, row, from, ne)) lt
     ])
-  where
-    any_default : (es : List Datagram) (i : ℕ) (a b : Datagram) → i < length es → get_or es i a ≡ get_or es i b
-    any_default [] i a b lt = absurd (omega arith)
-    any_default (y ∷ es) zero a b lt = refl
-    any_default (y ∷ es) (suc i) a b lt = any_default es i a b (omega arith)
 
 pub walk_ends : (n : ℕ) (key : Key) (ds : List Datagram) (rows : ℕ) → Walked n key ds rows → rows ≤ 0
     → find (has_key key) ds ≡ None

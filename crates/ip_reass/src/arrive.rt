@@ -62,7 +62,7 @@ impl Reass {
         requires few { 2 * length self.old.datagrams < pool.old.mbufs }
         ensures { HasPlace pool.old self.old counters.old key result pool.new self.new counters.new }
     {
-        if let Some(i) = find(self.datagrams.as_slice(), &self.index, key) {
+        if let Some(i) = find(self.datagrams.as_slice(), &mut self.index, key) {
             return Some(i);
         }
         if !reserve(pool, self, counters, 1, 0) {
@@ -73,8 +73,6 @@ impl Reass {
             unreachable!()
         };
         let i = self.datagrams.as_slice().len();
-        let bucket = self.index.bucket(&key);
-        self.index.add(bucket);
         begin(&mut self.datagrams, key, holder);
         Some(i)
     }
@@ -121,8 +119,7 @@ impl Reass {
         if let Arrival::Kept = arrival {
             return Arrival::Kept;
         }
-        let rest = self.datagrams.as_slice().len();
-        self.index.follow(rest, i);
+        self.index.follow(&arrival, i);
         arrival
     }
 

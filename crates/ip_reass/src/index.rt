@@ -1,9 +1,11 @@
 //! The rows of the table, found by a hash of their keys.
-ghost use Rattle.std.specs.Prelude.{◌≡◌, ℕ, ◌+◌, ◌-◌, ◌<◌, ◌≤◌, ◌++◌, ◌∷◌, ◌^◌, [], length, remove, get_or, IfOk};
-ghost use Rattle.ip_reass.specs.Inside.Index.{AreLinked, HasRows, bucket_of, buckets_in, buckets_of, halves_of, upto_last};
+ghost use Rattle.std.specs.Prelude.{◌≡◌, ℕ, ◌+◌, ◌-◌, ◌<◌, ◌≤◌, ◌++◌, ◌∷◌, ◌^◌, [], List, false, length, remove, get_or, IfOk};
+ghost use Rattle.ip_reass.specs.Inside.Index.{AreFirst, AreLinked, HasRows, bucket_of, buckets_in, buckets_of, halves_of, rows_left, upto_last};
 
+use crate::arrival::Arrival;
 use crate::datagram::Datagram;
 use flat_model::FragmentKey;
+use params::indexes_fragments;
 use std::alloc::{AllocError, Global};
 use std::marker::Model;
 
@@ -76,7 +78,9 @@ fn close_up(lasts: &mut [u32], rows: &mut [Row], place: usize, len: usize)
 }
 
 /// An index of a table's rows by the buckets of their keys. When keys were compared row by row, a fragment of a new
-/// datagram took 100,544 instructions if 10,000 others were unfinished.
+/// datagram took 100,544 instructions if 10,000 others were unfinished. It has the first rows of the table: the others
+/// are added when a key is looked up in it. So a datagram that is completed while it's the newest takes no row, and an
+/// index that is never used stays empty.
 #[derive(Drop)]
 pub(crate) struct Index {
     // for each bucket, how many rows there are up to and including its last: 0 if it's empty
@@ -153,7 +157,7 @@ impl Index {
     }
 
     /// Returns how many rows there are.
-    pub(crate) fn len(&self) -> usize
+    fn len(&self) -> usize
         ensures is { result ≡ length self.now.buckets }
         ensures within { result ≤ self.now.room }
     {
@@ -161,7 +165,7 @@ impl Index {
     }
 
     /// Adds a row after the others.
-    pub(crate) fn add(&mut self, bucket: u32)
+    fn add(&mut self, bucket: u32)
         requires bucket { bucket < self.old.count }
         requires room { length self.old.buckets < self.old.room }
         ensures { HasRows self.old self.new (self.old.buckets ++ bucket ∷ []) }
@@ -173,9 +177,9 @@ impl Index {
     }
 
     /// Removes a row. Those after it move down by one, at about 12 instructions each.
-    // Not inlined: it's called once for a datagram, and `follow` for each fragment.
+    // Not inlined: a datagram that is completed while it's the newest has no row.
     #[inline(never)]
-    pub(crate) fn remove(&mut self, place: usize)
+    fn remove(&mut self, place: usize)
         requires { place < length self.old.buckets }
         ensures { HasRows self.old self.new (remove self.old.buckets place) }
     {
@@ -186,20 +190,30 @@ impl Index {
         self.len -= 1;
     }
 
-    /// Removes the row at a place, if the table now has fewer than the index.
-    pub(crate) fn follow(&mut self, len: usize, place: usize)
-        requires { len < length self.old.buckets → place < length self.old.buckets }
-        ensures fewer { len < length self.old.buckets → self.new.buckets ≡ remove self.old.buckets place }
-        ensures same { length self.old.buckets ≤ len → self.new.buckets ≡ self.old.buckets }
+    /// Removes the row at a place, if an arrival took the datagram there out of the table.
+    pub(crate) fn follow(&mut self, arrival: &Arrival, place: usize)
+        ensures rows { (bs : List ℕ) → AreFirst self.old.buckets bs
+            → AreFirst self.new.buckets (rows_left arrival.now place bs) }
         ensures count { self.new.count ≡ self.old.count }
         ensures room { self.new.room ≡ self.old.room }
     {
-        if len < self.len() {
+        let Arrival::Whole(_, _) = arrival else {
+            return;
+        };
+        if place >= self.len() {
+            return;
+        }
+        if indexes_fragments() {
             self.remove(place);
+        } else {
+            // Only a proof comes here: an index that isn't used has no rows.
+            self.clear();
         }
     }
 
     /// Removes all rows.
+    // Not inlined: it has three callers, and no fragment in order comes here.
+    #[inline(never)]
     pub(crate) fn clear(&mut self)
         ensures { HasRows self.old self.new [] }
     {
@@ -207,19 +221,28 @@ impl Index {
         self.len = 0;
     }
 
-    /// Replaces its rows with those of a table, if the table now has fewer.
-    pub(crate) fn renew(&mut self, table: &[Datagram])
-        requires some { 0 < self.old.count }
-        requires few { length table.now ≤ length self.old.buckets }
-        requires same { length self.old.buckets ≡ length table.now
-            → self.old.buckets ≡ buckets_of self.old.count table.now }
-        ensures { HasRows self.old self.new (buckets_of self.old.count table.now) }
+    /// Removes all rows if the table has lost some of its own.
+    pub(crate) fn clear_if(&mut self, lost: bool)
+        ensures rows { (bs cs : List ℕ) → AreFirst self.old.buckets bs → (lost ≡ false → bs ≡ cs)
+            → AreFirst self.new.buckets cs }
+        ensures count { self.new.count ≡ self.old.count }
+        ensures room { self.new.room ≡ self.old.room }
     {
-        if self.len() == table.len() {
-            return;
+        if lost {
+            self.clear();
         }
-        self.clear();
-        'rows: for place in 0..table.len() {
+    }
+
+    /// Adds the rows of the table that it lacks.
+    pub(crate) fn catch_up(&mut self, table: &[Datagram])
+        requires some { 0 < self.old.count }
+        requires room { length table.now ≤ self.old.room }
+        requires first { AreFirst self.old.buckets (buckets_of self.old.count table.now) }
+        ensures rows { self.new.buckets ≡ buckets_of self.new.count table.now }
+        ensures count { self.new.count ≡ self.old.count }
+        ensures room { self.new.room ≡ self.old.room }
+    {
+        'rows: for place in self.len()..table.len() {
             let bucket = self.bucket(&table[place].key);
             self.add(bucket);
         }

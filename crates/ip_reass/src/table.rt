@@ -9,7 +9,7 @@ ghost use Rattle.mbuf_chain.specs.Chain.{PoolView};
 ghost use Rattle.mbuf_chain.specs.Owners.{Moves};
 ghost use Rattle.mbuf_chain.specs.Frames.{SameAt};
 ghost use Rattle.ip_reass.specs.Arrivals.{with_waiting};
-ghost use Rattle.ip_reass.specs.Inside.Index.{CanFind, IsFound};
+ghost use Rattle.ip_reass.specs.Inside.Index.{CanFind, Indexes, IsFound};
 ghost use Rattle.ip_reass.specs.Table.{aged, unfinished, has_key, new_datagram, holds, held_all, AllUnfinished, IsTable, IsReady};
 
 use crate::datagram::{Datagram, free_datagram};
@@ -17,7 +17,7 @@ use crate::index::Index;
 use flat_model::FragmentKey;
 use ledger::Waiting;
 use mbuf_chain::{Chain, Pool, Reclaim, Train};
-use params::FRAGMENT_TICKS;
+use params::{FRAGMENT_TICKS, indexes_fragments};
 use std::alloc::{AllocError, Global};
 use std::marker::Model;
 
@@ -111,8 +111,7 @@ impl Reass {
         let before = self.datagrams.len();
         let kept = age(self.datagrams.as_mut_slice());
         free_beyond(pool, &mut self.datagrams, kept);
-        let table = self.datagrams.as_slice();
-        self.index.renew(table);
+        self.index.clear_if(kept < before);
         (before - kept) as u32
     }
 }
@@ -158,10 +157,13 @@ fn age(table: &mut [Datagram]) -> usize
 /// Returns the place of the datagram with a key, if there is one, by the rows of the key's bucket, the last first.
 // Not inlined: usually the newest datagram is the one.
 #[inline(never)]
-fn find_by_bucket(table: &[Datagram], index: &Index, key: FragmentKey) -> Option<usize>
-    requires { CanFind index.now table.now key }
-    ensures { IsFound key table.now result }
+fn find_by_bucket(table: &[Datagram], index: &mut Index, key: FragmentKey) -> Option<usize>
+    requires { CanFind index.old table.now key }
+    ensures found { IsFound key table.now result }
+    ensures indexes { Indexes index.new table.now }
+    ensures room { index.new.room ≡ index.old.room }
 {
+    index.catch_up(table);
     let bucket = index.bucket(&key);
     let mut rows = index.last(bucket);
     'rows: while rows > 0 {
@@ -174,13 +176,31 @@ fn find_by_bucket(table: &[Datagram], index: &Index, key: FragmentKey) -> Option
     None
 }
 
+/// Returns the place of the datagram with a key, if there is one, by a walk.
+fn find_by_walk(table: &[Datagram], key: FragmentKey) -> Option<usize>
+    requires { count_by (has_key key) table.now ≤ 1 }
+    ensures { IsFound key table.now result }
+{
+    'rows: for place in 0..table.len() {
+        if table[place].key == key {
+            return Some(place);
+        }
+    }
+    None
+}
+
 /// Returns the place of the datagram with a key, if there is one. The newest is tested first, because fragments of a
 /// datagram mostly follow one another.
 #[inline(always)]
-pub(crate) fn find(table: &[Datagram], index: &Index, key: FragmentKey) -> Option<usize>
-    requires { CanFind index.now table.now key }
-    ensures { IsFound key table.now result }
+pub(crate) fn find(table: &[Datagram], index: &mut Index, key: FragmentKey) -> Option<usize>
+    requires { CanFind index.old table.now key }
+    ensures found { IsFound key table.now result }
+    ensures indexes { Indexes index.new table.now }
+    ensures room { index.new.room ≡ index.old.room }
 {
+    if !indexes_fragments() {
+        return find_by_walk(table, key);
+    }
     let len = table.len();
     if len > 0 && table[len - 1].key == key {
         return Some(len - 1);

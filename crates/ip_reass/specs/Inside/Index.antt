@@ -1,7 +1,9 @@
 -- The rows of the table, found by the buckets of their keys (this project's own).
-use Rattle.std.specs.Prelude.{◌≡◌, ℕ, zero, suc, ◌+◌, ◌*◌, ◌/◌, ◌%◌, ◌<◌, ◌≤◌, ◌==◌, if◌then◌else◌, List, map, take, length, get_or, count_by, find, slice_get, Option, None, MatchOption}
+use Rattle.std.specs.Prelude.{◌≡◌, ℕ, zero, suc, ◌+◌, ◌*◌, ◌/◌, ◌%◌, ◌<◌, ◌≤◌, ◌==◌, if◌then◌else◌, List, ◌++◌, map, take, remove, length, get_or, count_by, find, slice_get, Option, None, MatchOption}
 use Rattle.flat_model.specs.Machine.State.{Key}
 use Rattle.ip_reass.specs.Table.{has_key}
+use Rattle.ip_reass.specs.declared.arrival.Arrival.{Arrival}
+use Rattle.ip_reass.specs.declared.arrival.Arrival.TheVariants.{Kept, Whole, Dropped}
 use Rattle.ip_reass.specs.declared.datagram.Datagram.{Datagram}
 use Rattle.ip_reass.specs.declared.index.Row.{Row}
 
@@ -46,15 +48,26 @@ pub record AreLinked (ends : List ℕ) (rows : List Row) (n : ℕ) : Type 0 wher
   pub inside : (k : ℕ) (d : Row) → k < n → (get_or rows k d).bucket < length ends
   pub lasts : (b : ℕ) → b < length ends → get_or ends b 0 ≡ upto_last b (buckets_in rows n) n
 
--- the index has the rows of the table
+-- bs are the first of cs
+pub record AreFirst (bs cs : List ℕ) : Type 0 where
+  pub rest : List ℕ
+  pub are : cs ≡ bs ++ rest
+
+-- the rows that a table has after an arrival at a place
+abbrev pub rows_left : Arrival → ℕ → List ℕ → List ℕ
+rows_left Kept i bs = bs
+rows_left (Whole c h) i bs = remove bs i
+rows_left (Dropped why) i bs = bs
+
+-- the index has the first rows of the table, perhaps not all
 pub record Indexes (x : IndexView) (ds : List Datagram) : Type 0 where
   pub some : 0 < x.count
-  pub rows : x.buckets ≡ buckets_of x.count ds
+  pub rows : AreFirst x.buckets (buckets_of x.count ds)
 
--- the index finds each row of the table, and at most one has this key
+-- it also has room for the others, and at most one row has this key
 pub record CanFind (x : IndexView) (ds : List Datagram) (k : Key) : Type 0 where
-  pub some : 0 < x.count
-  pub indexed : x.buckets ≡ buckets_of x.count ds
+  pub indexes : Indexes x ds
+  pub room : length ds ≤ x.room
   pub once : count_by (has_key k) ds ≤ 1
 
 -- the place of the first row with this key, if there is one

@@ -4,8 +4,8 @@ use Rattle.ip_reass.specs.declared.datagram.Datagram.{Datagram}
 use Rattle.ip_reass.proofs.Indexed.{compared, only_found}
 use Rattle.ip_reass.proofs.table.find.Goals as goal
 
-pub returns-then-eq : goal.returns-then-eq
-returns-then-eq c =
+pub returns-then-eq-clause-found : goal.returns-then-eq-clause-found
+returns-then-eq-clause-found c =
     let i : ℕ = length c.args.table.now - 1 in
     let x : Datagram = c.index-table-len.result in
     let d : Datagram = get_or c.args.table.now i x in

@@ -7,11 +7,11 @@ use Rattle.ip_reass.proofs.table.find_by_bucket.Goals as goal
 
 pub rows-init : goal.rows-init
 rows-init c =
-    walk_begins c.args.index.now.count c.args.key c.args.table.now c.args.index.now.buckets c.bucket-bucket.result
-    c.last-rows.result c.requires.indexed c.bucket-bucket.ensures.is c.last-rows.ensures
+    walk_begins c.catch_up.new.self.count c.args.key c.args.table.now c.catch_up.new.self.buckets
+    c.bucket-bucket.result c.last-rows.result c.catch_up.ensures.rows c.bucket-bucket.ensures.is c.last-rows.ensures
 
-pub returns-then-eq : goal.returns-then-eq
-returns-then-eq c =
+pub returns-then-eq-clause-found : goal.returns-then-eq-clause-found
+returns-then-eq-clause-found c =
     let i = c.rows.rows - 1 in
     let x : Datagram = c.index-table-place.result in
     let d : Datagram = get_or c.args.table.now i x in
@@ -23,7 +23,7 @@ returns-then-eq c =
 
 pub rows-smaller : goal.rows-smaller
 rows-smaller c =
-    let bs = c.args.index.now.buckets in
+    let bs = c.catch_up.new.self.buckets in
     omega (
       arith,
       c.before-rows.ensures,
@@ -36,9 +36,10 @@ rows-preserved c =
     let i = c.rows.rows - 1 in
     let x : Datagram = c.index-table-place.result in
     let d : Datagram = get_or c.args.table.now i x in
-    walk_goes_on c.args.index.now.count c.args.key c.args.table.now c.args.index.now.buckets c.rows.rows i
-    c.before-rows.result x c.requires.indexed c.rows-test.true refl
+    walk_goes_on c.catch_up.new.self.count c.args.key c.args.table.now c.catch_up.new.self.buckets c.rows.rows i
+    c.before-rows.result x c.catch_up.ensures.rows c.rows-test.true refl
     (sym (compared c.args.key d) ∙ (sym c.eq.ensures ∙ c.if-eq.false)) c.before-rows.ensures c.rows.invariant
 
-pub returns : goal.returns
-returns c = walk_ends c.args.index.now.count c.args.key c.args.table.now c.rows.rows c.rows.invariant c.rows-test.false
+pub returns-clause-found : goal.returns-clause-found
+returns-clause-found c =
+    walk_ends c.catch_up.new.self.count c.args.key c.args.table.now c.rows.rows c.rows.invariant c.rows-test.false

@@ -1,16 +1,16 @@
-use Rattle.std.proofs.Common.{◌+◌, ◌<◌, ◌≤◌, ◌++◌, ◌∷◌, ◌∙◌, List, ℕ, length, refl, sym, ap, subst, arith}
+use Rattle.std.proofs.Common.{◌+◌, ◌<◌, ◌≤◌, ◌++◌, ◌∷◌, ◌∙◌, ℕ, length, refl, sym, ap, subst, arith}
 use Rattle.mbuf_chain.specs.Chain.{ChainView, string}
 use Rattle.mbuf_chain.specs.Owners.{Moves}
 use Rattle.mbuf_chain.proofs.Laws.Owners.{moves_trans}
 use Rattle.ip_reass.specs.Arrivals.{GoesOn, in_hand, key_in, with_waiting}
 use Rattle.ip_reass.specs.Layouts.{HasLayout, LeavesAt, queues}
 use Rattle.ip_reass.specs.declared.arrival.Arrival.{Arrival}
+use Rattle.ip_reass.specs.declared.arrival.Arrival.TheVariants.{Kept}
 use Rattle.ip_reass.specs.Inside.Walks.{arrived}
-use Rattle.ip_reass.specs.Inside.Index.{buckets_of}
+use Rattle.ip_reass.specs.Inside.Index.{buckets_of, rows_left}
 use Rattle.ip_reass.specs.Table.{held_all}
-use Rattle.ip_reass.specs.declared.datagram.Datagram.{Datagram}
 use Rattle.ip_reass.proofs.Distinct.{distinct_after}
-use Rattle.ip_reass.proofs.IndexAfter.{followed, kept_followed}
+use Rattle.ip_reass.proofs.IndexAfter.{buckets_after, first_same}
 use Rattle.ip_reass.proofs.HaveSome.{fragments_after}
 use Rattle.ip_reass.proofs.PlaceOf.{Lacks, Placed, lacks_in, placed_in}
 use Rattle.ip_reass.proofs.Queues.{cause_lacking}
@@ -128,12 +128,13 @@ invariant_of-self c =
       record {
         some = c.self.invariant.2.some;
         rows =
-            kept_followed c.self.inside.index.count c.in-Some.i f c.place_of.new.pool
-            c.insert_and_count-arrival.new.pool c.self.inside.datagrams.items es c.self.inside.index.buckets
-            c.self.invariant.2.rows s.within
+            first_same c.self.inside.index.buckets (buckets_of c.self.inside.index.count c.self.inside.datagrams.items)
+            (buckets_of c.self.inside.index.count es) c.self.invariant.2.rows
+            (buckets_after c.self.inside.index.count c.in-Some.i f c.place_of.new.pool
+            c.insert_and_count-arrival.new.pool c.self.inside.datagrams.items es Kept s.within
             (subst (λ (r : Arrival). LeavesAt c.in-Some.i f
             (queues c.place_of.new.pool c.self.inside.datagrams.items) c.insert_and_count-arrival.new.pool r
-            (queues c.insert_and_count-arrival.new.pool es)) c.in-Kept.is c.insert_and_count-arrival.ensures.layout);
+            (queues c.insert_and_count-arrival.new.pool es)) c.in-Kept.is c.insert_and_count-arrival.ensures.layout));
       },
     )
 
@@ -187,19 +188,19 @@ pub invariant_of-self-2 : goal.invariant_of-self-2
 invariant_of-self-2 c =
     let s = there (goal.at.invariant_of-self-2 c).After-insert_and_count-arg-3-1 in
     let es = c.insert_and_count-arrival.new.table.items in
-    let rest = ap (λ (ds : List Datagram). length ds) c.as_slice-rest.ensures.value in (
+    let n = c.self.inside.index.count in
+    let ds = c.self.inside.datagrams.items in
+    let f = arrived c.place_of.new.pool c.args.chain c.args.head.offset c.args.head.more in (
       omega (arith, c.insert_and_count-arrival.ensures.len, c.self.invariant.0),
       omega (arith, c.follow.ensures.room, c.insert_and_count-arrival.ensures.capacity, c.self.invariant.1),
       record {
         some = omega (arith, c.follow.ensures.count, c.self.invariant.2.some);
         rows =
-            followed c.self.inside.index.count c.in-Some.i
-            (arrived c.place_of.new.pool c.args.chain c.args.head.offset c.args.head.more) c.place_of.new.pool
-            c.insert_and_count-arrival.new.pool c.self.inside.datagrams.items es c.self.inside.index.buckets
-            c.follow.new.self.buckets c.insert_and_count-arrival.result c.self.invariant.2.rows s.within
-            c.insert_and_count-arrival.ensures.layout
-            (λ less. c.follow.ensures.fewer (omega (arith, less, rest)))
-            (λ le. c.follow.ensures.same (omega (arith, le, rest)))
-            ∙ ap (λ (k : ℕ). buckets_of k es) (sym c.follow.ensures.count);
+            first_same c.follow.new.self.buckets
+            (rows_left c.insert_and_count-arrival.result c.in-Some.i (buckets_of n ds))
+            (buckets_of c.follow.new.self.count es) (c.follow.ensures.rows (buckets_of n ds) c.self.invariant.2.rows)
+            (buckets_after n c.in-Some.i f c.place_of.new.pool c.insert_and_count-arrival.new.pool ds es
+            c.insert_and_count-arrival.result s.within c.insert_and_count-arrival.ensures.layout
+            ∙ ap (λ (k : ℕ). buckets_of k es) (sym c.follow.ensures.count));
       },
     )

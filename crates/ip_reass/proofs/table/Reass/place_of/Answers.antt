@@ -1,10 +1,10 @@
-use Rattle.std.proofs.Common.{◌≡◌, ◌*◌, ◌<◌, ◌++◌, ◌∷◌, [], ℕ, Bool, List, None, length, find, sym, ap, ◌∙◌, subst, arith, inr}
+use Rattle.std.proofs.Common.{◌≡◌, ◌*◌, ◌<◌, ◌++◌, ◌∷◌, [], Bool, List, None, length, find, sym, ap, ◌∙◌, subst, arith, inr}
 use Rattle.std.specs.Prelude.{count_by}
-use Rattle.ip_reass.specs.Inside.Index.{buckets_of}
+use Rattle.ip_reass.specs.Inside.Index.{Indexes, buckets_of}
 use Rattle.ip_reass.specs.Inside.Place.{RequestsMbuf}
 use Rattle.ip_reass.specs.Table.{TableView, has_key, new_datagram}
 use Rattle.ip_reass.specs.declared.datagram.Datagram.{Datagram}
-use Rattle.ip_reass.proofs.IndexAfter.{length_buckets, once_held, pushed}
+use Rattle.ip_reass.proofs.IndexAfter.{begun, first_same, once_held}
 use Rattle.ip_reass.proofs.PlaceOf.{asks}
 use Rattle.ip_reass.proofs.Queues.{few_reserved}
 use Rattle.ip_reass.proofs.table.Reass.place_of.Goals.{After-as_slice, After-as_slice-i, After-reserve, In_default}
@@ -15,37 +15,66 @@ rows : (c : After-as_slice) → c.as_slice.result.now ≡ c.args.self.now.datagr
 rows c = c.as_slice.ensures.value ∙ ap (λ (r : TableView). r.datagrams) c.self.view_is
 
 pub find-requires : goal.find-requires
-find-requires c = record {
-  some = c.self.invariant.2.some;
-  indexed = c.self.invariant.2.rows ∙ ap (buckets_of c.self.inside.index.count) (sym c.as_slice.ensures.value);
-  once =
-      omega (
-        arith,
-        ap (λ (ds : List Datagram). count_by (has_key c.args.key) ds) (rows (goal.at.find-requires c).After-as_slice),
-        once_held c.args.pool.now c.args.key c.args.self.now.datagrams,
-        c.requires.ready.distinct c.args.key,
-      );
-}
+find-requires c =
+    let same = rows (goal.at.find-requires c).After-as_slice in
+    record {
+      indexes = record {
+        some = c.self.invariant.2.some;
+        rows =
+            first_same c.self.inside.index.buckets
+            (buckets_of c.self.inside.index.count c.self.inside.datagrams.items)
+            (buckets_of c.self.inside.index.count c.as_slice.result.now) c.self.invariant.2.rows
+            (ap (buckets_of c.self.inside.index.count) (sym c.as_slice.ensures.value));
+      };
+      room =
+          omega (
+            arith,
+            ap (λ (ds : List Datagram). length ds) same,
+            ap (λ (r : TableView). r.room) c.self.view_is,
+            c.requires.few,
+            c.requires.ready.room,
+          );
+      once =
+          omega (
+            arith,
+            ap (λ (ds : List Datagram). count_by (has_key c.args.key) ds) same,
+            once_held c.args.pool.now c.args.key c.args.self.now.datagrams,
+            c.requires.ready.distinct c.args.key,
+          );
+    }
 
 fresh : (c : In_default) → c.as_slice.result.now ≡ c.args.self.now.datagrams
     → find (has_key c.args.key) c.args.self.now.datagrams ≡ None
-fresh c rows = ap (λ (ds : List Datagram). find (has_key c.args.key) ds) (sym rows) ∙ c.in_default.ensures
+fresh c rows = ap (λ (ds : List Datagram). find (has_key c.args.key) ds) (sym rows) ∙ c.in_default.ensures.found
+
+-- the index may have more rows now
+searched : (c : After-reserve)
+    → record { datagrams = c.self.inside.datagrams.items; room = c.find.new.index.room } ≡ c.args.self.now
+searched c = λ i. record {
+  datagrams = (ap (λ (r : TableView). r.datagrams) c.self.view_is) i;
+  room = (c.find.ensures.room ∙ ap (λ (r : TableView). r.room) c.self.view_is) i;
+}
 
 -- an mbuf is requested
 asked : (c : After-reserve) (answer : Bool) → c.reserve.result ≡ answer
     → RequestsMbuf c.args.pool.now c.args.self.now c.args.counters.now answer c.reserve.new.pool c.reserve.new.waiting
     c.reserve.new.counters
 asked c answer is =
-    subst (λ (b : Bool). RequestsMbuf c.args.pool.now c.args.self.now c.args.counters.now b c.reserve.new.pool
+    let r : TableView = record { datagrams = c.self.inside.datagrams.items; room = c.find.new.index.room } in
+    subst (λ (s : TableView). RequestsMbuf c.args.pool.now s c.args.counters.now answer c.reserve.new.pool
+    c.reserve.new.waiting c.reserve.new.counters) (searched c)
+    (subst (λ (b : Bool). RequestsMbuf c.args.pool.now r c.args.counters.now b c.reserve.new.pool
     c.reserve.new.waiting c.reserve.new.counters) is
-    (asks c.args.pool.now c.reserve.new.pool c.args.self.now c.reserve.new.waiting c.args.counters.now
+    (asks c.args.pool.now c.reserve.new.pool r c.reserve.new.waiting c.args.counters.now
     c.reserve.new.counters c.reserve.result c.reserve.ensures.reserves c.reserve.ensures.moves
-    c.reserve.ensures.ready c.reserve.ensures.answer c.reserve.ensures.kept c.reserve.ensures.none)
+    c.reserve.ensures.ready c.reserve.ensures.answer c.reserve.ensures.kept c.reserve.ensures.none))
 
 few : (c : After-reserve) → 2 * length c.reserve.new.waiting.datagrams < c.reserve.new.pool.mbufs
 few c =
-    few_reserved c.args.pool.now c.reserve.new.pool c.args.self.now c.reserve.new.waiting c.args.counters.now
-    c.reserve.new.counters _ c.reserve.ensures.kept c.reserve.ensures.none c.reserve.ensures.moves.mbufs c.requires.few
+    let r : TableView = record { datagrams = c.self.inside.datagrams.items; room = c.find.new.index.room } in
+    few_reserved c.args.pool.now c.reserve.new.pool r c.reserve.new.waiting c.args.counters.now
+    c.reserve.new.counters _ c.reserve.ensures.kept c.reserve.ensures.none c.reserve.ensures.moves.mbufs
+    (omega (arith, c.requires.few, ap (λ (s : TableView). length s.datagrams) (searched c)))
 
 pub returns-then-not-reserve : goal.returns-then-not-reserve
 returns-then-not-reserve c =
@@ -57,18 +86,6 @@ returns-then-not-reserve c =
 -- the datagram is added
 len_is : (c : After-as_slice-i) → c.as_slice-i.result.now ≡ c.reserve.new.waiting.datagrams
 len_is c = c.as_slice-i.ensures.value ∙ ap (λ (r : TableView). r.datagrams) c.self-2.view_is
-
-pub add-requires-clause-room : goal.add-requires-clause-room
-add-requires-clause-room c =
-    omega (
-      arith,
-      ap (λ (bs : List ℕ). length bs) c.self-2.invariant.2.rows,
-      length_buckets c.self-2.inside.index.count c.self-2.inside.datagrams.items,
-      ap (λ (r : TableView). length r.datagrams) c.self-2.view_is,
-      ap (λ (r : TableView). r.room) c.self-2.view_is,
-      c.reserve.ensures.ready.room,
-      few (goal.at.add-requires-clause-room c).After-reserve,
-    )
 
 pub begin-requires : goal.begin-requires
 begin-requires c =
@@ -83,8 +100,15 @@ begin-requires c =
     )
 
 pub invariant_of-self : goal.invariant_of-self
-invariant_of-self c =
-    let at = goal.at.invariant_of-self c in (
+invariant_of-self c = (
+  c.self.invariant.0,
+  omega (arith, c.find.ensures.room, c.self.invariant.1),
+  subst (Indexes c.find.new.index) c.as_slice.ensures.value c.find.ensures.indexes,
+)
+
+pub invariant_of-self-3 : goal.invariant_of-self-3
+invariant_of-self-3 c =
+    let at = goal.at.invariant_of-self-3 c in (
       omega (
         arith,
         c.begin.ensures.len,
@@ -93,15 +117,13 @@ invariant_of-self c =
         few at.After-reserve,
         c.laws.ensures.small,
       ),
-      omega (arith, c.add.ensures.room, c.begin.ensures.capacity, c.self-2.invariant.1),
+      omega (arith, c.begin.ensures.capacity, c.self-2.invariant.1),
       record {
-        some = omega (arith, c.add.ensures.count, c.self-2.invariant.2.some);
+        some = c.self-2.invariant.2.some;
         rows =
-            c.add.ensures.rows
-            ∙ pushed c.self-2.inside.index.count c.bucket-bucket.result c.self-2.inside.index.buckets
-            c.self-2.inside.datagrams.items c.begin.new.table.items (new_datagram c.args.key c.in-Ok.holder)
-            c.self-2.invariant.2.rows c.bucket-bucket.ensures.is c.begin.ensures.items
-            ∙ ap (λ (k : ℕ). buckets_of k c.begin.new.table.items) (sym c.add.ensures.count);
+            begun c.self-2.inside.index.count c.self-2.inside.index.buckets c.self-2.inside.datagrams.items
+            c.begin.new.table.items (new_datagram c.args.key c.in-Ok.holder) c.self-2.invariant.2.rows
+            c.begin.ensures.items;
       },
     )
 
@@ -119,7 +141,7 @@ returns c =
         change =
             c.begin.ensures.items ∙ (λ j. (ap (λ (r : TableView). r.datagrams) c.self-2.view_is) j
             ++ new_datagram c.args.key c.in-Ok.holder ∷ []);
-        room = c.add.ensures.room ∙ ap (λ (r : TableView). r.room) c.self-2.view_is;
+        room = ap (λ (r : TableView). r.room) c.self-2.view_is;
         place = ap (λ (ds : List Datagram). length ds) (len_is at.After-as_slice-i);
       },
     )

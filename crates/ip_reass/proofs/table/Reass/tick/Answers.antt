@@ -2,12 +2,14 @@ use Rattle.std.proofs.Common.{◌≡◌, ◌-◌, ℕ, List, length, take, subst
 use Rattle.ip_reass.specs.declared.datagram.Datagram.{Datagram}
 use Rattle.mbuf_chain.specs.Owners.{Moves}
 use Rattle.ip_reass.specs.Table.{aged, held_all, holds, AllUnfinished, IsTable}
+use Rattle.std.proofs.lemmas.Bool.{ltb-false}
 use Rattle.std.proofs.lemmas.List.{length-take-le}
 use Rattle.ip_reass.specs.Table.{TableView}
 use Rattle.ip_reass.proofs.Aging.{reordered, table_reordered, lent, tick_step, aged_distinct}
 use Rattle.ip_reass.proofs.HaveSome.{aged_fragments}
 use Rattle.ip_reass.specs.Inside.Index.{buckets_of}
-use Rattle.ip_reass.proofs.IndexAfter.{aged_same, length_buckets}
+use Rattle.ip_reass.proofs.IndexAfter.{aged_same, first_same}
+use Rattle.ip_reass.proofs.table.Reass.tick.Goals.{After-clear_if}
 use Rattle.ip_reass.proofs.table.Reass.tick.Goals as goal
 
 pub free_beyond-requires-clause-table : goal.free_beyond-requires-clause-table
@@ -33,7 +35,7 @@ returns-clause-moves c =
     c.self.inside.datagrams.items c.age-kept.new.table long)
     c.free_beyond.ensures.moves)
 
-aged_now : (c : goal.After-renew) → c.free_beyond.new.table.items ≡ aged c.args.self.now.datagrams
+aged_now : (c : After-clear_if) → c.free_beyond.new.table.items ≡ aged c.args.self.now.datagrams
 aged_now c =
     let long : length c.age-kept.new.table ≡ c.self.inside.datagrams.len = omega arith in
     let was = c.as_mut_slice.ensures.value ∙ (ap (λ (r : TableView). r.datagrams) c.self.view_is) in
@@ -70,24 +72,43 @@ returns-clause-ready c = record {
       (aged_now c) c.free_beyond.ensures.same c.requires.distinct;
 }
 
-pub renew-requires-clause-same : goal.renew-requires-clause-same
-renew-requires-clause-same c = λ e.
+pub invariant_of-self : goal.invariant_of-self
+invariant_of-self c =
     let n = c.self.inside.index.count in
+    let ds = c.self.inside.datagrams.items in
+    let es = c.free_beyond.new.table.items in
     let was = ap (λ (r : TableView). r.datagrams) c.self.view_is in
-    let size : length c.age-kept.new.table ≡ c.self.inside.datagrams.len = omega arith in
     let old = c.as_mut_slice.ensures.value ∙ was in
-    let now =
-    c.as_slice-table.ensures.value ∙ c.free_beyond.ensures.items
-    ∙ ap (take c.age-kept.result) (lent c.self.inside.datagrams.len c.self.inside.datagrams.items
-    c.age-kept.new.table size) ∙ c.age-kept.ensures.kept ∙ ap aged old in
-    let long : length c.args.self.now.datagrams ≡ length (aged c.args.self.now.datagrams) =
-    omega (
-      arith,
-      e,
-      ap (λ (bs : List ℕ). length bs) c.self.invariant.2.rows,
-      length_buckets n c.self.inside.datagrams.items,
-      ap (λ (xs : List Datagram). length xs) was,
-      ap (λ (xs : List Datagram). length xs) now,
-    ) in
-    c.self.invariant.2.rows ∙ ap (buckets_of n) was ∙ aged_same n c.args.self.now.datagrams long
-    ∙ ap (buckets_of n) (sym now)
+    let now = aged_now (goal.at.invariant_of-self c).After-clear_if in
+    let kept : length (aged c.args.self.now.datagrams) ≡ c.age-kept.result =
+    ap (λ (xs : List Datagram). length xs) (sym (c.age-kept.ensures.kept ∙ ap aged old))
+    ∙ length-take-le c.age-kept.result c.age-kept.new.table c.age-kept.ensures.within in
+    let size : length c.args.self.now.datagrams ≡ c.self.inside.datagrams.len =
+    omega (arith, c.as_mut_slice.ensures.len, ap (λ (xs : List Datagram). length xs) old) in (
+      omega (
+        arith,
+        c.free_beyond.ensures.len,
+        c.age-kept.ensures.within,
+        c.as_mut_slice.ensures.len,
+        c.self.invariant.0,
+      ),
+      omega (arith, c.clear_if.ensures.room, c.free_beyond.ensures.capacity, c.self.invariant.1),
+      record {
+        some = omega (arith, c.clear_if.ensures.count, c.self.invariant.2.some);
+        rows =
+            first_same c.clear_if.new.self.buckets (buckets_of n es) (buckets_of c.clear_if.new.self.count es)
+            (c.clear_if.ensures.rows (buckets_of n ds) (buckets_of n es) c.self.invariant.2.rows
+            (λ e. ap (buckets_of n) was
+            ∙ aged_same n c.args.self.now.datagrams
+            (omega (
+              arith,
+              ltb-false c.age-kept.result c.len-before.result e,
+              kept,
+              size,
+              c.len-before.ensures,
+              c.age-kept.ensures.within,
+            ))
+            ∙ ap (buckets_of n) (sym now)))
+            (ap (λ (k : ℕ). buckets_of k es) (sym c.clear_if.ensures.count));
+      },
+    )

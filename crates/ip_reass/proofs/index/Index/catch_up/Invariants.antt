@@ -1,6 +1,6 @@
 use Rattle.std.proofs.Common.{◌≡◌, ◌≤◌, length, take}
 use Rattle.ip_reass.specs.Inside.Index.{buckets_of}
-use Rattle.ip_reass.proofs.index.Index.renew.Given as goal
+use Rattle.ip_reass.proofs.index.Index.catch_up.Given as goal
 
 abbrev pub invariant-rows : goal.invariant-rows
 invariant-rows l = record {

@@ -1,7 +1,16 @@
-use Rattle.std.proofs.Common.{ℕ, ◌+◌, take, ap, sym, ◌∙◌, arith}
+use Rattle.std.proofs.Common.{ℕ, ◌+◌, take, refl, ap, sym, ◌∙◌, arith}
 use Rattle.ip_reass.specs.Inside.Index.{buckets_of}
-use Rattle.ip_reass.proofs.IndexAfter.{renewed}
-use Rattle.ip_reass.proofs.index.Index.renew.Goals as goal
+use Rattle.ip_reass.proofs.IndexAfter.{first_taken, renewed}
+use Rattle.ip_reass.proofs.index.Index.catch_up.Goals as goal
+
+pub rows-init : goal.rows-init
+rows-init c = record {
+  rows = first_taken c.args.self.now.count c.len-place.result c.args.self.now.buckets c.args.table.now c.requires.first
+      c.len-place.ensures.is;
+  few = c.requires.room;
+  count = refl;
+  room = refl;
+}
 
 pub rows-preserved : goal.rows-preserved
 rows-preserved c = record {
