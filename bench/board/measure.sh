@@ -107,7 +107,7 @@ board_echoes() { # WORK
     local work=$1 level made
     table_row Cortex-M3 'library' 'echo: text' data bss 'call stack' '2 bytes' '1,472' '4,000'
     echo '|---|---:|---:|---:|---:|---:|---:|---:|---:|'
-    for level in -Oz -Os -O2; do
+    for level in --small -Os -O2; do
         made=$(core_of "$work" cortex-m3 $level)
         board_ours "$work" "\`portable/core $level\`" "$made" "$made/libbsdudp.a"
     done
@@ -134,7 +134,7 @@ board_hosts() { # WORK
     table_row 'Cortex-M3, frames' library 'echo: text' data bss 'call stack' '2 bytes' '1,472' '4,000' \
         'ARP request' 'ping of 56'
     echo '|---|---:|---:|---:|---:|---:|---:|---:|---:|---:|---:|'
-    for level in -Oz -Os -O2; do
+    for level in --small -Os -O2; do
         made=$(core_of "$work" cortex-m3 $level)
         board_ours "$work" "\`portable/core $level\`" "$made" "$made/libbsdudp.a" -DETHER
     done

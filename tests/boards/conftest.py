@@ -1,9 +1,12 @@
 """Fixtures that compile and run C programs with the C library for a processor."""
 from __future__ import annotations
 
+import importlib.machinery
+import importlib.util
 import os
 import pathlib
 import pickle
+from types import ModuleType
 from typing import Callable, Sequence
 
 import pytest
@@ -21,6 +24,15 @@ SANITIZED = ["-fsanitize=address,undefined", "-fno-sanitize-recover=all"]
 # A program that plays scripts with the library.
 DRIVER = [TOP / "portable/tests/run.c", TOP / "portable/tests/host.c"]
 BOARD = TOP / "portable/board"
+
+
+@pytest.fixture(scope="session")
+def core_script() -> ModuleType:
+    """The script portable/core."""
+    loader = importlib.machinery.SourceFileLoader("core", str(TOP / "portable/core"))
+    module = importlib.util.module_from_spec(importlib.util.spec_from_loader("core", loader))
+    loader.exec_module(module)
+    return module
 
 
 @pytest.fixture(scope="session")

@@ -1,23 +1,11 @@
 """portable/core replaces memmove by memcpy only where no copy can overlap, and leaves out the test whether it does. It
 refuses a core with a copy that it doesn't know."""
-import importlib.machinery
-import importlib.util
-
 import pytest
 
-from tests.cases import TOP
 from tools.llvm import Stop
 
 BITS = "core::ptr::copy_drop::copy_bits::<i8>"
 MOVE = "call void @llvm.memmove.p0.p0.i64(ptr %a1, ptr %a0, i64 {}, i1 false)"
-
-
-@pytest.fixture(scope="module")
-def core():
-    loader = importlib.machinery.SourceFileLoader("core", str(TOP / "portable/core"))
-    module = importlib.util.module_from_spec(importlib.util.spec_from_loader("core", loader))
-    loader.exec_module(module)
-    return module
 
 
 def function(name, *lines):
@@ -31,19 +19,19 @@ VALUE = function("udp::header::read_header", MOVE.format("24"))
 SLICES = function("core::slots::Slots::copy_in::<i8>", f'call void @"{BITS}"(ptr %a0, ptr %a1)')
 
 
-def test_copies_of_values_and_between_borrows_are_memcpy(core):
-    text = core.copied(COPIES + VALUE + SLICES)
+def test_copies_of_values_and_between_borrows_are_memcpy(core_script):
+    text = core_script.copied(COPIES + VALUE + SLICES)
     assert "memmove" not in text and text.count("call void @llvm.memcpy.") == 2
 
 
-def test_copies_between_borrows_arent_tested(core):
-    assert "%r4 = icmp ult i64 1, 0" in core.copied(COPIES + VALUE + SLICES)
+def test_copies_between_borrows_arent_tested(core_script):
+    assert "%r4 = icmp ult i64 1, 0" in core_script.copied(COPIES + VALUE + SLICES)
 
 
 @pytest.mark.parametrize("body", [ADDRESSES, TEST, [*ADDRESSES, *TEST, *TEST]], ids=["no test", "other numbers", "two"])
-def test_another_test_of_overlapping_is_refused(core, body):
+def test_another_test_of_overlapping_is_refused(core_script, body):
     with pytest.raises(Stop, match="overlapping"):
-        core.copied(function(BITS, *body, MOVE.format("%r7")))
+        core_script.copied(function(BITS, *body, MOVE.format("%r7")))
 
 
 @pytest.mark.parametrize(
@@ -54,6 +42,6 @@ def test_another_test_of_overlapping_is_refused(core, body):
     ],
     ids=["a length that isn't known", "another caller"],
 )
-def test_a_copy_that_may_overlap_is_refused(core, added):
+def test_a_copy_that_may_overlap_is_refused(core_script, added):
     with pytest.raises(Stop, match="copy_within"):
-        core.copied(COPIES + VALUE + SLICES + added)
+        core_script.copied(COPIES + VALUE + SLICES + added)

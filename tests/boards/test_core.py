@@ -17,7 +17,7 @@ MODULE = ("rt", "wasm-opt", "cc")
 pytestmark = [pytest.mark.slow, pytest.mark.needs(*MODULE)]
 TARGETS = "cortex-m0 cortex-m3 cortex-m4 cortex-m7 cortex-m33 rv32imac i686 armv7 x86_64 aarch64".split()
 RANDOM = 2000
-MOST_OF_LEAST = 41_000  # bytes of the core for the least size, where pointers have 64 bits
+MOST_OF_SMALL = 37_000  # bytes of the core for small flash, where pointers have 64 bits
 
 
 class Host(NamedTuple):
@@ -34,7 +34,7 @@ HOSTS = {
     "i686": Host("i686", [CC, "-m32"], needs=("cc -m32",)),
     "i686 sanitized": Host("i686", [CC, "-m32", *SANITIZED], options=("--sanitized",), needs=("cc -m32",)),
     "i686 checked": Host("i686", [CC, "-m32"], options=("--checked",), needs=("cc -m32",)),
-    "i686 -Oz": Host("i686", [CC, "-m32"], options=("-Oz",), needs=("cc -m32",)),
+    "i686 --small": Host("i686", [CC, "-m32"], options=("--small",), needs=("cc -m32",)),
     "armv7": Host(
         "armv7", ["arm-linux-gnueabihf-gcc"], ["qemu-arm", "-L", "/usr/arm-linux-gnueabihf"],
         needs=("arm-linux-gnueabihf", "qemu-user"),
@@ -98,7 +98,7 @@ def test_scripts(host, builds, plays):
     plays(builds(host, "driver", "-O1", *DRIVER), RANDOM)
 
 
-@hosts("i686", "i686 sanitized", "i686 -Oz", "armv7", "x86_64")
+@hosts("i686", "i686 sanitized", "i686 --small", "armv7", "x86_64")
 def test_driver_builds(host, builds):
     builds(host, "driver", "-O1", *DRIVER)
 
@@ -126,11 +126,11 @@ def test_scripts_on_riscv(core_for, plays, tmp_path):
         pytest.param("aarch64", ["-static"], marks=pytest.mark.needs(*HOSTS["aarch64"].needs)),
     ],
 )  # fmt: skip
-def test_least_size(name, more, core_for, builds, runs):
-    host = HOSTS[name]._replace(options=("-Oz",), runs_by=HOSTS[name].runs_by[:1])
-    sizes = llvm.run("size", core_for(name, "-Oz") / "libbsdudp.a").splitlines()
+def test_small_size(name, more, core_for, builds, runs):
+    host = HOSTS[name]._replace(options=("--small",), runs_by=HOSTS[name].runs_by[:1])
+    sizes = llvm.run("size", core_for(name, "--small") / "libbsdudp.a").splitlines()
     (core,) = (int(it.split()[0]) for it in sizes if "core.o" in it)
-    assert core <= MOST_OF_LEAST
+    assert core <= MOST_OF_SMALL
     runs(*builds(host, "calls", *more, "tests/calls.c"))
 
 
@@ -211,7 +211,7 @@ BY_SERIAL, ALONE = [*MACHINE, "stdio"], [*MACHINE, "null"]
 # The most of the columns of bench/board's table, for each level: the library, the echo's text, data, bss and call
 # stack, and the instructions of three lengths.
 COSTS = {
-    "-Oz": [41_200, 20_800, 16, 52_500, 1_455, 5_210, 10_900, 40_850],
+    "--small": [38_450, 17_550, 16, 52_500, 820, 2_315, 7_630, 23_740],
     "-Os": [42_900, 21_350, 16, 52_500, 825, 1_785, 6_980, 21_500],
     "-O2": [73_000, 41_400, 16, 52_500, 765, 1_545, 6_550, 19_200],
 }
@@ -220,7 +220,7 @@ on_board = pytest.mark.needs("arm-none-eabi", "qemu-arm")
 
 
 @on_board
-@pytest.mark.parametrize("options", [(), ("-Oz",)], ids=["-Os", "-Oz"])
+@pytest.mark.parametrize("options", [(), ("--small",)], ids=["-Os", "--small"])
 def test_scripts_on_the_board(options, board_for, plays):
     plays([*ALONE, "-kernel", board_for(*options) / "scripts.elf"], RANDOM)
 
