@@ -10,7 +10,9 @@ ghost use Rattle.std.specs.Prelude.{◌≡◌, ◌+◌, ◌-◌, ◌*◌, ◌^�
 
 mod ways;
 
-pub use ways::{appends_fragments, indexes_fragments, indexes_sockets, reads_in_place};
+pub use ways::{
+    appends_fragments, indexes_fragments, indexes_sockets, reads_in_place, tries_one_buffer,
+};
 
 /// The size of an mbuf in bytes, including its header (volume 2, chapter 2).
 pub const MSIZE: u32 = 128;

@@ -26,3 +26,9 @@ pub fn indexes_fragments() -> bool {
 pub fn appends_fragments() -> bool {
     true
 }
+
+/// Whether it's tried first if bytes fit into one buffer or lie in one. Otherwise buffers are walked, one by one.
+#[inline(always)]
+pub fn tries_one_buffer() -> bool {
+    true
+}
