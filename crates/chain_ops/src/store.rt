@@ -13,6 +13,7 @@ use mbuf_chain::{Chain, Pool};
 use mbuf_pool::NoBufs;
 use params::{
     CLUSTER_LEADING_SPACE, IP_MAX_PACKET, MBUF_HEADER, MCLBYTES, MHLEN, MINCLSIZE, MLEN, MSIZE,
+    tries_one_buffer,
 };
 
 /// The buffers for the bytes of a packet or of a send. Only `space_for` chooses them.
@@ -146,6 +147,9 @@ fn store(pool: &mut Pool, bytes: &[u8], large: u32, ends: bool) -> Result<Chain,
     ensures err { OnErr result (Lacks pool.old (rooms_for large (length bytes.now))) }
     ensures same { OnErr result (pool.new ≡ pool.old) }
 {
+    if !tries_one_buffer() {
+        return store_rooms(pool, bytes, large, ends);
+    }
     match space_for(large, bytes.len() as u32) {
         Space::InMbuf => {
             let start = first_start(ends, bytes.len());
@@ -195,6 +199,10 @@ pub fn wire_need(n: u32) -> Need
     requires { n ≤ IP_MAX_PACKET }
     ensures { result ≡ need_of (wire n) }
 {
+    if !tries_one_buffer() {
+        // No bytes take one mbuf, as one byte does.
+        return count_rooms(n.max(1));
+    }
     match space_for(0, n) {
         Space::InMbuf => Need {
             mbufs: 1,
@@ -208,9 +216,9 @@ pub fn wire_need(n: u32) -> Need
     }
 }
 
-/// `wire_need` for more than 100 bytes, counted mbuf by mbuf.
+/// `wire_need` for at least one byte, counted mbuf by mbuf.
 fn count_rooms(n: u32) -> Need
-    requires many { MHLEN < n }
+    requires some { 0 < n }
     requires most { n ≤ IP_MAX_PACKET }
     ensures { result ≡ need_of (wire n) }
 {
