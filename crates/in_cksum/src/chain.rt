@@ -7,6 +7,7 @@ ghost use Rattle.in_cksum.specs.Partial.{sum_of};
 
 use crate::Sum;
 use mbuf_chain::{Chain, Pool};
+use params::tries_one_buffer;
 
 /// Computes the checksum of the bytes added to `start`, followed by `len` bytes of a chain from offset `off`. The
 /// result is to be written big-endian.
@@ -22,6 +23,9 @@ pub fn cksum_chain(pool: &Pool, chain: &Chain, off: u32, len: u32, mut start: Su
     ensures { (before : List ℕ) → start ≡ sum_of before
         → result ≡ checksum (before ++ take len (drop off (string (chain_of pool.now chain.now)))) }
 {
+    if !tries_one_buffer() {
+        return cksum_pieces(pool, chain, off, len, start);
+    }
     let (from, to) = (off as usize, off as usize + len as usize);
     let first = pool.bytes(chain, pool.first(chain));
     if to > first.len() {
