@@ -12,7 +12,7 @@ use chain_ops::m_copydata;
 use flat_model::Why;
 use in_cksum::{Sum, sum_head};
 use mbuf_chain::{Chain, Pool};
-use params::{FRAGMENT_UNIT, IP_HEADER, IP_MAX_PACKET};
+use params::{FRAGMENT_UNIT, IP_HEADER, IP_MAX_PACKET, tries_one_buffer};
 
 /// The first byte of a header without options: version 4, and 5 words of 4 bytes.
 pub const VERSION_AND_LENGTH: u8 = 0x45;
@@ -223,6 +223,9 @@ pub fn read_head(pool: &Pool, chain: &Chain) -> Result<IpHead, Why>
     let len = pool.len(chain);
     if len < IP_HEADER {
         return Err(Why::TooSmall);
+    }
+    if !tries_one_buffer() {
+        return read_cut(pool, chain, len);
     }
     // Usually it's in the first mbuf and is read in place.
     let first = pool.bytes(chain, pool.first(chain));

@@ -89,9 +89,10 @@ parts-preserved c =
     ≡ insert (queued_packets c.fragment.new.pool c.parts.train) c.parts.train.len new =
     ap (λ (k : ℕ). insert (queued_packets c.fragment.new.pool c.parts.train) k new) c.len-end.ensures in
     let item = ap item_of head ∙ later_is c.copy_weight.ensures v c.args.head p c.requires.datagram.bytes (some at) in
+    let more = parts_more c.args.n c.args.cut.chunk i (omega arith) in
     record {
       later =
-          later_more p c.parts.invariant.later c.in-Ok.ensures.ok refl item (parts_more c.args.n c.args.cut.chunk i (omega arith))
+          later_more p c.parts.invariant.later c.in-Ok.ensures.ok refl item more
           (c.insert.ensures.queued_packets ∙ end) c.insert.ensures.held c.insert.ensures.moves;
       cursor = subst (λ (w : ChainView). IsCursor w c.advance-from.result)
           (kept_moves c.args.chain.now c.parts.invariant.later.moves c.requires.live).0 c.advance-from.ensures.cursor;
