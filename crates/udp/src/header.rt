@@ -10,7 +10,7 @@ use chain_ops::m_copydata;
 use in_cksum::{Sum, cksum_chain};
 use ip_out::{put_u16, u16_at};
 use mbuf_chain::{Chain, Pool};
-use params::{PROTOCOL_UDP, UDP_HEADER};
+use params::{PROTOCOL_UDP, UDP_HEADER, tries_one_buffer};
 
 /// Bytes of a header.
 pub(crate) const HEADER: usize = UDP_HEADER as usize;
@@ -57,6 +57,9 @@ pub(crate) fn read_header(pool: &Pool, chain: &Chain) -> Header
     requires header { UDP_HEADER ≤ length (string (chain_of pool.now chain.now)) }
     ensures { result ≡ header_in (string (chain_of pool.now chain.now)) }
 {
+    if !tries_one_buffer() {
+        return read_cut(pool, chain);
+    }
     // Usually the header is in the first mbuf and is read in place.
     let first = pool.bytes(chain, pool.first(chain));
     match first.split_first_chunk() {

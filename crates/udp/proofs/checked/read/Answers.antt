@@ -16,9 +16,11 @@ returns-in_default c =
     let few : length c.carried-carried.result.now < 8 = omega (arith, c.in_default.ensures.cases) in
     let e : udp_fault c.head-head.result.src c.head-head.result.dst c.carried-carried.result.now
     ≡ Some UdpHeaderDrops = first_of (search rules, grind (arith, common_steps)) in
+    let head = c.head-head.ensures in
+    let kind = c.if-head-ne-PROTOCOL_UDP.false in
     record {
       packet = tt;
-      err = fault_of_packet c.args.packet.packet.now _ c.head-head.result _ c.head-head.ensures c.if-head-ne-PROTOCOL_UDP.false c.carried-carried.ensures e;
+      err = fault_of_packet c.args.packet.packet.now _ c.head-head.result _ head kind c.carried-carried.ensures e;
     }
 
 pub returns-then-carried-header : goal.returns-then-carried-header
@@ -33,9 +35,11 @@ returns-then-carried-header c =
       | then-carried-header-via-else-carried-header+then-header-lt-UDP_HEADER w ↦
           first_of (search rules, grind (arith, common_steps))
     ] in
+    let head = c.head-head.ensures in
+    let kind = c.if-head-ne-PROTOCOL_UDP.false in
     record {
       packet = tt;
-      err = fault_of_packet c.args.packet.packet.now _ c.head-head.result _ c.head-head.ensures c.if-head-ne-PROTOCOL_UDP.false c.carried-carried.ensures e;
+      err = fault_of_packet c.args.packet.packet.now _ c.head-head.result _ head kind c.carried-carried.ensures e;
     }
 
 pub invariant_of-result : goal.invariant_of-result
