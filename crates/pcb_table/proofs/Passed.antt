@@ -1,9 +1,7 @@
 -- What is passed, if the indexed ports of some places are others.
-use Rattle.std.proofs.Common.{◌≡◌, ◌≢◌, ℕ, zero, suc, ◌+◌, ◌-◌, ◌<◌, ◌≤◌, true, false, ◌==◌, cond, List, [], ◌∷◌, ◌++◌, drop, take, take_all, length, get_or, Option, Some, None, unwrap_or, refl, sym, ap, ◌∙◌, arith, inl, inr}
+use Rattle.std.proofs.Common.{◌≡◌, ℕ, zero, suc, ◌+◌, ◌-◌, ◌<◌, ◌≤◌, true, false, ◌==◌, cond, List, [], ◌∷◌, ◌++◌, drop, take, take_all, length, get_or, Option, Some, None, unwrap_or, refl, sym, ap, ◌∙◌, arith, inl, inr}
 use Rattle.std.proofs.lemmas.Bool.{cases_lt}
 use Rattle.std.proofs.lemmas.List.{length-drop}
-use Rattle.std.proofs.lemmas.Nat.{and_le_l}
-use Rattle.std.specs.Int.Bits.{bit_and, and_zero_r}
 use Rattle.flat_model.specs.declared.lookup_key.LookupKey.{LookupKey}
 use Rattle.flat_model.specs.Sockets.Lookup.{are_same}
 use Rattle.pcb_table.specs.declared.block.Block.{Block}
@@ -81,16 +79,6 @@ from_passed port bs ports at (suc n) has pass = elim (cases_lt at (length bs)) [
       ∙ ap (λ k. from_port port (drop k bs)) e
   | inr le ↦ from_past port bs at le ∙ sym (from_past port bs (at + suc n) (omega arith))
 ]
-
--- those that a mask leaves of these places
-pub from_masked : (port : ℕ) (bs : List Block) (ports : List ℕ) (at n mask : ℕ) → (mask ≢ 0 → HasPorts bs ports)
-    → PassesLanes ports port at n → from_port port (drop (at + bit_and n mask) bs) ≡ from_port port (drop at bs)
-from_masked port bs ports at n zero has pass =
-    let e : at + bit_and n 0 ≡ at = omega (arith, and_zero_r n) in ap (λ k. from_port port (drop k bs)) e
-from_masked port bs ports at n (suc m) has pass =
-    let most = and_le_l n (suc m) in
-    sym (from_passed port bs ports at (bit_and n (suc m)) (has (λ z. omega (arith, z)))
-    (λ k from to. pass k from (omega (arith, most, to))))
 
 -- the next block after those, if it has another port too
 pub from_after : (port : ℕ) (bs : List Block) (next : ℕ) (d : Block) → next < length bs

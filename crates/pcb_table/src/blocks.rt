@@ -33,15 +33,13 @@ pub(crate) struct Blocks {
 /// `places` has the index of the block of each descriptor. It's a hint: the block at that index is tested, and if it's
 /// another one, a walk finds the right one.
 ///
-/// If `params::indexes_sockets` returns `false`, neither is written, and the blocks are walked.
+/// If `params::indexes_sockets` returns `false`, the blocks are walked: only `ports` is written, and nothing is read.
 #[derive(Drop)]
 pub(crate) struct Index {
     // 0 for a block without a port
     ports: [u16; INDEXED_PORTS],
     // the index of a descriptor's block, by descriptor modulo 64
     places: [u8; SOCKETS],
-    // a mask for the number of blocks that `ports` skips: 0 if `ports` isn't written
-    skips: u32,
     // if true, none of the blocks is connected
     none_connected: bool,
 }
@@ -69,7 +67,6 @@ impl Blocks {
             index: Index {
                 ports: [0; INDEXED_PORTS],
                 places: [0; SOCKETS],
-                skips: u32::MAX,
                 none_connected: true,
             },
         }
@@ -166,7 +163,6 @@ impl Blocks {
     }
 
     /// How many blocks from this index on `ports` skips, because they have another port.
-    // A mask takes fewer instructions than a branch, which each comparison of sixteen ports would have.
     #[inline(always)]
     fn others_from(&self, at: usize, port: u16) -> usize
         requires { at ≤ SOCKETS }
@@ -176,7 +172,7 @@ impl Blocks {
         if !params::indexes_sockets() {
             return 0;
         }
-        lanes_before(&self.index.ports, at, port) & self.index.skips as usize
+        lanes_before(&self.index.ports, at, port)
     }
 
     /// The blocks from the first one with this port on, after the first `passed` blocks.
@@ -208,12 +204,8 @@ impl Index {
         requires { length blocks.now ≤ SOCKETS }
         ensures { IsIndexOf blocks.now self.new }
     {
-        let indexes = params::indexes_sockets();
-        if indexes {
-            update_index(blocks, &mut self.ports, &mut self.places);
-        }
-        self.skips = if indexes { u32::MAX } else { 0 };
-        self.none_connected = indexes && is_none_connected(blocks);
+        update_index(blocks, &mut self.ports, &mut self.places);
+        self.none_connected = params::indexes_sockets() && is_none_connected(blocks);
     }
 }
 
@@ -287,7 +279,8 @@ fn is_none_connected(blocks: &[Block]) -> bool
     }
 }
 
-/// Writes the port of each block, and the index of each descriptor's block.
+/// Writes the port of each block, and the index of each descriptor's block if it's read.
+// The ports are always written: otherwise each look-up would have to test whether they are.
 fn update_index(blocks: &[Block], ports: &mut [u16; INDEXED_PORTS], places: &mut [u8; SOCKETS])
     requires { length blocks.now ≤ SOCKETS }
     ensures { HasPorts blocks.now ports.new }
@@ -295,6 +288,8 @@ fn update_index(blocks: &[Block], ports: &mut [u16; INDEXED_PORTS], places: &mut
     'places: for place in 0..blocks.len() {
         let block = &blocks[place];
         ports[place] = block.port.unwrap_or(0);
-        places[block.fd as usize % SOCKETS] = place as u8;
+        if params::indexes_sockets() {
+            places[block.fd as usize % SOCKETS] = place as u8;
+        }
     }
 }

@@ -1,5 +1,5 @@
 -- The invariants of the fields of a table, and the index of a block (this project's own).
-use Rattle.std.specs.Prelude.{◌≡◌, ◌≢◌, ℕ, ◌+◌, ◌<◌, ◌≤◌, Bool, true, false, is_some, ◌&&◌, ◌==◌, List, length, get_or, slice_index_or, count_by, find, Option, Some, None, IsSome, unwrap_or}
+use Rattle.std.specs.Prelude.{◌≡◌, ℕ, ◌+◌, ◌<◌, ◌≤◌, Bool, true, false, is_some, ◌&&◌, ◌==◌, List, length, get_or, slice_index_or, count_by, find, Option, Some, None, IsSome, unwrap_or}
 use Rattle.params.specs.declared.TheConstants.{FIRST_DESCRIPTOR, FIRST_EPHEMERAL_PORT, LAST_EPHEMERAL_PORT}
 use Rattle.pcb_table.specs.Apart.{has_fd, has_four}
 use Rattle.pcb_table.specs.declared.block.Block.{Block}
@@ -57,7 +57,7 @@ is_connected b = is_some b.peer
 abbrev pub ImpliesNoneConnected : Bool → List Block → Type 0
 ImpliesNoneConnected none bs = none ≡ true → find is_connected bs ≡ None
 
--- what the index says of these blocks is so
+-- what the index says of these blocks is true
 pub record IsIndexOf (bs : List Block) (i : Index) : Type 0 where
-  pub ports : i.skips ≢ 0 → HasPorts bs i.ports
+  pub ports : HasPorts bs i.ports
   pub none_connected : ImpliesNoneConnected i.none_connected bs
