@@ -22,11 +22,10 @@ inside n off xs h =
 
 pub returns-then-end-len-clause-ok : goal.returns-then-end-len-clause-ok
 returns-then-end-len-clause-ok c =
-    let p : PoolView = c.args.pool.now in
-    let k : ℕ = c.args.chain.now in
-    let v : ChainView = chain_of p k in
+    let v : ChainView = chain_of c.args.pool.now c.args.chain.now in
     let es : List Entry = overlaid v.entries c.args.off c.args.bytes.now in
-    let m = makes_in_place p c.overlay.new.pool k (record v { entries = es }) c.overlay.ensures in
+    let m =
+    makes_in_place c.args.pool.now c.overlay.new.pool c.args.chain.now (record v { entries = es }) c.overlay.ensures in
     record {
       adds = m.adds;
       front = m.front;
@@ -38,9 +37,7 @@ returns-then-end-len-clause-ok c =
 
 pub returns-then-end-len-clause-string : goal.returns-then-end-len-clause-string
 returns-then-end-len-clause-string c =
-    let m = returns-then-end-len-clause-ok c in
-    ap flat_bytes m.entries ∙ copied_back_bytes (chain_of c.args.pool.now c.args.chain.now).entries c.args.off
-    c.args.bytes.now
+    ap flat_bytes (returns-then-end-len-clause-ok c).entries ∙ copied_back_bytes _ c.args.off c.args.bytes.now
 
 pub overlay-requires-2-clause-live : goal.overlay-requires-2-clause-live
 overlay-requires-2-clause-live c = let two = two_new c.args.chain.now c.requires.live c.in_ok-tail.ensures.ok.adds in
@@ -66,13 +63,12 @@ link_counted-requires-clause-back c =
 
 pub link_counted-requires-clause-len : goal.link_counted-requires-clause-len
 link_counted-requires-clause-len c =
-    let q : PoolView = c.new_tail.new.pool in
     let two = two_new c.args.chain.now c.requires.live c.in_ok-tail.ensures.ok.adds in
     let xs : List ℕ = c.after-rest.result.now in
     let z : ℕ = c.saturating_sub-2.result in
     let kept =
-    kept_with q c.overlay-2.new.pool c.args.chain.now _ c.in_ok-tail.tail c.overlay-2.ensures (λ e. two.apart (sym e))
-    in
+    kept_with c.new_tail.new.pool c.overlay-2.new.pool c.args.chain.now _ c.in_ok-tail.tail c.overlay-2.ensures
+    (λ e. two.apart (sym e)) in
     let bytes =
     ap (λ (v : ChainView). length (flat_bytes v.entries)) kept
     ∙ ap (λ (es : List Entry). length (flat_bytes es)) c.in_ok-tail.ensures.ok.entries
@@ -91,9 +87,8 @@ link_counted-requires-clause-len c =
 
 pub returns-clause-ok : goal.returns-clause-ok
 returns-clause-ok c =
-    let p : PoolView = c.args.pool.now in
     let k : ℕ = c.args.chain.now in
-    let v : ChainView = chain_of p k in
+    let v : ChainView = chain_of c.args.pool.now k in
     let q : PoolView = c.new_tail.new.pool in
     let r : PoolView = c.overlay-2.new.pool in
     let s : PoolView = c.link_counted.new.self in
@@ -125,6 +120,4 @@ returns-clause-ok c =
 
 pub returns-clause-string : goal.returns-clause-string
 returns-clause-string c =
-    let m = returns-clause-ok c in
-    ap flat_bytes m.entries ∙ copied_back_bytes (chain_of c.args.pool.now c.args.chain.now).entries c.args.off
-    c.args.bytes.now
+    ap flat_bytes (returns-clause-ok c).entries ∙ copied_back_bytes _ c.args.off c.args.bytes.now

@@ -7,6 +7,7 @@ use Rattle.mbuf_chain.proofs.Laws.Steps.{place_after, new_entry, filled}
 use Rattle.chain_ops.proofs.Laws.Steps.{plain_unshared}
 use Rattle.chain_ops.proofs.Writes.{tail_first}
 use Rattle.chain_ops.proofs.copyback.new_piece.Goals as goal
+use Rattle.chain_ops.proofs.copyback.new_piece.Goals.{After-put_back}
 
 pub first-at-requires : goal.first-at-requires
 first-at-requires c = live_adds c.in_ok-chain.ensures.ok
@@ -45,24 +46,27 @@ first_filled p q r d i xs a first is =
     (is ∙ ap (λ (e : Entry). with_chain q d (with_entry (chain_of q d) i (with_back e xs)))
     (new_entry p q d i false (empty_entry 20 None) a first))
 
+zeroed : (c : After-put_back) → Adds c.args.pool.now c.put_back.new.self c.in_ok-chain.chain
+    (one_mbuf false (with_back (empty_entry 20 None) c.zeros.result.now) c.in_ok-chain.chain)
+zeroed c =
+    first_filled c.args.pool.now c.new_plain.new.self c.put_back.new.self c.in_ok-chain.chain c.first-at.result.index
+    c.zeros.result.now c.in_ok-chain.ensures.ok c.first-at.ensures.index c.put_back.ensures
+
+zeroed_entry : (c : After-put_back) → entry_in c.put_back.new.self c.in_ok-chain.chain c.first-at.result
+    ≡ with_back (empty_entry 20 None) c.zeros.result.now
+zeroed_entry c =
+    new_entry c.args.pool.now c.put_back.new.self c.in_ok-chain.chain c.first-at.result.index _ _ (zeroed c)
+    c.first-at.ensures.index
+
 pub put_back-requires-2-clause-unshared : goal.put_back-requires-2-clause-unshared
 put_back-requires-2-clause-unshared c =
-    let a =
-    first_filled c.args.pool.now c.new_plain.new.self c.put_back.new.self c.in_ok-chain.chain c.first-at.result.index
-    c.zeros.result.now c.in_ok-chain.ensures.ok c.first-at.ensures.index c.put_back.ensures in
     plain_unshared c.put_back.new.self (entry_in c.put_back.new.self c.in_ok-chain.chain c.first-at.result)
-    (ap (λ (e : Entry). e.cluster)
-    (new_entry c.args.pool.now c.put_back.new.self c.in_ok-chain.chain c.first-at.result.index _ _ a
-    c.first-at.ensures.index))
+    (ap (λ (e : Entry). e.cluster) (zeroed_entry (goal.at.put_back-requires-2-clause-unshared c).After-put_back))
 
 pub put_back-requires-2-clause-fits : goal.put_back-requires-2-clause-fits
 put_back-requires-2-clause-fits c =
-    let a =
-    first_filled c.args.pool.now c.new_plain.new.self c.put_back.new.self c.in_ok-chain.chain c.first-at.result.index
-    c.zeros.result.now c.in_ok-chain.ensures.ok c.first-at.ensures.index c.put_back.ensures in
     subst (λ (e : Entry). HasTrailingSpace e (length (take c.min-count.result c.args.bytes.now)))
-    (sym (new_entry c.args.pool.now c.put_back.new.self c.in_ok-chain.chain c.first-at.result.index _ _ a
-    c.first-at.ensures.index))
+    (sym (zeroed_entry (goal.at.put_back-requires-2-clause-fits c).After-put_back))
     (omega (
       arith,
       ap (λ (xs : List ℕ). length xs) c.zeros.ensures,
@@ -74,23 +78,20 @@ put_back-requires-2-clause-fits c =
 
 pub returns-clause-ok : goal.returns-clause-ok
 returns-clause-ok c =
-    let p : PoolView = c.args.pool.now in
     let q : PoolView = c.put_back.new.self in
     let d : ℕ = c.in_ok-chain.chain in
     let i : ℕ = c.first-at.result.index in
     let xs : List ℕ = c.zeros.result.now in
     let ys : List ℕ = take c.min-count.result c.args.bytes.now in
-    let a =
-    first_filled p c.new_plain.new.self q d i xs c.in_ok-chain.ensures.ok c.first-at.ensures.index c.put_back.ensures
-    in
+    let at = (goal.at.returns-clause-ok c).After-put_back in
     let all : xs ++ ys ≡ take 108 (replicate c.args.gap 0 ++ c.args.bytes.now) =
     ap (λ (zs : List ℕ). zs ++ ys) c.zeros.ensures
     ∙ tail_first c.args.gap c.min-blank.result c.min-count.result c.args.bytes.now c.min-blank.ensures
     c.min-count.ensures in
-    filled p q c.put_back-2.new.self d i false (with_back (empty_entry 20 None) xs)
-    (record { bytes = take 108 (replicate c.args.gap 0 ++ c.args.bytes.now); start = 20; cluster = None }) a
-    c.first-at.ensures.index
+    filled c.args.pool.now q c.put_back-2.new.self d i false (with_back (empty_entry 20 None) xs)
+    (record { bytes = take 108 (replicate c.args.gap 0 ++ c.args.bytes.now); start = 20; cluster = None })
+    (zeroed at) c.first-at.ensures.index
     (c.put_back-2.ensures ∙ ap (λ (e : Entry). with_chain q d (with_entry (chain_of q d) i (with_back e ys)))
-    (new_entry p q d i false _ a c.first-at.ensures.index)
+    (zeroed_entry at)
     ∙ ap (λ (zs : List ℕ). let e : Entry = record { bytes = zs; start = 20; cluster = None } in
     with_chain q d (with_entry (chain_of q d) i e)) all)

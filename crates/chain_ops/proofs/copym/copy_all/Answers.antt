@@ -90,18 +90,19 @@ mbufs-preserved c =
 
 pub returns-clause-ok : goal.returns-clause-ok
 returns-clause-ok c =
-    let v : ChainView = chain_of c.args.pool.now c.args.chain.now in
-    let m = c.mbufs.invariant.made in
     let done : List Entry = (chain_of c.mbufs.pool c.in_ok-copy.copy).entries in
     let end =
-    c.in_default.ensures ∙ ap (λ (w : ChainView). length w.entries) (makes_kept c.args.chain.now m c.requires) in
+    c.in_default.ensures
+    ∙ ap (λ (w : ChainView). length w.entries) (makes_kept _ c.mbufs.invariant.made c.requires) in
     record {
-      adds = m.adds;
-      front = m.front ∙ ap alone c.has_header-header.ensures;
+      adds = c.mbufs.invariant.made.adds;
+      front = c.mbufs.invariant.made.front ∙ ap alone c.has_header-header.ensures;
       entries =
           sym (append-nil done) ∙ ap (λ (es : List Entry). done ++ copied_all 20 es)
-          (sym (none_after v.entries c.mbufs.at.index end))
-          ∙ c.mbufs.invariant.all ∙ ap (λ (h : Bool). copied_all (room_low h) v.entries) c.has_header-header.ensures;
+          (sym (none_after _ c.mbufs.at.index end))
+          ∙ c.mbufs.invariant.all
+          ∙ ap (λ (h : Bool). copied_all (room_low h) (chain_of c.args.pool.now c.args.chain.now).entries)
+          c.has_header-header.ensures;
     }
 
 pub returns-clause-enough : goal.returns-clause-enough

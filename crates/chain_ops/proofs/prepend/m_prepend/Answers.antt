@@ -1,4 +1,4 @@
-use Rattle.std.proofs.Common.{ℕ, length, arith, ap, sym, ◌∙◌, subst}
+use Rattle.std.proofs.Common.{◌<◌, ℕ, length, arith, ap, sym, ◌∙◌, subst}
 use Rattle.mbuf_chain.specs.Chain.{ChainView, PoolView, IsLive, IsPlace, chain_of, leading_space, flat_bytes}
 use Rattle.mbuf_chain.proofs.Laws.Owners.{live_adds, shown_adds}
 use Rattle.mbuf_chain.proofs.Laws.Steps.{live_beside}
@@ -7,6 +7,7 @@ use Rattle.chain_ops.proofs.Joins.{prepended_in, prepended_new, at_end_fits, nee
 use Rattle.chain_ops.specs.Rooms.{room_low}
 use Rattle.mbuf_chain.proofs.Laws.Accounts.{held-adds}
 use Rattle.chain_ops.proofs.prepend.m_prepend.Goals as goal
+use Rattle.chain_ops.proofs.prepend.m_prepend.Goals.{Else-len-leading_space}
 
 pub returns-then-len-leading_space-clause-ok : goal.returns-then-len-leading_space-clause-ok
 returns-then-len-leading_space-clause-ok c =
@@ -48,18 +49,21 @@ link-requires-clause-last c =
       ap (λ (v : ChainView). length v.entries) (shown_adds c.in_ok-new.ensures.ok),
     )
 
-pub returns-clause-ok : goal.returns-clause-ok
-returns-clause-ok c =
-    let v : ChainView = chain_of c.args.pool.now c.args.chain.now in
-    let d : ℕ = c.in_ok-new.new in
-    prepended_new c.args.pool.now c.new_plain_with.new.self _ c.args.chain.now c.replace-old.result d _ _ _
-    c.args.bytes.now
-    c.has_header-header.ensures (omega (
+lacks : (c : Else-len-leading_space)
+    → leading_space (chain_of c.args.pool.now c.args.chain.now) 0 < length c.args.bytes.now
+lacks c =
+    omega (
       arith,
       c.if-len-leading_space.false,
       c.leading_space.ensures.value,
-      ap (leading_space v) c.first-first.ensures.index,
-    )) c.at_end.ensures c.replace-old.ensures.value c.replace-old.ensures.after c.requires.live
+      ap (leading_space (chain_of c.args.pool.now c.args.chain.now)) c.first-first.ensures.index,
+    )
+
+pub returns-clause-ok : goal.returns-clause-ok
+returns-clause-ok c =
+    prepended_new c.args.pool.now c.new_plain_with.new.self _ c.args.chain.now c.replace-old.result c.in_ok-new.new
+    _ _ _ c.args.bytes.now c.has_header-header.ensures (lacks (goal.at.returns-clause-ok c).Else-len-leading_space)
+    c.at_end.ensures c.replace-old.ensures.value c.replace-old.ensures.after c.requires.live
     c.in_ok-new.ensures.ok
     c.link.ensures.change
 
@@ -80,27 +84,21 @@ returns-then-len-leading_space-clause-enough c =
 
 pub returns-clause-enough : goal.returns-clause-enough
 returns-clause-enough c =
-    let v : ChainView = chain_of c.args.pool.now c.args.chain.now in
     omega (
       arith,
       c.laws-2.ensures.few,
       held-adds c.in_ok-new.ensures.ok,
       ap (λ (s : PoolView). s.mbufs) c.in_ok-new.ensures.ok.pool,
-      need_one v (length c.args.bytes.now)
-          (omega (
-            arith,
-            c.if-len-leading_space.false,
-            c.leading_space.ensures.value,
-            ap (leading_space v) c.first-first.ensures.index,
-          )),
+      need_one (chain_of c.args.pool.now c.args.chain.now) (length c.args.bytes.now)
+          (lacks (goal.at.returns-clause-enough c).Else-len-leading_space),
     )
 
 pub returns-then-len-leading_space-clause-string : goal.returns-then-len-leading_space-clause-string
 returns-then-len-leading_space-clause-string c =
-    let m = returns-then-len-leading_space-clause-ok c in
-    ap flat_bytes m.entries ∙ prepended_bytes (chain_of c.args.pool.now c.args.chain.now) c.args.bytes.now
+    ap flat_bytes (returns-then-len-leading_space-clause-ok c).entries
+    ∙ prepended_bytes (chain_of c.args.pool.now c.args.chain.now) c.args.bytes.now
 
 pub returns-clause-string : goal.returns-clause-string
 returns-clause-string c =
-    let m = returns-clause-ok c in
-    ap flat_bytes m.entries ∙ prepended_bytes (chain_of c.args.pool.now c.args.chain.now) c.args.bytes.now
+    ap flat_bytes (returns-clause-ok c).entries
+    ∙ prepended_bytes (chain_of c.args.pool.now c.args.chain.now) c.args.bytes.now

@@ -115,7 +115,6 @@ link_rest-requires-clause-len c = λ t.
 pub returns-then-left-size : goal.returns-then-left-size
 returns-then-left-size c =
     let at = goal.at.returns-then-left-size c in
-    let v : ChainView = chain_of c.mbufs.pool c.args.into.now in
     let w : ChainView = chain_of c.mbufs.pool c.mbufs.back in
     let j : ℕ = c.first-from.result.index in
     let shown = shown_with _ c.link_rest.new.pool _ _ c.link_rest.ensures in
@@ -128,7 +127,8 @@ returns-then-left-size c =
           ∙ ap (λ (x : ChainView). x.front) (front at.After-narrow ∙ shown_with c.mbufs.pool _ _ _ c.append.ensures)
           ∙ c.mbufs.invariant.front;
       entries = ap (λ (x : ChainView). x.entries) shown ∙ (λ k. now k ++ rest k)
-          ∙ part_step v.entries w.entries c.args.last.index j c.mbufs.left c.segment-size.result.len (entry_of w j)
+          ∙ part_step (chain_of c.mbufs.pool c.args.into.now).entries w.entries
+          c.args.last.index j c.mbufs.left c.segment-size.result.len (entry_of w j)
           (drop 1 w.entries) c.mbufs.invariant.end c.first-from.ensures.index
           (first_split w c.first-from.result c.first-from.ensures.place c.first-from.ensures.index)
           (ap (λ (x : Segment). x.len) c.segment-size.ensures.value) c.mbufs-test.true c.if-left-size.true
@@ -241,8 +241,6 @@ mbufs-preserved c =
 
 pub returns : goal.returns
 returns c =
-    let v : ChainView = chain_of c.mbufs.pool c.args.into.now in
-    let w : ChainView = chain_of c.mbufs.pool c.mbufs.back in
     let m = makes_new (two_linked c.link_rest-2.new.pool _ c.mbufs.invariant.two c.link_rest-2.ensures) in
     let shown = shown_with _ c.link_rest-2.new.pool _ _ c.link_rest-2.ensures in
     record {
@@ -250,6 +248,7 @@ returns c =
       front = ap (λ (x : ChainView). x.front) shown ∙ c.mbufs.invariant.front;
       entries =
           ap (λ (x : ChainView). x.entries) shown
-          ∙ stop_step v.entries w.entries c.args.last.index c.mbufs.left c.mbufs.invariant.end (omega arith)
+          ∙ stop_step (chain_of c.mbufs.pool c.args.into.now).entries (chain_of c.mbufs.pool c.mbufs.back).entries
+          c.args.last.index c.mbufs.left c.mbufs.invariant.end (omega arith)
           ∙ c.mbufs.invariant.all;
     }

@@ -11,6 +11,7 @@ use Rattle.chain_ops.proofs.Laws.Makes.{makes_as, makes_in_place}
 use Rattle.chain_ops.proofs.Trims.{changed_none}
 use Rattle.chain_ops.proofs.Joins.{first_entry, first_split, room_plain, room_back, moved-none, first_bytes}
 use Rattle.chain_ops.proofs.pullup.pull_in_place.Goals as goal
+use Rattle.chain_ops.proofs.pullup.pull_in_place.Goals.{After-segment-len}
 
 -- the chain after it was cut after its first mbuf
 here : (p q : PoolView) (k d : ℕ) (w : ChainView) → Adds (with_chain p k (first_part 1 (chain_of p k))) q d w
@@ -22,6 +23,12 @@ first_of : (p q : PoolView) (k d i : ℕ) (w : ChainView) → Adds (with_chain p
     → i ≡ 0 → entry_of (chain_of q k) i ≡ entry_of (chain_of p k) 0
 first_of p q k d i w a z = (λ j. entry_of (here p q k d w a j) (z j)) ∙ first_entry (chain_of p k)
 
+first_len : (c : After-segment-len)
+    → c.segment-len.result.len ≡ length (entry_of (chain_of c.args.pool.now c.args.chain.now) 0).bytes
+first_len c =
+    ap (λ (x : Segment). x.len) c.segment-len.ensures.value
+    ∙ ap (λ (i : ℕ). length (entry_of (chain_of c.args.pool.now c.args.chain.now) i).bytes) c.first-first.ensures.index
+
 pub pull-requires-clause-back : goal.pull-requires-clause-back
 pull-requires-clause-back c = live_adds c.cut-rest.ensures
 
@@ -32,12 +39,11 @@ pull-requires-clause-apart c =
 
 pub pull-requires-clause-last : goal.pull-requires-clause-last
 pull-requires-clause-last c =
-    let v : ChainView = chain_of c.args.pool.now c.args.chain.now in
     omega (
       arith,
       c.first-at.ensures.index,
       ap (λ (x : ChainView). length x.entries) (here c.args.pool.now _ _ _ _ c.cut-rest.ensures),
-      length-take 1 v.entries,
+      length-take 1 (chain_of c.args.pool.now c.args.chain.now).entries,
       c.first-first.ensures.place.within,
     )
 
@@ -49,10 +55,7 @@ pull-requires-clause-plain c =
 pub pull-requires-clause-room : goal.pull-requires-clause-room
 pull-requires-clause-room c =
     let e : Entry = entry_of (chain_of c.args.pool.now c.args.chain.now) 0 in
-    let len =
-    ap (λ (x : Segment). x.len) c.segment-len.ensures.value
-    ∙ ap (λ (i : ℕ). length (entry_of (chain_of c.args.pool.now c.args.chain.now) i).bytes)
-    c.first-first.ensures.index in
+    let len = first_len (goal.at.pull-requires-clause-room c).After-segment-len in
     let le : length e.bytes ≤ c.args.n = omega (arith, len, c.if-len-n.true) in
     subst (λ (f : Entry). HasTrailingSpace f (c.args.n - c.segment-len.result.len))
     (sym (first_of c.args.pool.now _ _ _ _ _ c.cut-rest.ensures c.first-at.ensures.index))
@@ -60,11 +63,10 @@ pull-requires-clause-room c =
 
 pub pull-requires-clause-len : goal.pull-requires-clause-len
 pull-requires-clause-len c = λ t.
-    let v : ChainView = chain_of c.args.pool.now c.args.chain.now in
     omega (
       arith,
       c.counted_len-counted.ensures t,
-      first_bytes v c.first-first.result c.first-first.ensures.place c.first-first.ensures.index,
+      first_bytes _ c.first-first.result c.first-first.ensures.place c.first-first.ensures.index,
       ap (λ (x : Segment). x.len) c.segment-len.ensures.value,
       ap (λ (x : ChainView). length (flat_bytes x.entries)) (shown_adds c.cut-rest.ensures),
       c.saturating_sub.ensures,
@@ -76,9 +78,7 @@ returns-then-len-n c =
     let k : ℕ = c.args.chain.now in
     let v : ChainView = chain_of p k in
     let q : PoolView = c.cut-rest.new.self in
-    let len =
-    ap (λ (x : Segment). x.len) c.segment-len.ensures.value
-    ∙ ap (λ (i : ℕ). length (entry_of v i).bytes) c.first-first.ensures.index in
+    let len = first_len (goal.at.returns-then-len-n c).After-segment-len in
     let first = first_of p q k _ c.first-at.result.index _ c.cut-rest.ensures c.first-at.ensures.index in
     let rest = ap (λ (x : ChainView). x.entries) (shown_adds c.cut-rest.ensures) in
     makes_as _ v.front _ c.pull.ensures (base_cut p q k _ _ _ c.cut-rest.ensures)
@@ -87,15 +87,11 @@ returns-then-len-n c =
 
 pub returns-else-len-n : goal.returns-else-len-n
 returns-else-len-n c =
-    let p : PoolView = c.args.pool.now in
-    let k : ℕ = c.args.chain.now in
-    let v : ChainView = chain_of p k in
+    let v : ChainView = chain_of c.args.pool.now c.args.chain.now in
     let e : Entry = entry_of v 0 in
-    let len =
-    ap (λ (x : Segment). x.len) c.segment-len.ensures.value
-    ∙ ap (λ (i : ℕ). length (entry_of v i).bytes) c.first-first.ensures.index in
+    let len = first_len (goal.at.returns-else-len-n c).After-segment-len in
     let none : c.args.n - length e.bytes ≡ 0 = omega (arith, len, c.if-len-n.false) in
-    let m = makes_in_place p p k v (changed_none p k c.requires.live) in
+    let m = makes_in_place c.args.pool.now _ _ v (changed_none c.args.pool.now c.args.chain.now c.requires.live) in
     makes_as _ v.front _ m refl refl
     (first_split v c.first-first.result c.first-first.ensures.place c.first-first.ensures.index
     ∙ ap (λ (i : ℕ). entry_of v i ∷ drop 1 v.entries) c.first-first.ensures.index

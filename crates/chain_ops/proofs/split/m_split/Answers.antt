@@ -54,15 +54,23 @@ two c =
     two_first c.narrow.new.self _ (two_new c.args.chain.now c.requires.live c.in_ok-head.ensures.ok.adds)
     c.narrow.ensures
 
+-- the mbufs of a chain, with one narrowed to its first bytes
+abbrev ending : ChainView → ℕ → ℕ → List Entry
+ending v i off = slice_set v.entries i (narrowed (entry_of v i) 0 off)
+
 now : (c : After-narrow) → chain_of c.new_head.new.pool c.args.chain.now ≡ chain_of c.args.pool.now c.args.chain.now
     → (chain_of c.narrow.new.self c.args.chain.now).entries
-    ≡ slice_set (chain_of c.args.pool.now c.args.chain.now).entries c.find_cut-off.result.0.index
-    (narrowed (entry_of (chain_of c.args.pool.now c.args.chain.now) c.find_cut-off.result.0.index) 0
-    c.find_cut-off.result.1)
+    ≡ ending (chain_of c.args.pool.now c.args.chain.now) c.find_cut-off.result.0.index c.find_cut-off.result.1
 now c is =
     entries_now _ _ _ _ _ c.narrow.ensures
-    ∙ ap (λ (x : ChainView). slice_set x.entries c.find_cut-off.result.0.index
-    (narrowed (entry_of x c.find_cut-off.result.0.index) 0 c.find_cut-off.result.1)) is
+    ∙ ap (λ (x : ChainView). ending x c.find_cut-off.result.0.index c.find_cut-off.result.1) is
+
+now_front : (c : After-narrow)
+    → chain_of c.new_head.new.pool c.args.chain.now ≡ chain_of c.args.pool.now c.args.chain.now
+    → (chain_of c.narrow.new.self c.args.chain.now).front ≡ (chain_of c.args.pool.now c.args.chain.now).front
+now_front c is =
+    ap (λ (x : ChainView). x.front) (shown_with _ c.narrow.new.self c.args.chain.now _ c.narrow.ensures)
+    ∙ ap (λ (x : ChainView). x.front) is
 
 enough : (c : After-laws-2) → HasMbufs c.args.pool.now
     (split_need (chain_of c.args.pool.now c.args.chain.now).front.header
@@ -90,9 +98,7 @@ cut : (c : After-cut-back)
 cut c both = two_first _ _ both refl
 
 rest : (c : After-cut-back) → (chain_of c.narrow.new.self c.args.chain.now).entries
-    ≡ slice_set (chain_of c.args.pool.now c.args.chain.now).entries c.find_cut-off.result.0.index
-    (narrowed (entry_of (chain_of c.args.pool.now c.args.chain.now) c.find_cut-off.result.0.index) 0
-    c.find_cut-off.result.1)
+    ≡ ending (chain_of c.args.pool.now c.args.chain.now) c.find_cut-off.result.0.index c.find_cut-off.result.1
     → (chain_of c.cut-back.new.self c.cut-back.result).entries
     ≡ drop (c.find_cut-off.result.0.index + 1) (chain_of c.args.pool.now c.args.chain.now).entries
 rest c is =
@@ -100,6 +106,42 @@ rest c is =
     ∙ ap (λ (es : List Entry). drop (c.find_cut-off.result.0.index + 1) es) is
     ∙ drop-set-lt (c.find_cut-off.result.0.index + 1) (chain_of c.args.pool.now c.args.chain.now).entries
     c.find_cut-off.result.0.index _ (omega arith)
+
+-- ---- what the two chains have in the end
+parts : (c : After-laws-2) (t : PoolView)
+    → HasTwo (without c.args.pool.now c.args.chain.now) t c.args.chain.now c.in_ok-head.head
+    → (chain_of t c.args.chain.now).front ≡ (chain_of c.args.pool.now c.args.chain.now).front
+    → (chain_of t c.args.chain.now).entries ≡ take (c.find_cut-off.result.0.index + 1)
+    (ending (chain_of c.args.pool.now c.args.chain.now) c.find_cut-off.result.0.index c.find_cut-off.result.1)
+    → (chain_of t c.in_ok-head.head).front ≡ (chain_of c.new_head.new.pool c.in_ok-head.head).front
+    → (chain_of t c.in_ok-head.head).entries
+    ≡ rest_of c.has_header-header.result
+    (entry_of (chain_of c.args.pool.now c.args.chain.now) c.find_cut-off.result.0.index) c.find_cut-off.result.1
+    ++ drop (c.find_cut-off.result.0.index + 1) (chain_of c.args.pool.now c.args.chain.now).entries
+    → Parts c.args.pool.now t c.args.chain.now c.in_ok-head.head (chain_of c.args.pool.now c.args.chain.now).front
+    (split_front (chain_of c.args.pool.now c.args.chain.now).entries c.args.at)
+    (alone (chain_of c.args.pool.now c.args.chain.now).front.header)
+    (split_back (chain_of c.args.pool.now c.args.chain.now).front.header
+    (chain_of c.args.pool.now c.args.chain.now).entries c.args.at)
+parts c t both front entries made_front made =
+    let k : ℕ = c.args.chain.now in
+    let v : ChainView = chain_of c.args.pool.now k in
+    let at = c.find_cut-off.result.0 in
+    let h : Bool = c.has_header-header.result in
+    record {
+      made =
+          makes_as (with_chain c.args.pool.now k (chain_of t k)) (alone v.front.header)
+          (split_back v.front.header v.entries c.args.at)
+          (makes_new (two_parts c.args.pool.now t k c.in_ok-head.head both)) refl
+          (made_front ∙ c.in_ok-head.ensures.ok.front ∙ ap alone c.has_header-header.ensures)
+          (made ∙ back_done v at _ h c.find_cut-off.ensures.place c.find_cut-off.ensures.within
+          ∙ sym (c.find_cut-off.ensures.back h)
+          ∙ ap (λ (b : Bool). split_back b v.entries c.args.at) c.has_header-header.ensures);
+      front = front;
+      entries =
+          entries ∙ front_done v at _ c.find_cut-off.ensures.place c.find_cut-off.ensures.within
+          ∙ sym c.find_cut-off.ensures.front;
+    }
 
 -- ---- the bytes of the two parts
 front_bytes : {p q : PoolView} {k d : ℕ} {f g : Front} {fs : List Entry} (at : ℕ)
@@ -193,47 +235,25 @@ link_rest-requires-clause-apart c =
 pub returns-then-is_none-clause-ok : goal.returns-then-is_none-clause-ok
 returns-then-is_none-clause-ok c =
     let at = goal.at.returns-then-is_none-clause-ok c in
-    let p : PoolView = c.args.pool.now in
-    let k : ℕ = c.args.chain.now in
-    let v : ChainView = chain_of p k in
-    let q : PoolView = c.new_head.new.pool in
-    let r : PoolView = c.narrow.new.self in
-    let d : ℕ = c.in_ok-head.head in
+    let v : ChainView = chain_of c.args.pool.now c.args.chain.now in
     let i : ℕ = c.find_cut-off.result.0.index in
-    let off : ℕ = c.find_cut-off.result.1 in
-    let h : Bool = c.has_header-header.result in
-    let e : Entry = entry_of v i in
     let both = two at.After-narrow in
     let same = kept at.In_ok-head in
-    let kept_d = kept_with q r k _ d c.narrow.ensures (λ x. both.apart (sym x)) in
+    let kept_d =
+    kept_with c.new_head.new.pool c.narrow.new.self c.args.chain.now _ c.in_ok-head.head c.narrow.ensures
+    (λ x. both.apart (sym x)) in
     let end =
     is_end _ _ _ c.next.ensures (no_next c.next.result c.is_none.result c.is_none.ensures c.if-is_none.true)
-    ∙ length_now q r k i _ c.narrow.ensures ∙ ap (λ (x : ChainView). length x.entries) same in
-    record {
-      made =
-          makes_as (with_chain p k (chain_of r k)) (alone v.front.header)
-          (split_back v.front.header v.entries c.args.at) (makes_new (two_parts p r k d both)) refl
-          (ap (λ (x : ChainView). x.front) kept_d ∙ c.in_ok-head.ensures.ok.front
-          ∙ ap alone c.has_header-header.ensures)
-          (ap (λ (x : ChainView). x.entries) kept_d ∙ c.in_ok-head.ensures.ok.entries
-          ∙ sym (append-nil (rest_of h e off))
-          ∙ ap (λ (es : List Entry). rest_of h e off ++ es) (sym (none_after v.entries i end))
-          ∙ back_done v c.find_cut-off.result.0 off h c.find_cut-off.ensures.place c.find_cut-off.ensures.within
-          ∙ sym (c.find_cut-off.ensures.back h)
-          ∙ ap (λ (b : Bool). split_back b v.entries c.args.at) c.has_header-header.ensures);
-      front =
-          ap (λ (x : ChainView). x.front) (shown_with q r k _ c.narrow.ensures)
-          ∙ ap (λ (x : ChainView). x.front) same;
-      entries =
-          now at.After-narrow same ∙ sym (take_all (i + 1) (slice_set v.entries i (narrowed e 0 off))
-          (omega (
-            arith,
-            end,
-            length-set v.entries i
-                (narrowed e 0 off),
-          ))) ∙ front_done v c.find_cut-off.result.0 off c.find_cut-off.ensures.place c.find_cut-off.ensures.within
-          ∙ sym c.find_cut-off.ensures.front;
-    }
+    ∙ length_now _ c.narrow.new.self c.args.chain.now i _ c.narrow.ensures
+    ∙ ap (λ (x : ChainView). length x.entries) same in
+    parts at.After-laws-2 c.narrow.new.self both (now_front at.After-narrow same)
+    (now at.After-narrow same
+    ∙ sym (take_all (i + 1) _
+    (omega (arith, end, length-set v.entries i (narrowed (entry_of v i) 0 c.find_cut-off.result.1)))))
+    (ap (λ (x : ChainView). x.front) kept_d)
+    (ap (λ (x : ChainView). x.entries) kept_d ∙ c.in_ok-head.ensures.ok.entries ∙ sym (append-nil _)
+    ∙ ap (λ (fs : List Entry). rest_of c.has_header-header.result (entry_of v i) c.find_cut-off.result.1 ++ fs)
+    (sym (none_after v.entries i end)))
 
 pub link_rest-requires-clause-len : goal.link_rest-requires-clause-len
 link_rest-requires-clause-len c = λ counted.
@@ -255,9 +275,7 @@ link_rest-requires-clause-len c = λ counted.
 pub returns-clause-ok : goal.returns-clause-ok
 returns-clause-ok c =
     let at = goal.at.returns-clause-ok c in
-    let p : PoolView = c.args.pool.now in
     let k : ℕ = c.args.chain.now in
-    let v : ChainView = chain_of p k in
     let q : PoolView = c.new_head.new.pool in
     let r : PoolView = c.narrow.new.self in
     let s : PoolView = c.cut-back.new.self in
@@ -265,8 +283,6 @@ returns-clause-ok c =
     let d : ℕ = c.in_ok-head.head in
     let b : ℕ = c.cut-back.result in
     let i : ℕ = c.find_cut-off.result.0.index in
-    let off : ℕ = c.find_cut-off.result.1 in
-    let h : Bool = c.has_header-header.result in
     let same = kept at.In_ok-head in
     let both = two at.After-narrow in
     let after = cut at.After-cut-back both in
@@ -283,25 +299,11 @@ returns-clause-ok c =
     let shown = shown_with _ t d _ c.link_rest.ensures in
     let back = rest at.After-cut-back is in
     let front' = ap (λ (x : ChainView). x.entries) head ∙ c.in_ok-head.ensures.ok.entries in
-    record {
-      made =
-          makes_as (with_chain p k (chain_of t k)) (alone v.front.header)
-          (split_back v.front.header v.entries c.args.at)
-          (makes_new (two_parts p t k d (two_moved s t b part _ _ both c.cut-back.ensures c.link_rest.ensures))) refl
-          (ap (λ (x : ChainView). x.front) shown ∙ ap (λ (x : ChainView). x.front) head
-          ∙ c.in_ok-head.ensures.ok.front ∙ ap alone c.has_header-header.ensures)
-          (ap (λ (x : ChainView). x.entries) shown ∙ (λ j. front' j ++ back j)
-          ∙ back_done v c.find_cut-off.result.0 off h c.find_cut-off.ensures.place c.find_cut-off.ensures.within
-          ∙ sym (c.find_cut-off.ensures.back h)
-          ∙ ap (λ (x : Bool). split_back x v.entries c.args.at) c.has_header-header.ensures);
-      front =
-          ap (λ (x : ChainView). x.front) here ∙ ap (λ (x : ChainView). x.front) (shown_with q r k _ c.narrow.ensures)
-          ∙ ap (λ (x : ChainView). x.front) same;
-      entries =
-          ap (λ (x : ChainView). x.entries) here ∙ ap (λ (es : List Entry). take (i + 1) es) is
-          ∙ front_done v c.find_cut-off.result.0 off c.find_cut-off.ensures.place c.find_cut-off.ensures.within
-          ∙ sym c.find_cut-off.ensures.front;
-    }
+    parts at.After-laws-2 t (two_moved s t b part _ _ both c.cut-back.ensures c.link_rest.ensures)
+    (ap (λ (x : ChainView). x.front) here ∙ now_front at.After-narrow same)
+    (ap (λ (x : ChainView). x.entries) here ∙ ap (λ (es : List Entry). take (i + 1) es) is)
+    (ap (λ (x : ChainView). x.front) shown ∙ ap (λ (x : ChainView). x.front) head)
+    (ap (λ (x : ChainView). x.entries) shown ∙ (λ j. front' j ++ back j))
 
 pub returns-then-off-len-clause-front : goal.returns-then-off-len-clause-front
 returns-then-off-len-clause-front c = front_bytes c.args.at (returns-then-off-len-clause-ok c)
