@@ -32,15 +32,14 @@ refused err freed = record {
 
 pub returns-in_default : goal.returns-in_default
 returns-in_default c =
-    let err : LacksMbufs c.args.pool.now (way_need Both (chain_of c.args.pool.now c.args.chain) c.args.mtu) =
-    omega (
+    let freed : c.free_chain.new.self ≡ without c.args.pool.now c.args.chain = search rules in
+    refused
+    (omega (
       arith,
       c.in_default.ensures.err,
       length_copied (room_low (chain_of c.args.pool.now c.args.chain).front.header)
           (chain_of c.args.pool.now c.args.chain).entries,
-    ) in
-    let freed : c.free_chain.new.self ≡ without c.args.pool.now c.args.chain = search rules in
-    refused err freed
+    )) freed
 
 -- the copy, and what the packets of the chain and of the copy leave
 copy : (c : In-Ok)
@@ -74,15 +73,14 @@ free_chain-requires-in_default-fragments c =
 pub returns-in_default-fragments : goal.returns-in_default-fragments
 returns-in_default-fragments c =
     let k = copy (goal.at.returns-in_default-fragments c).In-Ok in
-    let err : LacksMbufs c.args.pool.now (way_need Both (chain_of c.args.pool.now c.args.chain) c.args.mtu) =
-    omega (
+    refused
+    (omega (
       arith,
       c.in_default-fragments.ensures.err,
       k.held,
       k.moves.mbufs,
       ap (λ (v : ChainView). later_need v c.args.mtu) k.same,
-    ) in
-    refused err
+    ))
     (c.free_chain-in_default-fragments.ensures
     ∙ ap (λ (s : PoolView). without s c.in-Ok.copy) c.in_default-fragments.ensures.freed
     ∙ base_new c.args.pool.now _ c.args.chain c.in-Ok.copy _ c.requires.live c.in-Ok.ensures.ok.adds)
@@ -97,8 +95,7 @@ fragments-requires-2 c =
 pub free-requires : goal.free-requires
 free-requires c =
     let at = goal.at.free-requires c in
-    let k = copy at.In-Ok in
-    let f = first at.In-Ok-fragments k in
+    let f = first at.In-Ok-fragments (copy at.In-Ok) in
     (beside_without _ _ _ _ c.in_default-fragments-2.ensures.freed f.apart c.in-Ok-fragments.ensures.held).held
 
 pub returns-in_default-fragments-2 : goal.returns-in_default-fragments-2
@@ -106,8 +103,8 @@ returns-in_default-fragments-2 c =
     let at = goal.at.returns-in_default-fragments-2 c in
     let k = copy at.In-Ok in
     let f = first at.In-Ok-fragments k in
-    let err : LacksMbufs c.args.pool.now (way_need Both (chain_of c.args.pool.now c.args.chain) c.args.mtu) =
-    omega (
+    refused
+    (omega (
       arith,
       c.in_default-fragments-2.ensures.err,
       c.in-Ok-fragments.ensures.count,
@@ -117,8 +114,7 @@ returns-in_default-fragments-2 c =
       ap (λ (v : ChainView). later_need v c.args.mtu) k.same,
       ap (λ (v : ChainView). later_need v c.args.mtu) f.same,
       k.same_need,
-    ) in
-    refused err
+    ))
     (gone_whole c.args.chain (moves_trans k.moves
     (moves_trans f.moves (then_freed c.in-Ok.copy c.in-Ok-fragments.link c.in_default-fragments-2.ensures.freed
     f.live c.in-Ok-fragments.ensures.held f.apart c.free.ensures))) c.requires.live)
