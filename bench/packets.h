@@ -1,4 +1,4 @@
-/* Packets for the subjects that receive some. */
+/* Packets for the subjects that receive some, between hosts 10.0.0.N. */
 #ifndef BSDUDP_PACKETS_H
 #define BSDUDP_PACKETS_H
 
@@ -7,7 +7,13 @@
 #include <string.h>
 
 /* The distance between packets that are passed together. */
-enum { PACKETS_APART = 1500, PACKET_HEADER = 20, DATAGRAM_HEADER = 8, RECEIVER_HOST = 2, BROADCAST_HOST = 255 };
+enum { PACKETS_APART = 1500, PACKET_HEADER = 20, DATAGRAM_HEADER = 8 };
+
+/* A sender and a receiver: the last numbers of their addresses, and their ports. */
+typedef struct {
+    uint8_t from, to;
+    uint16_t from_port, to_port;
+} Ends;
 
 static inline void put_two(uint8_t *to, uint32_t value)
 {
@@ -25,13 +31,14 @@ static inline uint32_t checksum_of(const uint8_t *from, size_t len, uint32_t sum
     return 65535 - sum;
 }
 
-/* The IP header of a packet from 10.0.0.1 to 10.0.0.`host` that carries `size` bytes of a datagram from `offset` on. */
-static inline void put_header(uint8_t *to, uint8_t host, uint8_t protocol, uint32_t offset, uint32_t size, bool more)
+/* The IP header of a packet (RFC 791) that carries `size` bytes of a datagram from `offset` on. */
+static inline void put_header(uint8_t *to, Ends ends, uint8_t protocol, uint32_t offset, uint32_t size, bool more)
 {
-    static const uint8_t header[PACKET_HEADER] = {0x45, 0, 0, 0, 0, 1, 0, 0, 64, 0, 0, 0, 10, 0, 0, 1, 10, 0, 0, 0};
+    static const uint8_t header[PACKET_HEADER] = {0x45, 0, 0, 0, 0, 1, 0, 0, 64, 0, 0, 0, 10, 0, 0, 0, 10, 0, 0, 0};
     memcpy(to, header, PACKET_HEADER);
     to[9] = protocol;
-    to[19] = host;
+    to[15] = ends.from;
+    to[19] = ends.to;
     put_two(to + 2, PACKET_HEADER + size);
     put_two(to + 6, offset / 8 + (more ? 0x2000 : 0));
     put_two(to + 10, checksum_of(to, PACKET_HEADER, 0));
@@ -40,19 +47,19 @@ static inline void put_header(uint8_t *to, uint8_t host, uint8_t protocol, uint3
 /* The packet from 10.0.0.1 to 10.0.0.2 of a datagram's bytes from `offset` on, of `size` bytes. */
 static inline void put_packet(uint8_t *to, uint8_t protocol, uint32_t offset, uint32_t size, bool more)
 {
-    put_header(to, RECEIVER_HOST, protocol, offset, size, more);
+    put_header(to, (Ends){1, 2, 0, 0}, protocol, offset, size, more);
     for (uint32_t at = 0; at < size; at++)
         to[PACKET_HEADER + at] = (uint8_t)(offset + at);
 }
 
-/* The packet of a UDP datagram from 10.0.0.1, port 7, to a port of 10.0.0.`host`. Returns its length. */
-static inline size_t put_datagram(uint8_t *to, uint8_t host, uint16_t port, const uint8_t *bytes, size_t len)
+/* The packet of a whole UDP datagram (RFC 768). Returns its length. */
+static inline size_t put_datagram(uint8_t *to, Ends ends, const uint8_t *bytes, size_t len)
 {
     uint32_t size = DATAGRAM_HEADER + (uint32_t)len;
     uint8_t *datagram = to + PACKET_HEADER;
-    put_header(to, host, 17, 0, size, false);
-    put_two(datagram, 7);
-    put_two(datagram + 2, port);
+    put_header(to, ends, 17, 0, size, false);
+    put_two(datagram, ends.from_port);
+    put_two(datagram + 2, ends.to_port);
     put_two(datagram + 4, size);
     put_two(datagram + 6, 0);
     memcpy(datagram + DATAGRAM_HEADER, bytes, len);

@@ -1,8 +1,7 @@
 /* Shared by the echoes of bench/board: datagrams as packets of at most 1,500 bytes, and the cost of one turn. With
    ETHER they are in frames from 02:00:00:00:00:02 to 02:00:00:00:00:01, and an ARP request and a ping are measured. */
+#include "../packets.h"
 #include "machine.h"
-
-#include <string.h>
 
 enum { MTU = 1500, LONGEST = 4000, PACKETS = 3, TURNS = 200 };
 
@@ -12,7 +11,9 @@ enum { PAD = 2, FRAME_HEAD = 14, ARP = 28, ICMP = 1 }; /* with PAD before a fram
 enum { PAD = 0, FRAME_HEAD = 0 };
 #endif
 
-/* The packets of a datagram from 10.0.0.2 port 5000 to 10.0.0.1 port 7, or frames with them. */
+static const Ends ENDS = {2, 1, 5000, 7};
+
+/* The packets of a datagram, or frames with them. */
 static uint8_t rooms[PACKETS][PAD + FRAME_HEAD + MTU] __attribute__((aligned(4)));
 static uint8_t *const packets[PACKETS] = {rooms[0] + PAD, rooms[1] + PAD, rooms[2] + PAD};
 static uint32_t lengths[PACKETS], packet_count;
@@ -23,65 +24,31 @@ static uint32_t gone;
 /* One turn: all packets arrive, and the replies are sent. */
 static void turn(void);
 
-static uint32_t folded(const uint8_t *bytes, uint32_t len, uint32_t sum)
+/* A packet with `len` bytes of a datagram from `offset` on, and before it the header of its frame (RFC 894). */
+static void put_piece(const uint8_t *bytes, uint32_t len, uint8_t protocol, uint32_t offset, bool more)
 {
-    uint32_t i;
-    for (i = 0; i < len; i++)
-        sum += i % 2 == 0 ? (uint32_t)bytes[i] << 8 : bytes[i];
-    while (sum > 65535)
-        sum = (sum & 65535) + (sum >> 16);
-    return sum;
-}
-
-static void put(uint8_t *at, uint32_t value)
-{
-    at[0] = (uint8_t)(value >> 8);
-    at[1] = (uint8_t)value;
-}
-
-/* The datagram with its UDP header (RFC 768). */
-static const uint8_t *datagram(uint32_t len)
-{
-    static uint8_t bytes[8 + LONGEST];
-    static const uint8_t addresses[8] = {10, 0, 0, 2, 10, 0, 0, 1};
-    uint32_t i;
-    put(bytes, 5000);
-    put(bytes + 2, 7);
-    put(bytes + 4, 8 + len);
-    put(bytes + 6, 0);
-    for (i = 8; i < 8 + len; i++)
-        bytes[i] = (uint8_t)(i * 7);
-    put(bytes + 6, ~folded(bytes, 8 + len, folded(addresses, 8, 17 + 8 + len)) & 65535);
-    return bytes;
-}
-
-/* A packet with its header (RFC 791), and before it that of its frame (RFC 894). */
-static void put_packet(const uint8_t *bytes, uint32_t len, uint32_t protocol, uint32_t fragment)
-{
-    static const uint8_t head[20] = {0x45, 0, 0, 0, 0, 9, 0, 0, 64, 0, 0, 0, 10, 0, 0, 2, 10, 0, 0, 1};
     uint8_t *packet = packets[packet_count] + FRAME_HEAD;
 #ifdef ETHER
     static const uint8_t frame_head[FRAME_HEAD] = {2, 0, 0, 0, 0, 1, 2, 0, 0, 0, 0, 2, 8, 0};
     memcpy(packets[packet_count], frame_head, FRAME_HEAD);
 #endif
-    memcpy(packet, head, sizeof head);
-    packet[9] = (uint8_t)protocol;
-    put(packet + 2, 20 + len);
-    put(packet + 6, fragment);
-    put(packet + 10, ~folded(packet, 20, 0) & 65535);
-    memcpy(packet + 20, bytes, len);
-    lengths[packet_count++] = FRAME_HEAD + 20 + len;
+    put_header(packet, ENDS, protocol, offset, len, more);
+    memcpy(packet + PACKET_HEADER, bytes + offset, len);
+    lengths[packet_count++] = FRAME_HEAD + PACKET_HEADER + len;
 }
 
-/* The packets that carry it. */
+/* The packets of a datagram with this many bytes. */
 static void make_packets(uint32_t len)
 {
-    const uint8_t *bytes = datagram(len);
-    uint32_t offset, piece, last = 8 + len;
+    static uint8_t bytes[LONGEST], whole[PACKET_HEADER + DATAGRAM_HEADER + LONGEST];
+    uint32_t offset, piece, last = DATAGRAM_HEADER + len;
+    for (offset = 0; offset < len; offset++)
+        bytes[offset] = (uint8_t)(offset * 7);
+    put_datagram(whole, ENDS, bytes, len);
     packet_count = 0;
     for (offset = 0; offset < last; offset += piece) {
-        piece = last - offset > MTU - 20 ? MTU - 20 : last - offset;
-        put_packet(bytes + offset, piece, 17, (offset + piece < last ? 0x2000 : 0) | offset / 8);
+        piece = last - offset > MTU - PACKET_HEADER ? MTU - PACKET_HEADER : last - offset;
+        put_piece(whole + PACKET_HEADER, piece, 17, offset, offset + piece < last);
     }
 }
 
@@ -134,10 +101,10 @@ static void make_arp(void)
 static void make_ping(uint32_t len)
 {
     static uint8_t bytes[8 + MTU] = {8, 0, 0, 0, 0, 1, 0, 1};
-    put(bytes + 2, 0);
-    put(bytes + 2, ~folded(bytes, 8 + len, 0) & 65535);
+    put_two(bytes + 2, 0);
+    put_two(bytes + 2, checksum_of(bytes, 8 + len, 0));
     packet_count = 0;
-    put_packet(bytes, 8 + len, ICMP, 0);
+    put_piece(bytes, 8 + len, ICMP, 0, false);
 }
 #endif
 

@@ -6,6 +6,7 @@
 #include "timer.h"
 
 enum { MOST = 9000, MTU = 1500, LARGE_MTU = 4352, PORT = 7, OTHER_PORT = 99, FILLS = 600 };
+enum { SENDER = 1, RECEIVER = 2, BROADCAST = 255 };
 
 /* crates/bench_packets/src/packets.rt */
 uint32_t bsdudp_exchange(const uint8_t *bytes, size_t len, uint16_t mtu, bool is_connected, uint32_t times);
@@ -26,7 +27,7 @@ static uint8_t packet[PACKET_HEADER + DATAGRAM_HEADER + MOST];
 
 static size_t packet_of(int column, uint8_t host, uint16_t port)
 {
-    return put_datagram(packet, host, port, bytes, LENS[column]);
+    return put_datagram(packet, (Ends){SENDER, host, PORT, port}, bytes, LENS[column]);
 }
 
 static bool exchanged(int column, uint64_t turns)
@@ -67,72 +68,72 @@ static bool is_dropped(size_t len, uint32_t before, uint64_t turns)
 
 static bool received(int column, uint64_t turns)
 {
-    return is_read(packet_of(column, RECEIVER_HOST, PORT), 1, turns);
+    return is_read(packet_of(column, RECEIVER, PORT), 1, turns);
 }
 
 static bool no_port(int column, uint64_t turns)
 {
-    return is_dropped(packet_of(column, RECEIVER_HOST, OTHER_PORT), 0, turns);
+    return is_dropped(packet_of(column, RECEIVER, OTHER_PORT), 0, turns);
 }
 
 static bool full_queue(int column, uint64_t turns)
 {
-    return is_dropped(packet_of(column, RECEIVER_HOST, PORT), FILLS, turns);
+    return is_dropped(packet_of(column, RECEIVER, PORT), FILLS, turns);
 }
 
 static bool wrong_checksum(int column, uint64_t turns)
 {
-    size_t len = packet_of(column, RECEIVER_HOST, PORT);
+    size_t len = packet_of(column, RECEIVER, PORT);
     packet[len - 1] ^= 0xff;
     return is_dropped(len, 0, turns);
 }
 
 static bool wrong_header_checksum(int column, uint64_t turns)
 {
-    size_t len = packet_of(column, RECEIVER_HOST, PORT);
+    size_t len = packet_of(column, RECEIVER, PORT);
     packet[8] ^= 0xff;
     return is_dropped(len, 0, turns);
 }
 
 static bool for_another_host(int column, uint64_t turns)
 {
-    return is_dropped(packet_of(column, RECEIVER_HOST + 1, PORT), 0, turns);
+    return is_dropped(packet_of(column, RECEIVER + 1, PORT), 0, turns);
 }
 
 static bool broadcast_to_none(int column, uint64_t turns)
 {
-    return is_dropped(packet_of(column, BROADCAST_HOST, OTHER_PORT), 0, turns);
+    return is_dropped(packet_of(column, BROADCAST, OTHER_PORT), 0, turns);
 }
 
 static bool broadcast_to_one(int column, uint64_t turns)
 {
-    return is_read(packet_of(column, BROADCAST_HOST, PORT), 1, turns);
+    return is_read(packet_of(column, BROADCAST, PORT), 1, turns);
 }
 
 static bool broadcast_to_three(int column, uint64_t turns)
 {
-    return is_read(packet_of(column, BROADCAST_HOST, PORT), 3, turns);
+    return is_read(packet_of(column, BROADCAST, PORT), 3, turns);
 }
 
 #ifdef PACKETS_LWIP
 static bool lwip_received(int column, uint64_t turns)
 {
-    return lwip_receive(packet, packet_of(column, RECEIVER_HOST, PORT), 0, true, (uint32_t)turns) == turns;
+    return lwip_receive(packet, packet_of(column, RECEIVER, PORT), 0, true, (uint32_t)turns) == turns;
 }
 
 static bool lwip_no_port(int column, uint64_t turns)
 {
-    return lwip_receive(packet, packet_of(column, RECEIVER_HOST, OTHER_PORT), 0, false, (uint32_t)turns) == turns;
+    return lwip_receive(packet, packet_of(column, RECEIVER, OTHER_PORT), 0, false, (uint32_t)turns) == turns;
 }
 
 static bool lwip_full_queue(int column, uint64_t turns)
 {
-    return lwip_receive(packet, packet_of(column, RECEIVER_HOST, PORT), FILLS, false, (uint32_t)turns) == turns;
+    return lwip_receive(packet, packet_of(column, RECEIVER, PORT), FILLS, false, (uint32_t)turns) == turns;
 }
 
 static bool lwip_wrong_checksum(int column, uint64_t turns)
 {
-    size_t len = packet_of(column, RECEIVER_HOST, PORT);
+    size_t len = packet_of(column, RECEIVER, PORT);
     packet[len - 1] ^= 0xff;
     return lwip_receive(packet, len, 0, false, (uint32_t)turns) == turns;
 }
