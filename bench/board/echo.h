@@ -21,6 +21,14 @@ static uint32_t lengths[PACKETS], packet_count;
 /* The number of packets sent. */
 static uint32_t gone;
 
+/* A packet or a frame is sent. */
+static inline void send_away(const uint8_t *bytes, uint32_t len)
+{
+    (void)bytes;
+    (void)len;
+    gone++;
+}
+
 /* One turn: all packets arrive, and the replies are sent. */
 static void turn(void);
 

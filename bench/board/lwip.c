@@ -1,7 +1,8 @@
 /* lwIP's echo by its raw interface: a callback sends what arrived, as lwIP's own echo does. With COPIES the bytes are
    copied out of the packet and into another, as sockets copy them. A packet from the link is copied in, and one for it
    is copied out, as in ours. With ETHER packets are in frames, with lwIP's etharp. With SOCKETS it's an echo by lwIP's
-   sockets, which need an operating system: it's linked without one to see its size, and can't run. */
+   sockets, which need an operating system: it's linked without one to see its size, and can't run. With TUN it's a host
+   on a device of Linux, for bench/tun. */
 #include "lwip/etharp.h"
 #include "lwip/init.h"
 #include "lwip/netif.h"
@@ -11,7 +12,11 @@
 #include "lwip/tcpip.h"
 #endif
 
+#ifdef TUN
+#include "../tun/echo.h"
+#else
 #include "echo.h"
+#endif
 
 static struct netif interface;
 static uint8_t packet[FRAME_HEAD + MTU];
@@ -25,7 +30,7 @@ static err_t send_out(struct netif *netif, struct pbuf *bytes)
 {
     (void)netif;
     pbuf_copy_partial(bytes, packet, bytes->tot_len, 0);
-    gone++;
+    send_away(packet, bytes->tot_len);
     return ERR_OK;
 }
 
@@ -113,7 +118,9 @@ static void turn(void)
         if (interface.input(bytes, &interface) != ERR_OK)
             pbuf_free(bytes);
     }
+#if ENABLE_LOOPBACK
     netif_poll(&interface);
+#endif
 }
 
 static void begin(void)

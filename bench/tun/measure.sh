@@ -6,7 +6,7 @@
 # lwIP's host, with the options and the port of bench/peers.
 build_lwip_echo() { # WORK NAME FLAG..
     local files=("${lwip_core[@]/#/$LWIP/src/core/}")
-    "${CC:-gcc}" "${@:3}" -I "$bench/peers" -I "$LWIP/src/include" -o "$1/$2" "$bench/tun/lwip_echo.c" \
+    "${CC:-gcc}" "${@:3}" -DTUN -I "$bench/peers" -I "$LWIP/src/include" -o "$1/$2" "$bench/board/lwip.c" \
         "$bench/peers/sum.c" "${files[@]/%/.c}"
 }
 
