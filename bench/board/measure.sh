@@ -11,7 +11,7 @@ of_board=(-mcpu=cortex-m3 -mthumb -Os -ffreestanding -ffunction-sections -fdata-
 board_object() { # FILE OBJECT FLAG..
     local file=$1 object=$2
     shift 2
-    arm-none-eabi-gcc "${of_board[@]}" "-I$board" "-I$bench/board" "$@" -c "$file" -o "$object"
+    arm-none-eabi-gcc "${of_board[@]}" "-I$board" "$@" -c "$file" -o "$object"
 }
 
 # Links a program with what every one takes.
@@ -75,7 +75,7 @@ lwip_objects() { # WORK FLAGS FILE..
 
 # lwIP's two echoes.
 board_lwip() { # WORK FLAG..
-    local work=$1 objects how=("-I$LWIP/src/include" "${@:2}") name
+    local work=$1 objects how=("${lwip_board[@]}" "-I$LWIP/src/include" "${@:2}") name
     lwip_objects "$work" "${how[*]}" "${lwip_host[@]}"
     for name in "" COPIES; do
         board_object "$bench/board/lwip.c" "$work/lwip.o" "${how[@]}" ${name:+-D$name}
@@ -87,7 +87,7 @@ board_lwip() { # WORK FLAG..
 # The size of lwIP's echo by its own sockets. They need an operating system, whose functions are missing, so it's only
 # linked.
 board_lwip_sockets() { # WORK
-    local work=$1 objects how=("-I$LWIP/src/include" -DSOCKETS) text data bss text0 data0 bss0
+    local work=$1 objects how=("${lwip_board[@]}" "-I$LWIP/src/include" -DSOCKETS) text data bss text0 data0 bss0
     lwip_objects "$work" "${how[*]}" "${lwip_host[@]}" sys ../api/{api_lib,api_msg,err,netbuf,sockets,tcpip}
     board_object "$bench/board/lwip.c" "$work/lwip.o" "${how[@]}"
     board_program "$work" "$work/lwip.elf" "$work/lwip.o" "${objects[@]}" -Wl,--unresolved-symbols=ignore-all

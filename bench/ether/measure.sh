@@ -6,7 +6,7 @@
 ether_program() { # WORK NAME FILE..
     local work=$1 name=$2
     shift 2
-    "${CC:-gcc}" -O3 -march=x86-64-v2 -I "$bench/board" -I "$bench/../portable/board" -I "$bench/../capi/include" \
+    "${CC:-gcc}" -O3 -march=x86-64-v2 -I "$bench/../portable/board" -I "$bench/../capi/include" \
         "$bench/ether/machine.c" "$@" -o "$work/$name"
 }
 
@@ -36,7 +36,8 @@ measure_ether() { # WORK
     lwip_sources "$work" || { echo "lwIP's sources aren't available by apt-get: its rows are skipped"; return 0; }
     files=("${lwip_host[@]/#/$LWIP/src/core/}")
     for file in "" -DCOPIES; do
-        ether_program "$work" lwip -DETHER $file -I "$LWIP/src/include" "$bench/board/lwip.c" "${files[@]/%/.c}"
+        ether_program "$work" lwip -DETHER $file "${lwip_board[@]}" -I "$LWIP/src/include" "$bench/board/lwip.c" \
+            "${files[@]/%/.c}"
         ether_row "$work" "lwIP 2.1.3${file:+, with two more copies}" lwip
     done
 }

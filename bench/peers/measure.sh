@@ -5,10 +5,11 @@ lwip_sources() { # WORK
     LWIP=${LWIP:-$("$bench/../tools/debian-source" "$1" lwip 2> "$1/lwip.log")} && [ -f "$LWIP/src/core/udp.c" ]
 }
 
-# Its files for UDP over IPv4; and those for a host with counters, on a link of packets or of frames.
+# Its files for UDP over IPv4; those for a host with counters, on a link of packets or of frames; and the flags of such.
 lwip_core=(def inet_chksum init ip mem memp netif pbuf udp ipv4/{ip4,ip4_addr,ip4_frag})
 lwip_host=(def inet_chksum init ip mem memp netif pbuf stats timeouts udp
     ipv4/{ip4,ip4_addr,ip4_frag,icmp,etharp} ../netif/ethernet)
+lwip_board=("-I$bench/peers" -DBOARD)
 
 # One build of lwIP with lwip.c, as a shared library that exports only names that begin with its own.
 build_lwip() { # WORK NAME FLAG..

@@ -1,1 +1,0 @@
-/* lwIP's port header: lwIP's defaults are enough. */
