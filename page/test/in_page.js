@@ -1,4 +1,4 @@
-// The functions that browser.py calls in the page.
+// The functions that tests/page calls in the page.
 "use strict";
 
 // The most lines of an example that are tested: the last one, and others at equal distances.
@@ -226,18 +226,8 @@ function faultsOfPrint() {
     ...(marks.some(isLost) ? ["a legend loses its colours in print"] : [])];
 }
 
-// Each element that takes input has a name for screen readers.
-function faultsOfNames() {
-  const within = document.querySelector("dialog[open]") || document.body;
-  const isNamed = it => it.getAttribute("aria-label") || it.textContent.trim() || it.closest("label")
-    || it.getAttribute("aria-labelledby");
-  return [...within.querySelectorAll("button, input, select, textarea, [role=img], svg")]
-    .filter(it => !isNamed(it)).map(it => `${nameOf(it)} has no name`);
-}
-
 const faultsOfLayout = () =>
-  [faultsOfOverlap, faultsOfPicture, faultsOfWidth, faultsOfContrast, faultsOfNames, faultsOfHidden]
-    .flatMap(look => look());
+  [faultsOfOverlap, faultsOfPicture, faultsOfWidth, faultsOfContrast, faultsOfHidden].flatMap(look => look());
 
 // Hidden elements are invisible, whatever their style.
 const faultsOfHidden = () => [...document.querySelectorAll("[hidden]")].filter(it => it.getClientRects().length)
@@ -262,8 +252,7 @@ function faultsOfKeys() {
   byId("make").click();
   putPacket();
   if (page.steps[3].verb !== "rx" || page.at !== 3) faults.push("a packet that was made isn't put in");
-  return [...faults, ...faultsOfMaking(), ...faultsOfWire(), ...faultsOfGuide(), ...faultsOfForms(),
-    ...faultsOfExercises()];
+  return faults;
 }
 
 // An invalid address or port is refused with the reason, and nothing is inserted.

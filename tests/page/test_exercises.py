@@ -96,23 +96,16 @@ def test_runs_of_bytes(text, is_cut, runs, at_width):
 # ---- answers
 
 
-def key(browser, name):
-    """Presses a key as a user does. Enter also has its text, which submits a form."""
-    about = {"key": name, "windowsVirtualKeyCode": 13 if name == "Enter" else ord(name)}
-    browser.ask("Input.dispatchKeyEvent", type="keyDown", **about, text="\r" if name == "Enter" else name)
-    browser.ask("Input.dispatchKeyEvent", type="keyUp", **about)
-
-
 def test_digits_choose_an_answer_and_enter_checks_it(at_width):
     browser = at_width(1280)
     browser.run("open('run', { name: '01_a_datagram' }); select(page.firstQuestion)")
     browser.run("byId('rows').children[page.at].firstChild.focus()")
     right = browser.run("page.notes.questions[page.at].answers.findIndex(it => it.isRight)") + 1
-    key(browser, str(right % 2 + 1))
+    browser.press(str(right % 2 + 1))
     assert browser.run("document.querySelector('.predict :checked').value") == str(right % 2)
-    key(browser, str(right))
+    browser.press(str(right))
     assert browser.run("document.querySelector('.predict :checked').value") == str(right - 1)
-    key(browser, "Enter")
+    browser.press("Enter")
     assert browser.run("document.querySelector('#look .verdict.yes b').textContent") == "Right: "
 
 
@@ -120,16 +113,16 @@ def test_keys_after_a_choice_from_the_list_are_for_the_script(at_width):
     """Up and down stay the list's."""
     browser = at_width(1280)
     browser.run("open('run', { name: '01_a_datagram' }); byId('choice').focus()")
-    for name, code in (("ArrowRight", 39), ("ArrowRight", 39), ("ArrowLeft", 37)):
-        browser.ask("Input.dispatchKeyEvent", type="keyDown", key=name, code=name, windowsVirtualKeyCode=code)
+    for name in ("ArrowRight", "ArrowRight", "ArrowLeft"):
+        browser.press(name)
     assert browser.run("[byId('choice').value, page.at]") == ["run/01_a_datagram", 1]
     browser.run("select(page.firstQuestion); byId('choice').focus()")
-    key(browser, "2")
+    browser.press("2")
     assert browser.run("[byId('choice').value, document.querySelector('.predict :checked').value]") == [
         "run/01_a_datagram", "1"
     ]  # fmt: skip
     browser.run("byId('choice').focus()")
-    browser.ask("Input.dispatchKeyEvent", type="keyDown", key="ArrowDown", code="ArrowDown", windowsVirtualKeyCode=40)
+    browser.press("ArrowDown")
     assert browser.run("byId('choice').value") == "chain/02_an_mbuf_and_a_cluster"
 
 
@@ -137,7 +130,7 @@ def test_a_digit_in_a_field_is_text(at_width):
     browser = at_width(1280)
     browser.run("open('run', { name: 'exercise_01_which_socket' })")
     browser.run("byId('look').querySelector('.predict input').focus()")
-    key(browser, "1")
+    browser.press("1")
     assert browser.run("document.activeElement.value") == "1"
 
 
@@ -145,7 +138,7 @@ def test_enter_on_the_chosen_row_leads_to_its_question(at_width):
     browser = at_width(1280)
     browser.run("open('run', { name: 'exercise_01_which_socket', place: 1 })")
     browser.run("byId('rows').children[1].firstChild.focus()")
-    key(browser, "Enter")
+    browser.press("Enter")
     assert browser.run("document.activeElement.name") == "guess"
 
 

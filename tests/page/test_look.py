@@ -114,26 +114,71 @@ def test_the_buttons_of_the_head_fill_two_rows_at_most(width, at_width):
     assert rows <= 2 and height <= 96, f"the buttons fill {rows} rows, and the head is {height} pixels high"
 
 
+OPENED = "open('{}', {{ name: '{}', place: {} }}); revealAll()"
+# Views with a selected line, which are printed, too.
+LINES = [
+    ("run", "05_fragments_and_a_hole", 8),
+    ("chain", "03_sharing_without_copying", 6),
+    ("run", "07_checksums_and_a_damaged_bit", 4),
+    ("run", "11_the_receive_limits", 41),
+    ("run", "12_a_connected_socket", 2),
+    ("chain", "02_an_mbuf_and_a_cluster", 14),
+    ("chain", "04_headers_in_front", 10),
+    ("chain", "split_and_join", 6),
+    ("wire", "13_a_request_and_its_answer", 8),
+    ("wire", "14_fragments_and_one_that_is_lost", 10),
+    ("wire", "14_fragments_and_one_that_is_lost", 22),
+    ("wire", "15_a_broadcast_on_a_wire", 14),
+    ("wire", "16_a_packet_that_waits", 9),
+    ("wire", "16_a_packet_that_waits", 12),
+]
+EXERCISE = "open('run', { name: 'exercise_02_why_dropped', place: 3 })"
+WRONG = "open('run', { text: 'sokcet\\nbind 3 localhost 7\\n' })"
 VIEWS = {
     "start": "open('run', { name: '01_a_datagram' }); showStart(true)",
     "question": "open('run', { name: '01_a_datagram', place: 2 })",
     "hidden": "open('run', { name: '01_a_datagram', place: 5 })",
     "editor": "open('run', { name: '01_a_datagram' }); showLeft('edit')",
-    "fragments": "open('run', { name: '05_fragments_and_a_hole', place: 8 }); revealAll()",
-    "chains": "open('chain', { name: '03_sharing_without_copying', place: 6 }); revealAll()",
-    "wire": "open('wire', { name: '14_fragments_and_one_that_is_lost', place: 10 }); revealAll()",
-    "ethernet": "open('wire', { name: '16_a_packet_that_waits', place: 9 }); revealAll()",
-    "exercise": "open('run', { name: 'exercise_02_why_dropped', place: 3 })",
-}
+    "all queues": "open('run', { name: '09_broadcast_to_two', place: 6 }); page.drawsAll = true; revealAll()",
+    "exercise": EXERCISE,
+    "guess": f"{EXERCISE}; expectHere(2, 'ok'); select(2)",
+    "questions": f"{EXERCISE}; select(page.steps.length - 1); askedFor(0, '0'); goOn(); byId('rows').scrollTop = 9999",
+    "forms": f"{WRONG}; seeForms()",
+    "wrong line": f"{WRONG}; select(0)",
+    "make": "open('run', { name: '01_a_datagram' }); byId('make').click()",
+    "about": "open('run', { name: '01_a_datagram' }); byId('about').click()",
+} | {f"{name}, {place}": OPENED.format(tab, name, place) for tab, name, place in LINES}
+# Roles that a screen reader names.
+NAMED = {"button", "checkbox", "combobox", "image", "link", "radio", "searchbox", "textbox"}
 
 
 @pytest.mark.parametrize("theme", ["light", "dark"])
-@pytest.mark.parametrize("width", HEIGHTS)
 @pytest.mark.parametrize("view", VIEWS)
-def test_nothing_overlaps_or_is_cut_off(view, width, theme, at_width):
-    browser = at_width(width)
-    browser.run(f"showLeft('read'); {VIEWS[view]}; setTheme('{theme}')")
-    assert browser.run("faultsOfLayout()") == []
+def test_nothing_overlaps_or_is_cut_off(view, theme, at_width):
+    """At each width. Each text has a contrast of at least 4.5."""
+    at_width(1280).run(f"showLeft('read'); {VIEWS[view]}; setTheme('{theme}')")
+    for width in HEIGHTS:
+        assert at_width(width).run("faultsOfLayout()") == [], f"{width} pixels"
+
+
+@pytest.mark.parametrize("view", VIEWS)
+def test_what_takes_input_has_a_name_in_the_accessibility_tree(view, at_width):
+    browser = at_width(1280)
+    browser.run(f"showLeft('read'); {VIEWS[view]}")
+    for node in browser.ask("Accessibility.getFullAXTree")["nodes"]:
+        role, name = (node.get(it, {}).get("value", "") for it in ("role", "name"))
+        assert node.get("ignored") or role not in NAMED or name.strip(), role
+
+
+@pytest.mark.parametrize("tab, name, place", LINES)
+def test_only_the_selected_line_is_printed(tab, name, place, at_width):
+    browser = at_width(1280)
+    browser.run(OPENED.format(tab, name, place))
+    browser.ask("Emulation.setEmulatedMedia", media="print")
+    try:
+        assert browser.run("faultsOfPrint()") == []
+    finally:
+        browser.ask("Emulation.setEmulatedMedia", media="")
 
 
 def test_scroll_bars_have_a_colour_of_their_own(at_width):
