@@ -97,6 +97,12 @@ def package_version() -> str:
     return version.newest() + ("" if version.released() else "~dev")
 
 
+def newest_glibc(binary: bytes) -> tuple[int, int]:
+    """Returns the newest version of the C library whose functions a program or a library calls; (0, 0) if it calls
+    none."""
+    return max(((int(a), int(b)) for a, b in re.findall(rb"GLIBC_(\d+)\.(\d+)", binary)), default=(0, 0))
+
+
 def is_new(file: pathlib.Path, crate: str) -> bool:
     """Returns whether a file is newer than each source of a crate and of the crates below it."""
     used = [crate, *crates.below(crate, crates.uses())]

@@ -11,7 +11,7 @@ const { load } = require("./sources.js");
 const [file, examples, lessons, program, player] = process.argv.slice(2);
 const page = load(["Engine", "configOf", "optionsOf", "readNotes", "partsOf", "linesOf", "hexOf", "bytesOf", "hasHosts",
   "DEFAULTS", "DEFAULT_CONFIG", "usageIn", "slotsIn", "drawnChains", "clustersIn", "playChains", "traceHosts",
-  "isFollowed", "Frame", "tracePlay", "traceStack", "Held", "chainsIn", "captureScript"], file);
+  "isFollowed", "Frame", "tracePlay", "traceStack", "Held", "chainsIn"], file);
 
 let faults = 0;
 function fault(script, text) {
@@ -390,50 +390,6 @@ function tryWaiting(say, { state, sockets, output, pieces }, chainsOf) {
   }
 }
 
-// ---- captures
-
-// Records in a classic file, and the same ones in pcapng files of either byte order, made by hand.
-function tryCaptures(engine, folder) {
-  const ip = "4500001e00010000401166cc0a0000020a00000113880007000a6fdf6869", frame = `${"02".repeat(12)}0800${ip}`;
-  const word = isLittle => (n, size = 4) => {
-    const digits = n.toString(16).padStart(2 * size, "0").match(/../g);
-    return (isLittle ? digits.reverse() : digits).join("");
-  };
-  for (const isLittle of [true, false]) {
-    const w = word(isLittle), length = frame.length / 2, pad = "0".repeat((8 - (frame.length % 8)) % 8);
-    const block = (type, body) => w(type) + w(body.length / 2 + 12) + body + w(body.length / 2 + 12);
-    const classic = w(0xa1b2c3d4) + w(2, 2) + w(4, 2) + w(0) + w(0) + w(65535) + w(1)
-      + w(7) + w(500000) + w(length) + w(length) + frame + w(8) + w(0) + w(40) + w(length) + frame.slice(0, 80);
-    const next = block(0x0a0d0d0a, w(0x1a2b3c4d) + w(1, 2) + w(0, 2) + w(0xffffffff) + w(0xffffffff))
-      + block(1, w(1, 2) + w(0, 2) + w(65535)) + block(0xbad, w(1))
-      + block(6, w(0) + w(0) + w(7500000) + w(length) + w(length) + frame + pad)
-      + block(6, w(0) + w(0) + w(8000000) + w(40) + w(length) + frame.slice(0, 80));
-    for (const [kind, hex] of [["pcap", classic], ["pcapng", next]]) {
-      const wanted = [[1, "7500000000", ip, length, length], [2, "8000000000", ip.slice(0, 52), length, 40]];
-      tryRecords(engine, `a ${kind}`, hex, wanted, "");
-      tryRecords(engine, `a ${kind} that is cut`, hex.slice(0, -4), wanted.slice(0, 1), /cut.* at byte \d+$/);
-    }
-  }
-  const real = path.join(folder, "by_tcpdump.pcap");
-  const { records } = engine.records(new Uint8Array(fs.readFileSync(real)));
-  const script = page.captureScript(engine, records), { steps } = page.tracePlay(engine, script.text);
-  if (steps.filter(step => step.verb === "rx").length !== script.counts.taken) fault(real, "not each record arrives");
-  tryRecords(engine, "40 zeros", "00".repeat(40), [], "bad magic number at byte 0");
-  tryRecords(engine, "no bytes", "", [], "file header cut short at byte 0");
-  tryRecords(engine, "a gzip", "1f8b08", [], /^compressed by gzip.* at byte 0$/);
-}
-
-// The records of a file, and what is wrong with it.
-function tryRecords(engine, name, digits, wanted, wrong) {
-  const { records, fault: said } = engine.records(Uint8Array.from(Buffer.from(digits, "hex")));
-  const hex = it => it.packet && page.hexOf(it.packet);
-  const told = records.map(it => [it.number, String(it.time), hex(it), it.whole, it.captured]);
-  const isSaid = typeof wrong === "string" ? said === wrong : wrong.test(said);
-  if (JSON.stringify(told) !== JSON.stringify(wanted) || !isSaid) {
-    fault(name, `its records are read as ${JSON.stringify(told)}, and of it it's said: ${said}`);
-  }
-}
-
 // ---- hosts on a wire
 
 // Each host's separate script has the same results as the program after each line, with the module and with the native
@@ -666,7 +622,6 @@ async function main() {
   }
   tryChains(engine);
   tryAllStates(engine);
-  tryCaptures(engine, path.join(examples, "play"));
   tryRandomWires(engine);
   tryDrawn(engine);
   const lessonsOfChains = scriptsOf(path.join(lessons, "chain"))

@@ -8,6 +8,7 @@ import subprocess
 
 import pytest
 
+from tests.cases import TOP
 from tests.packets import datagram, fragment, ip
 from tests.pcaps import NANOSECONDS, header, record
 
@@ -195,21 +196,28 @@ def told_by_page(script):
 
 
 SEEDS = range(30)
+# Captures of other programs, in each format and byte order. The last record of another copy of each is cut short.
+FOREIGN = sorted((TOP / "tests/bsdplay/captures").iterdir())
+STORIES = [*map(str, SEEDS), *(f"{it.name}{cut}" for it in FOREIGN for cut in ("", " cut"))]
 
 
 @pytest.fixture(scope="module")
 def stories(plays_captures, tmp_path_factory):
-    """Random captures by seed, each with the page's script. One process plays all of them."""
-    files = [tmp_path_factory.mktemp("stories") / f"{seed}.pcap" for seed in SEEDS]
-    for seed, file in zip(SEEDS, files):
-        file.write_bytes(capture(*random_packets(random.Random(seed))))
-    return list(zip(files, plays_captures(*files)))
+    """These captures by name, each with the page's script. One process plays all of them."""
+    folder = tmp_path_factory.mktemp("stories")
+    for seed in SEEDS:
+        (folder / str(seed)).write_bytes(capture(*random_packets(random.Random(seed))))
+    for it in FOREIGN:
+        (folder / it.name).write_bytes(it.read_bytes())
+        (folder / f"{it.name} cut").write_bytes(it.read_bytes()[:-4])
+    files = [folder / it for it in STORIES]
+    return dict(zip(STORIES, zip(files, plays_captures(*files))))
 
 
 @pytest.mark.xdist_group("stories")
-@pytest.mark.parametrize("seed", SEEDS)
-def test_the_page_says_what_why_says(seed, bsdplay, stories):
-    file, script = stories[seed]
+@pytest.mark.parametrize("name", STORIES)
+def test_the_page_says_what_why_says(name, bsdplay, stories):
+    file, script = stories[name]
     done = subprocess.run([bsdplay, "why", "--json", file], capture_output=True, text=True, check=False)
     objects = [json.loads(it) for it in done.stdout.splitlines()]
     if objects[-1]["summary"]["host"] is None:
