@@ -2,18 +2,20 @@
 """Runs a command in a network namespace with an interface w0, at whose other end, in another
 namespace, Linux has 10.0.0.1/24 and a UDP echo service on port 7."""
 import ctypes
-import os
 import pathlib
-import signal
+import queue
 import socket
 import subprocess
 import sys
+import threading
 
 sys.dont_write_bytecode = True
 sys.path.insert(0, str(pathlib.Path(__file__).resolve().parent.parent.parent))
 from tools import command_line  # noqa: E402
 
 CLONE_NEWNET = 0x40000000
+# Seconds in which the other end must be ready.
+SOON = 30
 
 
 def run(*words):
@@ -21,6 +23,7 @@ def run(*words):
 
 
 def unshare():
+    """Gives this thread a namespace of its own, and the programs that it starts."""
     if ctypes.CDLL(None, use_errno=True).unshare(CLONE_NEWNET):
         raise OSError(ctypes.get_errno(), "no network namespace")
 
@@ -30,11 +33,11 @@ def quiet(interface):
         file.write("1")
 
 
-def echo(ready, go):
+def echo(said, linked):
     """The other end."""
     unshare()
-    os.write(ready, b"x")
-    os.read(go, 1)
+    said.put(threading.get_native_id())
+    linked.wait()
     quiet("w1")
     run("ip", "link", "set", "lo", "up")
     run("ip", "addr", "add", "10.0.0.1/24", "broadcast", "+", "dev", "w1")
@@ -43,7 +46,7 @@ def echo(ready, go):
     it = socket.socket(socket.AF_INET, socket.SOCK_DGRAM)
     it.setsockopt(socket.SOL_SOCKET, socket.SO_BROADCAST, 1)
     it.bind(("0.0.0.0", 7))
-    os.write(ready, b"x")
+    said.put("ready")
     while True:
         data, sender = it.recvfrom(65536)
         try:
@@ -54,25 +57,16 @@ def echo(ready, go):
 
 def main():
     words = command_line.with_command(command_line.parser(__doc__), "COMMAND", "the command with its words").command
+    said, linked = queue.Queue(), threading.Event()
     unshare()
-    (ready_out, ready_in), (go_out, go_in) = os.pipe(), os.pipe()
-    child = os.fork()
-    if child == 0:
-        try:
-            echo(ready_in, go_out)
-        finally:
-            os._exit(1)
-    try:
-        os.read(ready_out, 1)
-        run("ip", "link", "add", "w0", "type", "veth", "peer", "name", "w1", "netns", str(child))
-        quiet("w0")
-        run("ip", "link", "set", "w0", "up", "mtu", "65535", "txqueuelen", "1000")
-        os.write(go_in, b"x")
-        os.read(ready_out, 1)
-        return subprocess.run(words, check=False).returncode
-    finally:
-        os.kill(child, signal.SIGKILL)
-        os.waitpid(child, 0)
+    threading.Thread(target=echo, args=(said, linked), daemon=True).start()
+    other = str(said.get(timeout=SOON))
+    run("ip", "link", "add", "w0", "type", "veth", "peer", "name", "w1", "netns", other)
+    quiet("w0")
+    run("ip", "link", "set", "w0", "up", "mtu", "65535", "txqueuelen", "1000")
+    linked.set()
+    said.get(timeout=SOON)
+    return subprocess.run(words, check=False).returncode
 
 
 sys.exit(main())
