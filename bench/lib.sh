@@ -26,6 +26,18 @@ build_bench() { # WORK SUBJECT CRATES [LIBRARY..]
         "${archives[@]}" "$kit/c/liblibc_c.a" "$@" "-Wl,-rpath,$work"
 }
 
+# Prints a row of a table, and the head of one with the line below it.
+table_row() { # CELL..
+    printf '| %s ' "$@"
+    echo '|'
+}
+
+table_head() { # CELL..
+    echo
+    table_row "$@"
+    echo "|---|$(printf -- '---:|%.0s' "${@:2}")"
+}
+
 # The instructions of a program. memcpy copies without `rep movsb`, which counts as one instruction for each byte.
 counted() { # PROGRAM ARGUMENT..
     GLIBC_TUNABLES=glibc.cpu.x86_rep_movsb_threshold=2000000000 \
@@ -54,23 +66,21 @@ check_limits() { # SUBJECT
 
 # The instructions of each turn, from the difference of 101 turns and one.
 print_instructions() { # WORK
-    local column columns row rows once more
+    local column columns row rows once more cells
     counts=()
     mapfile -t columns < <("$1/bench" columns)
-    printf '%-40s' 'instructions'
-    printf ' %12s' "${columns[@]}"
-    echo
+    table_head instructions "${columns[@]}"
     mapfile -t rows < <("$1/bench" rows)
     for row in "${rows[@]}"; do
-        printf '%-40s' "$row"
+        cells=()
         for column in "${columns[@]}"; do
             "$1/bench" turns "$row" "$column" 1 || { echo "$row: it went wrong" >&2; return 1; }
             once="$(counted "$1/bench" turns "$row" "$column" 1)"
             more="$(counted "$1/bench" turns "$row" "$column" 101)"
             counts[$row|$column]=$(((more - once) / 100))
-            printf ' %12d' "${counts[$row|$column]}"
+            cells+=("${counts[$row|$column]}")
         done
-        echo
+        table_row "$row" "${cells[@]}"
     done
 }
 

@@ -29,7 +29,7 @@ typedef struct {
 } Row;
 
 typedef struct {
-    const char *what;           /* a turn does, and is timed */
+    const char *what;           /* a turn does, and is timed in nanoseconds */
     const char *const *columns; /* their names */
     int column_count;
     const Row *rows;
@@ -86,17 +86,17 @@ static inline uint64_t turns_of(const Row *row, int column)
 /* The times of all rows, or their ratios to the first row, which depend less on the load and on the computer. */
 static inline void print_rows(const Table *table, double taken[][TIMER_MOST_COLUMNS], bool ratios)
 {
-    printf("%-40s", ratios ? "times to those of the first row" : table->what);
+    printf("\n| %s |", ratios ? "times to those of the first row" : table->what);
     for (int c = 0; c < table->column_count; c++)
-        printf(" %12s", table->columns[c]);
+        printf(" %s |", table->columns[c]);
+    printf("\n|---|");
+    for (int c = 0; c < table->column_count; c++)
+        printf("---:|");
     printf("\n");
     for (int r = 0; r < table->row_count; r++) {
-        printf("%-40s", table->rows[r].name);
+        printf("| %s |", table->rows[r].name);
         for (int c = 0; c < table->column_count; c++)
-            if (ratios)
-                printf(" %12.2f", taken[r][c] / taken[0][c]);
-            else
-                printf(" %9.1f ns", taken[r][c]);
+            printf(" %.*f |", ratios ? 2 : 1, ratios ? taken[r][c] / taken[0][c] : taken[r][c]);
         printf("\n");
     }
 }

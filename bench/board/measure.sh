@@ -34,16 +34,6 @@ bytes_of() { # FILE
     arm-none-eabi-size -t "$1" | awk 'END {print $1, $2, $3}'
 }
 
-# A row of a table, its numbers with commas.
-table_row() { # CELL..
-    local cell row='|'
-    for cell in "$@"; do
-        [[ $cell != *[!0-9]* ]] && cell=$(sed ':a;s/\B[0-9]\{3\}\>/,&/;ta' <<< "$cell")
-        row+=" $cell |"
-    done
-    echo "$row"
-}
-
 # The size of a library with every call (or -), the size of its echo without that of an empty program, and its costs.
 board_row() { # WORK NAME LIBRARY PROGRAM
     local work=$1 name=$2 library=$3 program=$4 text data bss text0 data0 bss0 said
@@ -93,7 +83,7 @@ board_lwip_sockets() { # WORK
     board_program "$work" "$work/lwip.elf" "$work/lwip.o" "${objects[@]}" -Wl,--unresolved-symbols=ignore-all
     read -r text data bss < <(bytes_of "$work/lwip.elf")
     read -r text0 data0 bss0 < <(bytes_of "$work/nothing.elf")
-    table_row "lwIP 2.1.3, \`-Os\`, by its sockets" - $((text - text0)) $((data - data0)) $((bss - bss0)) - - - -
+    table_row "lwIP 2.1.3, \`-Os\`, by its sockets" - $((text - text0)) $((data - data0)) $((bss - bss0))
 }
 
 # The library of portable/core for a processor, which is made if it isn't there.
@@ -105,8 +95,7 @@ core_of() { # WORK PROCESSOR LEVEL
 
 board_echoes() { # WORK
     local work=$1 level made
-    table_row Cortex-M3 'library' 'echo: text' data bss 'call stack' '2 bytes' '1,472' '4,000'
-    echo '|---|---:|---:|---:|---:|---:|---:|---:|---:|'
+    table_head Cortex-M3 library 'echo: text' data bss 'call stack' '2 bytes' '1,472' '4,000'
     for level in --small -Os -O2; do
         made=$(core_of "$work" cortex-m3 $level)
         board_ours "$work" "\`portable/core $level\`" "$made" "$made/libbsdudp.a"
@@ -130,10 +119,8 @@ board_echoes() { # WORK
 # The same as hosts on an Ethernet: ours, and lwIP with its etharp and icmp. Neighbours are known.
 board_hosts() { # WORK
     local work=$1 level made
-    echo
-    table_row 'Cortex-M3, frames' library 'echo: text' data bss 'call stack' '2 bytes' '1,472' '4,000' \
+    table_head 'Cortex-M3, frames' library 'echo: text' data bss 'call stack' '2 bytes' '1,472' '4,000' \
         'ARP request' 'ping of 56'
-    echo '|---|---:|---:|---:|---:|---:|---:|---:|---:|---:|---:|'
     for level in --small -Os -O2; do
         made=$(core_of "$work" cortex-m3 $level)
         board_ours "$work" "\`portable/core $level\`" "$made" "$made/libbsdudp.a" -DETHER
@@ -144,9 +131,7 @@ board_hosts() { # WORK
 # The bytes of code and constants of the library, with every call in.
 board_processors() { # WORK
     local work=$1 processor made
-    echo
-    table_row Processor -Os
-    echo '|---|---:|'
+    table_head Processor -Os
     for processor in $("$bench/../portable/core" targets | awk '{print $1}'); do
         made=$(core_of "$work" "$processor" -Os)
         table_row "\`$processor\`" "$(size -t "$made/libbsdudp.a" | awk 'END {print $1}')" # of any processor

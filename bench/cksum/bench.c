@@ -168,7 +168,7 @@ static bool agree(size_t len)
 
 int main(int argc, char **argv)
 {
-    Table table = {"a sum of bytes", COLUMNS, COUNT_OF(COLUMNS), ROWS, COUNT_OF(ROWS)};
+    Table table = {"a sum of bytes, ns", COLUMNS, COUNT_OF(COLUMNS), ROWS, COUNT_OF(ROWS)};
     if (!has_avx2())
         table.row_count--;
     fill_bytes(bytes, MOST);

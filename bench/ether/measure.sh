@@ -12,32 +12,31 @@ ether_program() { # WORK NAME FILE..
 
 # A row: the instructions of each turn.
 ether_row() { # WORK NAME PROGRAM
-    local work=$1 name=$2 program=$3 said file row="| $2 |"
+    local work=$1 name=$2 program=$3 said file cells=()
     rm -f "$work"/counts.*
     said=$(valgrind --tool=callgrind "--callgrind-out-file=$work/counts" "$work/$program" 2> "$work/valgrind.log")
     [[ " $said" != *" 0 "*" 0"* ]] || { echo "$name doesn't reply to all" >&2; return 1; }
     for file in $(ls "$work"/counts.* | sort -t. -k2n); do
-        row+=" $(awk '/^summary:|^totals:/ {total = $2} END {printf "%d", total / 200}' "$file" |
-            sed ':a;s/\B[0-9]\{3\}\>/,&/;ta') |"
+        cells+=("$(awk '/^summary:|^totals:/ {total = $2} END {printf "%d", total / 200}' "$file")")
     done
-    echo "$row"
+    table_row "$name" "${cells[@]}"
 }
 
 measure_ether() { # WORK
     local work=$1 file files
+    local -A names=([NONE]="lwIP 2.1.3 with etharp and icmp" [COPIES]="the same with two more copies, as sockets do")
     command -v valgrind > /dev/null || { echo "skipped: no valgrind"; return 0; }
     "$bench/../capi/build" "$work/lib"
-    echo "| x86-64, \`-O3\` | 2 bytes | 1,472 | 4,000 | ARP request | ping of 56 |"
-    echo "|---|---:|---:|---:|---:|---:|"
+    table_head "x86-64, \`-O3\`" "2 bytes" 1,472 4,000 "ARP request" "ping of 56"
     ether_program "$work" bare "$bench/board/bench.c" "$work/lib/libbsdudp.a"
     ether_row "$work" "the bare stack" bare
     ether_program "$work" host -DETHER "$bench/board/bench.c" "$work/lib/libbsdudp.a"
     ether_row "$work" "the host" host
     lwip_sources "$work" || { echo "lwIP's sources aren't available by apt-get: its rows are skipped"; return 0; }
     files=("${lwip_host[@]/#/$LWIP/src/core/}")
-    for file in "" -DCOPIES; do
-        ether_program "$work" lwip -DETHER $file "${lwip_board[@]}" -I "$LWIP/src/include" "$bench/board/lwip.c" \
+    for file in NONE COPIES; do
+        ether_program "$work" lwip -DETHER -D$file "${lwip_board[@]}" -I "$LWIP/src/include" "$bench/board/lwip.c" \
             "${files[@]/%/.c}"
-        ether_row "$work" "lwIP 2.1.3${file:+, with two more copies}" lwip
+        ether_row "$work" "${names[$file]}" lwip
     done
 }

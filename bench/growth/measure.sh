@@ -1,25 +1,14 @@
 # How a cost in instructions grows with a number of things. PROGRAM names another build of bsdudp.
 
-# A line of the table: `flat` if the last cost is at most 1.2 times the first, otherwise the cost of each additional
-# one.
+# A row of the table: `flat` if the last cost is at most 1.2 times the first, otherwise the cost of each additional one.
 print_line() { # COUNTED SIZES COSTS
     local costs
     read -r -a costs <<< "$3"
-    printf '  %-62s' "$1"
-    printf ' %9s' "${costs[@]}"
-    awk -v sizes="$2" -v costs="$3" 'BEGIN {
+    table_row "$1" "${costs[@]}" "$(awk -v sizes="$2" -v costs="$3" 'BEGIN {
         n = split(sizes, size); split(costs, cost)
-        if (cost[n] <= 1.2 * cost[1]) print "   flat"
-        else printf "   +%.1f for each more\n", (cost[n] - cost[1]) / (size[n] - size[1])
-    }'
-}
-
-print_head() { # GROWS SIZES
-    local sizes
-    read -r -a sizes <<< "$2"
-    printf '%-64s' "$1"
-    printf ' %9s' "${sizes[@]}"
-    echo
+        if (cost[n] <= 1.2 * cost[1]) print "flat"
+        else printf "%.1f for each more", (cost[n] - cost[1]) / (size[n] - size[1])
+    }')"
 }
 
 # The instructions of a turn of bench, from the difference of TURNS turns and one.
@@ -60,34 +49,35 @@ cost_of_pair() { # WORK FIRST SECOND
 }
 
 print_script_lines() { # WORK
-    local program="${PROGRAM:-$crates/bsdudp/out/bsdudp}" sizes="2 64 256 1472 9000" size sends=() arrives=() read=()
+    local program="${PROGRAM:-$crates/bsdudp/out/bsdudp}" size sizes=(2 64 256 1472 9000) sends=() arrives=() read=()
     if [ ! -x "$program" ]; then
-        echo "bytes of a line: left out, since $program isn't built (rt run in crates/bsdudp)"
+        echo "bytes of data: left out, since $program isn't built (rt run in crates/bsdudp)"
         return
     fi
-    print_head "bytes of a line" "$sizes"
-    for size in $sizes; do
+    table_head "Bytes of data, as digits in script lines" "${sizes[@]}" ''
+    for size in "${sizes[@]}"; do
         arrives+=("$(cost_of_pair "$1" "rx $(packet_digits "$size")" 'recvfrom 3 1')")
         read+=("$(cost_of_pair "$1" "rx $(packet_digits "$size")" 'recvfrom 3 9216')")
         sends+=("$(cost_of_pair "$1" "sendto 3 127.0.0.1 7 $(digits "$size")" 'recvfrom 3 9216')")
     done
-    print_line "rx, and a recvfrom of one byte" "$sizes" "${arrives[*]}"
-    print_line "rx, and its recvfrom" "$sizes" "${read[*]}"
-    print_line "sendto by loopback, and its recvfrom" "$sizes" "${sends[*]}"
+    print_line "rx, and a recvfrom of one byte" "${sizes[*]}" "${arrives[*]}"
+    print_line "rx, and its recvfrom" "${sizes[*]}" "${read[*]}"
+    print_line "sendto by loopback, and its recvfrom" "${sizes[*]}" "${sends[*]}"
 }
 
 measure_growth() { # WORK
-    local line=0 last= grows what sizes size turns costs
+    local line=0 last= grows what all sizes size turns costs
     if ! command -v valgrind > /dev/null; then
         echo "skipped: it counts instructions by valgrind"
         return
     fi
     build_bench "$1" growth "bench_stack bench_packets"
-    while IFS=$'\t' read -r grows what turns sizes; do
-        [ "$grows" = "$last" ] || print_head "$grows" "$sizes"
+    while IFS=$'\t' read -r grows what turns all; do
+        read -r -a sizes <<< "$all"
+        [ "$grows" = "$last" ] || table_head "$grows" "${sizes[@]}" ''
         last="$grows" costs=()
-        for size in $sizes; do costs+=("$(cost_of "$1" "$line" "$size" "$turns")"); done
-        print_line "$what" "$sizes" "${costs[*]}"
+        for size in "${sizes[@]}"; do costs+=("$(cost_of "$1" "$line" "$size" "$turns")"); done
+        print_line "$what" "$all" "${costs[*]}"
         line=$((line + 1))
     done < <("$1/bench" lines)
     print_script_lines "$1"

@@ -130,7 +130,7 @@ Compare(const char* name, uint64_t wanted, int rounds, const std::function<uint6
             }
         }
     }
-    std::printf("%-94s %10.0f %12.0f %8.2f\n", name, least[1], least[0], least[1] / least[0]);
+    std::printf("| %s | %.0f | %.0f | %.2f |\n", name, least[1], least[0], least[1] / least[0]);
     std::fflush(stdout);
 }
 
@@ -203,7 +203,7 @@ main()
     Config::SetDefault("ns3::BsdudpStack::Mbufs", UintegerValue(512));
     Config::SetDefault("ns3::BsdudpStack::Clusters", UintegerValue(64));
 
-    std::printf("%-94s %10s %12s %8s\n", "memory of a node, in KB, beside its device", "100 nodes", "1,000 nodes", "");
+    std::printf("\n| memory of a node, in KB, beside its device | 100 nodes | 1,000 nodes |\n|---|---:|---:|\n");
     const struct
     {
         const char* name;
@@ -219,11 +219,11 @@ main()
         {
             each[i] = (Resident(counts[i], row.kind) - Resident(counts[i], DEVICES)) / counts[i] / 1e3;
         }
-        std::printf("%-94s %10.1f %12.1f\n", row.name, each[0], each[1]);
+        std::printf("| %s | %.1f | %.1f |\n", row.name, each[0], each[1]);
         std::fflush(stdout);
     }
 
-    std::printf("%-94s %10s %12s %8s\n", "milliseconds of user time, the least", "bsdudp", "ns-3's own", "ratio");
+    std::printf("\n| milliseconds of user time, the least | bsdudp | ns-3's own | ratio |\n|---|---:|---:|---:|\n");
     const auto echoes = [rounds](const char* name, uint32_t size) {
         Compare(name, 20000, rounds, [size](bool ours) { return Echoes(ours, 1, 20000, size); });
     };

@@ -162,7 +162,7 @@ static const Row ROWS[] = {
 #endif
 };
 
-static const Table TABLE = {"a packet or a send", COLUMNS, COUNT_OF(COLUMNS), ROWS, COUNT_OF(ROWS)};
+static const Table TABLE = {"a packet or a send, ns", COLUMNS, COUNT_OF(COLUMNS), ROWS, COUNT_OF(ROWS)};
 
 int main(int argc, char **argv)
 {

@@ -57,7 +57,7 @@ static const Row ROWS[] = {
     {"the same, pools for its heap", lwip_O3_pools},
 };
 
-static const Table TABLE = {"a datagram", COLUMNS, COUNT_OF(COLUMNS), ROWS, COUNT_OF(ROWS)};
+static const Table TABLE = {"a datagram, ns", COLUMNS, COUNT_OF(COLUMNS), ROWS, COUNT_OF(ROWS)};
 
 /* The port's sum for lwIP (sum.c), which lwIP doesn't check. */
 unsigned short peers_sum(const void *bytes, int len);

@@ -22,7 +22,7 @@ lines_a_second() { # WORK NAME TIMES FIRST
         rate=$((2 * $3 * 1000000000 / ($(date +%s%N) - begin)))
         ((rate < best)) || best=$rate
     done
-    printf '%-40s %12d\n' "$2" "$best"
+    table_row "$2" "$(printf '%.0f' "$(printf '%.1e' "$best")")" # two digits that aren't 0
 }
 
 # The most resident memory of bsdudp in a script with this number of lines, in KB.
@@ -49,23 +49,23 @@ measure_scripts() { # WORK
     local program="${PROGRAM:-$crates/bsdudp/out/bsdudp}" bsdplay="${BSDPLAY:-$crates/bsdplay/out/bsdplay}" lines option
     local rx="rx 4500001e00010000401166cc0a0000020a00000113880007000a6fdf6869"
     if [ -x "$program" ]; then
-        printf '%-40s %12s\n' "lines a second" "lines"
+        table_head "lines a second" lines
         lines_a_second "$1" "rx and recvfrom, 2 bytes" 500000 "$rx"
         lines_a_second "$1" "sendto by loopback and recvfrom, 2 bytes" 500000 "$(looped 2)"
         lines_a_second "$1" "sendto by loopback and recvfrom, 1,472 bytes" 50000 "$(looped 1472)"
         lines_a_second "$1" "sendto by loopback and recvfrom, 9,000 bytes" 10000 "$(looped 9000)"
-        printf '%-40s %12s\n' "resident memory" "KB"
-        for lines in 10000 1000000 10000000; do
-            printf '%-40s %12d\n' "$lines lines" "$(resident "$1" "$lines")"
+        table_head "resident memory" KB
+        for lines in 10,000 1,000,000 10,000,000; do
+            table_row "$lines" "$(resident "$1" "${lines//,/}")"
         done
     else
         echo "left out, since $program isn't built (rt run in crates/bsdudp)"
     fi
     if [ -x "$bsdplay" ] && command -v valgrind > /dev/null; then
         lines=$(($(tail -n +3 "$bench/scripts/mixed.txt" | wc -l) * 60))
-        printf '%-40s %12s\n' "instructions" "a line"
+        table_head instructions "a line"
         for option in "" --quiet; do
-            printf '%-40s %12d\n' "bsdplay${option:+ $option}" \
+            table_row "bsdplay${option:+ $option}" \
                 $((($(of_mixed "$1" 80 $option) - $(of_mixed "$1" 20 $option)) / lines))
         done
     else

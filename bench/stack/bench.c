@@ -31,7 +31,7 @@ static const Row ROWS[] = {
     {"by loopback", to_itself},
 };
 
-static const Table TABLE = {"a datagram", COLUMNS, COUNT_OF(COLUMNS), ROWS, COUNT_OF(ROWS)};
+static const Table TABLE = {"a datagram, ns", COLUMNS, COUNT_OF(COLUMNS), ROWS, COUNT_OF(ROWS)};
 
 int main(int argc, char **argv)
 {

@@ -27,7 +27,6 @@ enum { HOSTS = 8, SIZES = 3, MOST = 9000, UNDER_WAY = 16, PORT = 7, IP_DISCOVER 
 enum { RATE, HOST, BOTH, KINDS };
 
 static const int LENS[SIZES] = {2, 1472, MOST};
-static const char *const COLUMNS[SIZES] = {"2 bytes", "1,472", "9,000"};
 static const int TURNS[SIZES] = {2000, 2000, 500};
 
 typedef struct {
@@ -193,27 +192,17 @@ static double median(double *values, int count)
     return values[count / 2];
 }
 
-static void print_head(const char *what)
-{
-    printf("%-44s", what);
-    for (int size = 0; size < SIZES; size++)
-        printf(" %9s", COLUMNS[size]);
-    printf("\n");
-}
-
 /* A table, and its ratios to the first host. */
 static void print(const char *what, int kind, int rounds)
 {
     for (int ratios = 0; ratios < 2; ratios++) {
-        print_head(ratios ? "the same, to the first" : what);
+        printf("\n| %s%s | 2 bytes | 1,472 | 9,000 |\n|---|---:|---:|---:|\n", what, ratios ? ", ratios" : "");
         for (int k = 0; k < host_count; k++) {
-            printf("%-44s", hosts[k].name);
+            printf("| %s |", hosts[k].name);
             for (int size = 0; size < SIZES; size++) {
                 double value = median(hosts[k].measured[kind][size], rounds);
-                if (ratios)
-                    printf(" %9.2f", value / median(hosts[0].measured[kind][size], rounds));
-                else
-                    printf(" %9.0f", value);
+                double first = ratios ? median(hosts[0].measured[kind][size], rounds) : 1;
+                printf(" %.*f |", ratios ? 2 : 0, value / first);
             }
             printf("\n");
         }

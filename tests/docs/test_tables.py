@@ -18,12 +18,8 @@ OTHERS = {
     "The checksum": ["| Body | What it is |"],
     "": ["| Question |"],
 }
-# A script puts the names of these rows together.
-PARTS = {
-    "board": r"portable/core |frames: |, with two more copies|, by its sockets",
-    "ether": r", with two more copies",
-    "scripts": r"\d+ lines$",
-}
+# A script puts the names of these heads and rows together.
+PARTS = {"board": r"portable/core |, with two more copies|, by its sockets", "tun": ", ratios"}
 
 
 def tables() -> ModuleType:
@@ -118,69 +114,78 @@ def test_each_row_is_of_a_benchmark():
         start, end = module.place_of(page, it)
         for line in page[start:end].split("\n")[3:]:
             module.new_line(line, it, rows)
-        files = [*sorted((TOP / "bench" / it.subject).iterdir()), TOP / "bench/timer.h", TOP / "portable/core"]
+        shared = [TOP / it for it in ("bench/lib.sh", "bench/timer.h", "portable/core")]
+        files = [*sorted((TOP / "bench" / it.subject).iterdir()), *shared]
         text = module.plain("".join(path.read_text("utf-8") for path in files if path.is_file()).replace("\\`", ""))
-        heads = r"^(?:(?:times to|milliseconds|memory|lines a|resident|echoes a|processor time|of the host)[^:]*: )?"
         parts = re.compile(PARTS.get(it.subject, "$"))
         for name in sorted(rows.names):
-            head, row = re.fullmatch(f"({heads})(.*)", name).groups()
-            for part in [head.removesuffix(": ").removesuffix(", ratios"), *parts.split(row)]:
+            for part in (part for piece in name.split(": ", 1) for part in parts.split(piece)):
                 if part not in text:
                     faults.append(Fault("bench/tables", f"bench/{it.subject} has no row {name}"))
     none_of(faults)
 
 
-RUN = "\n".join([
-    "== packets",
-    f"{'instructions':40} {'2 bytes':>12}",
-    f"{'rx, recvfrom':40} {1038:>12}",
-    f"{'rx: no such port':40} {226:>12}",
-    "times: the best of 3000 rounds",
-    f"{'a packet':40} {'2 bytes':>12}",
-    f"{'rx, recvfrom':40} {1007.5:>9.1f} ns",
-    f"{'times to those of the first row':40} {'2 bytes':>12}",
-    f"{'rx, recvfrom':40} {1:>12.2f}",
-    "== growth",
-    f"{'open sockets':32} {1:>9} {64:>9}",
-    f"  {'a datagram to the oldest':30} {915:>9} {1981:>9}   +16.9 for each more",
-    f"  {'a datagram to the newest':30} {915:>9} {981:>9}   flat",
-    "== board",
-    "| Cortex-M3 | library |",
-    "|---|---:|",
-    "| lwIP 2.1.3, `-Os` | - | 7,656 |",
-    "",
-    "| Cortex-M3, frames | library |",
-    "|---|---:|",
-    "| lwIP 2.1.3, `-Os` | - | 10,984 |",
-    "",
-    "| Processor | -Os |",
-    "|---|---:|",
-    "| `i686` | 62,540 |",
-    "== tun",
-    "times: medians of 150 rounds",
-    f"{'echoes a second':44} {'2 bytes':>9}",
-    f"{'Linux':44} {200000:>9}",
-    f"{'the same, to the first':44} {'2 bytes':>9}",
-    f"{'Linux':44} {0.75:>9.2f}",
-    "",
-])  # fmt: skip
+RUN = """== packets
+
+| instructions | 2 bytes |
+|---|---:|
+| rx, recvfrom | 1038 |
+| dropped: no such port | 226 |
+times: the best of 3000 rounds
+
+| a packet, ns | 2 bytes |
+|---|---:|
+| rx, recvfrom | 1007.5 |
+
+| times to those of the first row | 2 bytes |
+|---|---:|
+| rx, recvfrom | 1.00 |
+== growth
+
+| Open sockets | 1 | 64 | |
+|---|---:|---:|---|
+| a datagram to the oldest | 915 | 1981 | 16.9 for each more |
+| a datagram to the newest | 915 | 981 | flat |
+== board
+
+| Cortex-M3 | library |
+|---|---:|
+| lwIP 2.1.3, `-Os` | - | 7656 |
+
+| Cortex-M3, frames | library |
+|---|---:|
+| lwIP 2.1.3, `-Os` | - | 10984 |
+== tun
+times: medians of 150 rounds
+
+| echoes a second | 2 bytes |
+|---|---:|
+| Linux | 200000 |
+
+| echoes a second, ratios | 2 bytes |
+|---|---:|
+| Linux | 0.75 |
+"""
 
 
 def test_a_run_is_read():
-    """The forms in which bench/run.sh prints tables."""
+    """The form in which bench/run.sh prints tables."""
     found = tables().counted(RUN)
     assert found["packets"] == {
-        "rx, recvfrom": ["1,038"],
-        "rx: no such port": ["226"],
+        "instructions: rx, recvfrom": ["1,038"],
+        "instructions: dropped: no such port": ["226"],
         "rounds": ["3000"],
-        "a packet: rx, recvfrom": ["1,008"],
+        "a packet, ns: rx, recvfrom": ["1007.5"],
         "times to those of the first row: rx, recvfrom": ["1.00"],
     }
-    grows = ["a datagram to the oldest", "a datagram to the newest"]
-    assert [found["growth"][it] for it in grows] == [["915", "1,981", "16.9 for each more"], ["915", "981", "flat"]]
-    assert found["board"]["lwIP 2.1.3, -Os"] == ["-", "7,656"]
-    assert found["board"]["frames: lwIP 2.1.3, -Os"] == ["-", "10,984"]
-    assert found["board"]["i686"] == ["62,540"]
+    assert found["growth"] == {
+        "Open sockets: a datagram to the oldest": ["915", "1,981", "16.9 for each more"],
+        "Open sockets: a datagram to the newest": ["915", "981", "flat"],
+    }
+    assert found["board"] == {
+        "Cortex-M3: lwIP 2.1.3, -Os": ["-", "7,656"],
+        "Cortex-M3, frames: lwIP 2.1.3, -Os": ["-", "10,984"],
+    }
     assert found["tun"] == {
         "rounds": ["150"],
         "echoes a second: Linux": ["200,000"],
@@ -193,8 +198,9 @@ def test_times_have_their_version():
     module = tables()
     pages = {it: read(it) for it in module.PAGES}
     pages[PAGE] = re.sub(r"bsdudp(\s)\d+\.\d+\.\d+", r"bsdudp\g<1>0.0.1", pages[PAGE])
-    counts = {module.plain(it): ["1"] * 4 for it in module.costs(read(PAGE), module.TABLES["peers"])}
-    times = {f"times to those of the first row: {it}": ["1.00"] * 4 for it in counts}
+    names = [*map(module.plain, module.costs(read(PAGE), module.TABLES["peers"]))]
+    counts = {f"instructions: {it}": ["1"] * 4 for it in names}
+    times = {f"times to those of the first row: {it}": ["1.00"] * 4 for it in names}
     before, without, after = (
         module.with_run(pages, {"peers": rows})[PAGE].count("bsdudp 0.0.1") for rows in ({}, counts, counts | times)
     )
@@ -203,4 +209,4 @@ def test_times_have_their_version():
 
 def test_times_of_few_rounds_are_not_written():
     found = tables().counted(RUN.replace("3000 rounds", "599 rounds"))
-    assert list(found["packets"]) == ["rx, recvfrom", "rx: no such port"]
+    assert list(found["packets"]) == ["instructions: rx, recvfrom", "instructions: dropped: no such port"]
