@@ -24,8 +24,10 @@ enum { TIMER_MOST_COLUMNS = 8, TIMER_MOST_ROWS = 24 };
 
 typedef struct {
     const char *name;
-    /* Works this many turns in this column. Returns false if something went wrong. Each call repeats one-time work. */
-    bool (*run)(int column, uint64_t turns);
+    /* Works this many turns of `what` in this column. Returns false if something went wrong. Each call repeats one-time
+       work. */
+    bool (*run)(const void *what, int column, uint64_t turns);
+    const void *what;
 } Row;
 
 typedef struct {
@@ -52,7 +54,7 @@ static inline double now_in_ns(void)
 static inline double time_taken(const Row *row, int column, uint64_t turns)
 {
     double start = now_in_ns();
-    if (!row->run(column, turns)) {
+    if (!row->run(row->what, column, turns)) {
         fprintf(stderr, "%s: went wrong\n", row->name);
         exit(1);
     }
@@ -137,7 +139,7 @@ static inline int work_turns(const Table *table, const char *row, const char *co
     for (int r = 0; r < table->row_count; r++)
         for (int c = 0; c < table->column_count; c++)
             if (!strcmp(row, table->rows[r].name) && !strcmp(column, table->columns[c]))
-                return table->rows[r].run(c, turns) ? 0 : 1;
+                return table->rows[r].run(table->rows[r].what, c, turns) ? 0 : 1;
     return 2;
 }
 

@@ -25,140 +25,90 @@ static const char *const COLUMNS[] = {"2 bytes", "72", "150", "207", "208", "1,4
 static uint8_t bytes[MOST];
 static uint8_t packet[PACKET_HEADER + DATAGRAM_HEADER + MOST];
 
-static size_t packet_of(int column, uint8_t host, uint16_t port)
+/* A kind of exchange between two stacks. */
+typedef struct {
+    uint16_t mtu;
+    bool is_connected;
+} Link;
+
+static bool exchanged(const void *what, int column, uint64_t turns)
 {
-    return put_datagram(packet, (Ends){SENDER, host, PORT, port}, bytes, LENS[column]);
+    const Link *link = what;
+    return bsdudp_exchange(bytes, LENS[column], link->mtu, link->is_connected, (uint32_t)turns) == turns;
 }
 
-static bool exchanged(int column, uint64_t turns)
+static bool looped(const void *what, int column, uint64_t turns)
 {
-    return bsdudp_exchange(bytes, LENS[column], MTU, false, (uint32_t)turns) == turns;
-}
-
-static bool exchanged_on_a_larger_link(int column, uint64_t turns)
-{
-    return bsdudp_exchange(bytes, LENS[column], LARGE_MTU, false, (uint32_t)turns) == turns;
-}
-
-static bool exchanged_by_a_connected_socket(int column, uint64_t turns)
-{
-    return bsdudp_exchange(bytes, LENS[column], MTU, true, (uint32_t)turns) == turns;
-}
-
-static bool looped(int column, uint64_t turns)
-{
+    (void)what;
     return bsdudp_loop_back(bytes, LENS[column], (uint32_t)turns) == turns;
 }
 
-static bool refused(int column, uint64_t turns)
+static bool refused(const void *what, int column, uint64_t turns)
 {
+    (void)what;
     return bsdudp_send_refused(bytes, LENS[column], false, (uint32_t)turns) == turns;
 }
 
-/* The packet is read by all of this many sockets. */
-static bool is_read(size_t len, uint8_t sockets, uint64_t turns)
+/* A packet: its receiver, how many sockets read it, how many arrive first and aren't read, and which byte is wrong. */
+typedef struct {
+    uint8_t host;
+    uint16_t port;
+    uint8_t readers;
+    uint32_t before;
+    enum { NO_BYTE, OF_HEADER, LAST_BYTE } wrong;
+} Packet;
+
+static size_t packet_of(const Packet *it, int column)
 {
-    return bsdudp_receive(packet, len, sockets, 0, true, (uint32_t)turns) == sockets * turns;
+    size_t len = put_datagram(packet, (Ends){SENDER, it->host, PORT, it->port}, bytes, LENS[column]);
+    if (it->wrong != NO_BYTE)
+        packet[it->wrong == OF_HEADER ? 8 : len - 1] ^= 0xff;
+    return len;
 }
 
-static bool is_dropped(size_t len, uint32_t before, uint64_t turns)
+static bool arrived(const void *what, int column, uint64_t turns)
 {
-    return bsdudp_receive(packet, len, 1, before, false, (uint32_t)turns) == turns;
-}
-
-static bool received(int column, uint64_t turns)
-{
-    return is_read(packet_of(column, RECEIVER, PORT), 1, turns);
-}
-
-static bool no_port(int column, uint64_t turns)
-{
-    return is_dropped(packet_of(column, RECEIVER, OTHER_PORT), 0, turns);
-}
-
-static bool full_queue(int column, uint64_t turns)
-{
-    return is_dropped(packet_of(column, RECEIVER, PORT), FILLS, turns);
-}
-
-static bool wrong_checksum(int column, uint64_t turns)
-{
-    size_t len = packet_of(column, RECEIVER, PORT);
-    packet[len - 1] ^= 0xff;
-    return is_dropped(len, 0, turns);
-}
-
-static bool wrong_header_checksum(int column, uint64_t turns)
-{
-    size_t len = packet_of(column, RECEIVER, PORT);
-    packet[8] ^= 0xff;
-    return is_dropped(len, 0, turns);
-}
-
-static bool for_another_host(int column, uint64_t turns)
-{
-    return is_dropped(packet_of(column, RECEIVER + 1, PORT), 0, turns);
-}
-
-static bool broadcast_to_none(int column, uint64_t turns)
-{
-    return is_dropped(packet_of(column, BROADCAST, OTHER_PORT), 0, turns);
-}
-
-static bool broadcast_to_one(int column, uint64_t turns)
-{
-    return is_read(packet_of(column, BROADCAST, PORT), 1, turns);
-}
-
-static bool broadcast_to_three(int column, uint64_t turns)
-{
-    return is_read(packet_of(column, BROADCAST, PORT), 3, turns);
+    const Packet *it = what;
+    bool is_read = it->readers > 0;
+    uint8_t sockets = is_read ? it->readers : 1;
+    return bsdudp_receive(packet, packet_of(it, column), sockets, it->before, is_read, (uint32_t)turns) == sockets * turns;
 }
 
 #ifdef PACKETS_LWIP
-static bool lwip_received(int column, uint64_t turns)
+static bool arrived_at_lwip(const void *what, int column, uint64_t turns)
 {
-    return lwip_receive(packet, packet_of(column, RECEIVER, PORT), 0, true, (uint32_t)turns) == turns;
-}
-
-static bool lwip_no_port(int column, uint64_t turns)
-{
-    return lwip_receive(packet, packet_of(column, RECEIVER, OTHER_PORT), 0, false, (uint32_t)turns) == turns;
-}
-
-static bool lwip_full_queue(int column, uint64_t turns)
-{
-    return lwip_receive(packet, packet_of(column, RECEIVER, PORT), FILLS, false, (uint32_t)turns) == turns;
-}
-
-static bool lwip_wrong_checksum(int column, uint64_t turns)
-{
-    size_t len = packet_of(column, RECEIVER, PORT);
-    packet[len - 1] ^= 0xff;
-    return lwip_receive(packet, len, 0, false, (uint32_t)turns) == turns;
+    const Packet *it = what;
+    return lwip_receive(packet, packet_of(it, column), it->before, it->readers > 0, (uint32_t)turns) == turns;
 }
 #endif
 
+static const Link SMALL = {MTU, false}, LARGE = {LARGE_MTU, false}, CONNECTED = {MTU, true};
+static const Packet READ = {RECEIVER, PORT, 1, 0, NO_BYTE}, NO_PORT = {RECEIVER, OTHER_PORT, 0, 0, NO_BYTE},
+                    FULL_QUEUE = {RECEIVER, PORT, 0, FILLS, NO_BYTE}, WRONG_SUM = {RECEIVER, PORT, 0, 0, LAST_BYTE},
+                    WRONG_HEADER = {RECEIVER, PORT, 0, 0, OF_HEADER}, NOT_OURS = {RECEIVER + 1, PORT, 0, 0, NO_BYTE},
+                    TO_NONE = {BROADCAST, OTHER_PORT, 0, 0, NO_BYTE}, TO_ONE = {BROADCAST, PORT, 1, 0, NO_BYTE},
+                    TO_THREE = {BROADCAST, PORT, 3, 0, NO_BYTE};
+
 static const Row ROWS[] = {
-    {"from one stack to another", exchanged},
-    {"the same with an MTU of 4,352", exchanged_on_a_larger_link},
-    {"by a connected socket", exchanged_by_a_connected_socket},
-    {"by loopback", looped},
-    {"delivered, with its recvfrom", received},
-    {"dropped: no socket has the port", no_port},
-    {"dropped: the receive queue is full", full_queue},
-    {"dropped: wrong UDP checksum", wrong_checksum},
-    {"dropped: wrong header checksum", wrong_header_checksum},
-    {"dropped: another destination", for_another_host},
-    {"broadcast that no socket receives", broadcast_to_none},
-    {"broadcast, read by one socket", broadcast_to_one},
-    {"broadcast, read by three sockets", broadcast_to_three},
-    {"sendto, output queue full", refused},
+    {"from one stack to another", exchanged, &SMALL},
+    {"the same with an MTU of 4,352", exchanged, &LARGE},
+    {"by a connected socket", exchanged, &CONNECTED},
+    {"by loopback", looped, NULL},
+    {"delivered, with its recvfrom", arrived, &READ},
+    {"dropped: no socket has the port", arrived, &NO_PORT},
+    {"dropped: the receive queue is full", arrived, &FULL_QUEUE},
+    {"dropped: wrong UDP checksum", arrived, &WRONG_SUM},
+    {"dropped: wrong header checksum", arrived, &WRONG_HEADER},
+    {"dropped: another destination", arrived, &NOT_OURS},
+    {"broadcast that no socket receives", arrived, &TO_NONE},
+    {"broadcast, read by one socket", arrived, &TO_ONE},
+    {"broadcast, read by three sockets", arrived, &TO_THREE},
+    {"sendto, output queue full", refused, NULL},
 #ifdef PACKETS_LWIP
-    {"lwIP: delivered and read", lwip_received},
-    {"lwIP: no such port", lwip_no_port},
-    {"lwIP: full receive queue", lwip_full_queue},
-    {"lwIP: wrong UDP checksum", lwip_wrong_checksum},
+    {"lwIP: delivered and read", arrived_at_lwip, &READ},
+    {"lwIP: no such port", arrived_at_lwip, &NO_PORT},
+    {"lwIP: full receive queue", arrived_at_lwip, &FULL_QUEUE},
+    {"lwIP: wrong UDP checksum", arrived_at_lwip, &WRONG_SUM},
 #endif
 };
 

@@ -23,8 +23,9 @@ static const size_t LENS[] = {2, 1472, MOST};
 
 static uint8_t bytes[MOST], packets[PACKETS * PACKETS_APART];
 
-static bool ours(int column, uint64_t turns)
+static bool ours(const void *what, int column, uint64_t turns)
 {
+    (void)what;
     if (column < COUNT_OF(LENS))
         return bsdudp_send_and_receive(bytes, LENS[column], MBUFS, 1, 0, (uint32_t)turns) == turns;
     return bsdudp_reassemble(packets, sizeof packets, MBUFS, (uint32_t)turns) == turns;
@@ -34,8 +35,9 @@ static bool ours(int column, uint64_t turns)
 #define LWIP(name)                                                                             \
     uint32_t name##_send_and_receive(const uint8_t *bytes, size_t len, uint32_t times);        \
     uint32_t name##_reassemble(const uint8_t *packets, size_t len, uint32_t times);            \
-    static bool name(int column, uint64_t turns)                                               \
+    static bool name(const void *what, int column, uint64_t turns)                             \
     {                                                                                          \
+        (void)what;                                                                            \
         if (column < COUNT_OF(LENS))                                                           \
             return name##_send_and_receive(bytes, LENS[column], (uint32_t)turns) == turns;     \
         return name##_reassemble(packets, sizeof packets, (uint32_t)turns) == turns;           \
@@ -49,12 +51,12 @@ LWIP(lwip_O3_pools)
 
 /* measure.sh has the flags of each. */
 static const Row ROWS[] = {
-    {"ours", ours},
-    {"lwIP -O2", lwip_O2},
-    {"lwIP -O2, its third sum", lwip_O2_sum3},
-    {"lwIP -O3 -flto, no asserts", lwip_O3},
-    {"the same, a sum by SSE2", lwip_O3_sse2},
-    {"the same, pools for its heap", lwip_O3_pools},
+    {"ours", ours, NULL},
+    {"lwIP -O2", lwip_O2, NULL},
+    {"lwIP -O2, its third sum", lwip_O2_sum3, NULL},
+    {"lwIP -O3 -flto, no asserts", lwip_O3, NULL},
+    {"the same, a sum by SSE2", lwip_O3_sse2, NULL},
+    {"the same, pools for its heap", lwip_O3_pools, NULL},
 };
 
 static const Table TABLE = {"a datagram, ns", COLUMNS, COUNT_OF(COLUMNS), ROWS, COUNT_OF(ROWS)};

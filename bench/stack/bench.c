@@ -16,19 +16,21 @@ static const char *const COLUMNS[] = {"2 bytes", "1,472", "9,000"};
 
 static uint8_t bytes[MOST];
 
-static bool to_another(int column, uint64_t turns)
+static bool to_another(const void *what, int column, uint64_t turns)
 {
+    (void)what;
     return bsdudp_send_and_receive(bytes, LENS[column], MBUFS, 1, 0, (uint32_t)turns) == turns;
 }
 
-static bool to_itself(int column, uint64_t turns)
+static bool to_itself(const void *what, int column, uint64_t turns)
 {
+    (void)what;
     return bsdudp_send_to_itself(bytes, LENS[column], (uint32_t)turns) == turns;
 }
 
 static const Row ROWS[] = {
-    {"from one stack to another", to_another},
-    {"by loopback", to_itself},
+    {"from one stack to another", to_another, NULL},
+    {"by loopback", to_itself, NULL},
 };
 
 static const Table TABLE = {"a datagram, ns", COLUMNS, COUNT_OF(COLUMNS), ROWS, COUNT_OF(ROWS)};
