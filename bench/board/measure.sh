@@ -34,15 +34,18 @@ bytes_of() { # FILE
     arm-none-eabi-size -t "$1" | awk 'END {print $1, $2, $3}'
 }
 
-# The size of a library with every call (or -), the size of its echo without that of an empty program, and its costs.
+# The same of a program without those of an empty one.
+bytes_of_echo() { # WORK PROGRAM
+    paste -d ' ' <(bytes_of "$2") <(bytes_of "$1/nothing.elf") | awk '{print $1 - $4, $2 - $5, $3 - $6}'
+}
+
+# The size of a library with every call (or -), the sizes of its echo, and its costs.
 board_row() { # WORK NAME LIBRARY PROGRAM
-    local work=$1 name=$2 library=$3 program=$4 text data bss text0 data0 bss0 said
-    read -r text data bss < <(bytes_of "$program")
-    read -r text0 data0 bss0 < <(bytes_of "$work/nothing.elf")
-    read -ra said < <(on_board "$program")
+    local said bytes
+    read -ra bytes < <(bytes_of_echo "$1" "$4")
+    read -ra said < <(on_board "$4")
     [ ${#said[@]} -gt 0 ] || said=(0)
-    table_row "$name" "$library" $((text - text0)) $((data - data0)) $((bss - bss0)) "${said[-1]}" \
-        "${said[@]::${#said[@]}-1}"
+    table_row "$2" "$3" "${bytes[@]}" "${said[-1]}" "${said[@]::${#said[@]}-1}"
 }
 
 # Our echo with a library or an object.
@@ -77,13 +80,12 @@ board_lwip() { # WORK FLAG..
 # The size of lwIP's echo by its own sockets. They need an operating system, whose functions are missing, so it's only
 # linked.
 board_lwip_sockets() { # WORK
-    local work=$1 objects how=("${lwip_board[@]}" "-I$LWIP/src/include" -DSOCKETS) text data bss text0 data0 bss0
+    local work=$1 objects how=("${lwip_board[@]}" "-I$LWIP/src/include" -DSOCKETS) bytes
     lwip_objects "$work" "${how[*]}" "${lwip_host[@]}" sys ../api/{api_lib,api_msg,err,netbuf,sockets,tcpip}
     board_object "$bench/board/lwip.c" "$work/lwip.o" "${how[@]}"
     board_program "$work" "$work/lwip.elf" "$work/lwip.o" "${objects[@]}" -Wl,--unresolved-symbols=ignore-all
-    read -r text data bss < <(bytes_of "$work/lwip.elf")
-    read -r text0 data0 bss0 < <(bytes_of "$work/nothing.elf")
-    table_row "lwIP 2.1.3, \`-Os\`, by its sockets" - $((text - text0)) $((data - data0)) $((bss - bss0))
+    read -ra bytes < <(bytes_of_echo "$work" "$work/lwip.elf")
+    table_row "lwIP 2.1.3, \`-Os\`, by its sockets" - "${bytes[@]}"
 }
 
 # The library of portable/core for a processor, which is made if it isn't there.
@@ -93,14 +95,19 @@ core_of() { # WORK PROCESSOR LEVEL
     echo "$made"
 }
 
-board_echoes() { # WORK
-    local work=$1 level made
-    table_head Cortex-M3 library 'echo: text' data bss 'call stack' '2 bytes' '1,472' '4,000'
+# Our echo with the library of each level.
+board_levels() { # WORK FLAG..
+    local level made
     for level in --small -Os -O2; do
-        made=$(core_of "$work" cortex-m3 $level)
-        board_ours "$work" "\`portable/core $level\`" "$made" "$made/libbsdudp.a"
+        made=$(core_of "$1" cortex-m3 $level)
+        board_ours "$1" "\`portable/core $level\`" "$made" "$made/libbsdudp.a" "${@:2}"
     done
-    made=${PORTABLE:-$work}
+}
+
+board_echoes() { # WORK
+    local work=$1 made=${PORTABLE:-$1}
+    table_head Cortex-M3 library 'echo: text' data bss 'call stack' '2 bytes' '1,472' '4,000'
+    board_levels "$work"
     if ! [ -e "$made/bsdudp_portable.c" ] && [ -z "${BRIEF:-}" ] && command -v wasm2c > /dev/null; then
         "$bench/../portable/build" "$made"
     fi
@@ -118,14 +125,10 @@ board_echoes() { # WORK
 
 # The same as hosts on an Ethernet: ours, and lwIP with its etharp and icmp. Neighbours are known.
 board_hosts() { # WORK
-    local work=$1 level made
     table_head 'Cortex-M3, frames' library 'echo: text' data bss 'call stack' '2 bytes' '1,472' '4,000' \
         'ARP request' 'ping of 56'
-    for level in --small -Os -O2; do
-        made=$(core_of "$work" cortex-m3 $level)
-        board_ours "$work" "\`portable/core $level\`" "$made" "$made/libbsdudp.a" -DETHER
-    done
-    ! lwip_sources "$work" || board_lwip "$work" -DETHER
+    board_levels "$1" -DETHER
+    ! lwip_sources "$1" || board_lwip "$1" -DETHER
 }
 
 # The bytes of code and constants of the library, with every call in.

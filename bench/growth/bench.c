@@ -2,9 +2,8 @@
  * How a cost grows with a number of things: bench/lib.sh reads the table's lines, and counts the instructions for each
  * size.
  *
- *   bench lines              what grows, what is counted, how many turns to compare with one, and the sizes: on one
- *                            line each, separated by tabs
- *   bench each LINE SIZE     how often a turn does the counted work
+ *   bench lines              what grows, what is counted, how many turns to compare with one, how often a turn does the
+ *                            counted work (0: as often as the size), and the sizes: on one line each, separated by tabs
  *   bench turns LINE SIZE N  works N turns
  */
 #include "packets.h"
@@ -110,20 +109,12 @@ int main(int argc, char **argv)
 {
     if (argc == 2 && !strcmp(argv[1], "lines")) {
         for (int at = 0; at < COUNT_OF(LINES); at++)
-            printf("%s\t%s\t%u\t%s\n", LINES[at].grows, LINES[at].counted, (unsigned)LINES[at].turns, LINES[at].sizes);
+            printf("%s\t%s\t%u\t%u\t%s\n", LINES[at].grows, LINES[at].counted, (unsigned)LINES[at].turns,
+                   (unsigned)LINES[at].each, LINES[at].sizes);
         return 0;
     }
-    if (argc < 4 || atoi(argv[2]) >= COUNT_OF(LINES))
+    if (argc != 5 || strcmp(argv[1], "turns") || atoi(argv[2]) >= COUNT_OF(LINES))
         return 2;
-    const Line *line = &LINES[atoi(argv[2])];
-    uint32_t size = (uint32_t)atoi(argv[3]);
-    if (argc == 4 && !strcmp(argv[1], "each")) {
-        printf("%u\n", (unsigned)(line->each ? line->each : size));
-        return 0;
-    }
-    if (argc == 5 && !strcmp(argv[1], "turns")) {
-        uint32_t turns = (uint32_t)atoi(argv[4]);
-        return line->run(size, turns) == turns ? 0 : 1;
-    }
-    return 2;
+    uint32_t turns = (uint32_t)atoi(argv[4]);
+    return LINES[atoi(argv[2])].run((uint32_t)atoi(argv[3]), turns) == turns ? 0 : 1;
 }

@@ -11,13 +11,12 @@ print_line() { # COUNTED SIZES COSTS
     }')"
 }
 
-# The instructions of a turn of bench, from the difference of TURNS turns and one.
-cost_of() { # WORK LINE SIZE TURNS
-    local once more each
+# The instructions of the counted work, which a turn of bench does EACH times, from the difference of TURNS turns and one.
+cost_of() { # WORK LINE SIZE TURNS EACH
+    local once more
     once="$(counted "$1/bench" turns "$2" "$3" 1)"
     more="$(counted "$1/bench" turns "$2" "$3" "$4")"
-    each="$("$1/bench" each "$2" "$3")"
-    echo $(((more - once) / (($4 - 1) * each)))
+    echo $(((more - once) / (($4 - 1) * ($5 ? $5 : $3))))
 }
 
 # The digits of SIZE bytes, and of a packet to 10.0.0.1 that carries them, without a UDP checksum.
@@ -66,17 +65,17 @@ print_script_lines() { # WORK
 }
 
 measure_growth() { # WORK
-    local line=0 last= grows what all sizes size turns costs
+    local line=0 last= grows what turns each all sizes size costs
     if ! command -v valgrind > /dev/null; then
         echo "skipped: it counts instructions by valgrind"
         return
     fi
     build_bench "$1" growth "bench_stack bench_packets"
-    while IFS=$'\t' read -r grows what turns all; do
+    while IFS=$'\t' read -r grows what turns each all; do
         read -r -a sizes <<< "$all"
         [ "$grows" = "$last" ] || table_head "$grows" "${sizes[@]}" ''
         last="$grows" costs=()
-        for size in "${sizes[@]}"; do costs+=("$(cost_of "$1" "$line" "$size" "$turns")"); done
+        for size in "${sizes[@]}"; do costs+=("$(cost_of "$1" "$line" "$size" "$turns" "$each")"); done
         print_line "$what" "$all" "${costs[*]}"
         line=$((line + 1))
     done < <("$1/bench" lines)
