@@ -94,11 +94,13 @@ typedef struct {
 } Line;
 
 static const Line LINES[] = {
-    {"Open sockets of each stack", "2 bytes from one stack to another, to the oldest socket", "1 8 16 32 64", 65, 1, to_oldest},
+    {"Open sockets of each stack", "2 bytes from one stack to another, to the oldest socket", "1 8 16 32 64", 65, 1,
+     to_oldest},
     {"Open sockets of each stack", "to the newest", "1 8 16 32 64", 65, 1, to_newest},
-    {"Other datagrams that are unfinished", "a fragment of a new one, which has two", "0 10 100 1000 10000", 65, 2, new_key},
-    {"Other datagrams that are unfinished", "a fragment of the oldest, which is completed and begun again", "0 10 100 1000 10000",
-     65, 2, oldest_key},
+    {"Other datagrams that are unfinished", "a fragment of a new one, which has two", "0 10 100 1000 10000", 65, 2,
+     new_key},
+    {"Other datagrams that are unfinished", "a fragment of the oldest, which is completed and begun again",
+     "0 10 100 1000 10000", 65, 2, oldest_key},
     {"Fragments of one datagram, of 8 bytes each", "each, in order", "7 45 250 1000 8000", 2, 0, in_order},
     {"Fragments of one datagram, of 8 bytes each", "each, reversed", "7 45 250 1000 8000", 2, 0, reversed},
     {"Mbufs of the pool", "2 bytes from one stack to another", "64 512 4096 16384 65535", 65, 1, short_one},

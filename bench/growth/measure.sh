@@ -11,7 +11,7 @@ print_line() { # COUNTED SIZES COSTS
     }')"
 }
 
-# The instructions of the counted work, which a turn of bench does EACH times, from the difference of TURNS turns and one.
+# The instructions of the counted work, which a turn of bench does EACH times: the difference of TURNS turns and one.
 cost_of() { # WORK LINE SIZE TURNS EACH
     local once more
     once="$(counted "$1/bench" turns "$2" "$3" 1)"

@@ -71,7 +71,8 @@ static bool arrived(const void *what, int column, uint64_t turns)
     const Packet *it = what;
     bool is_read = it->readers > 0;
     uint8_t sockets = is_read ? it->readers : 1;
-    return bsdudp_receive(packet, packet_of(it, column), sockets, it->before, is_read, (uint32_t)turns) == sockets * turns;
+    size_t len = packet_of(it, column);
+    return bsdudp_receive(packet, len, sockets, it->before, is_read, (uint32_t)turns) == sockets * turns;
 }
 
 #ifdef PACKETS_LWIP

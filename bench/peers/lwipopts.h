@@ -35,8 +35,8 @@
 #endif
 
 /* On a board: also loopback, shared ports and counters, like ours, and memory for 16 packets. Otherwise the capacity of
-   our stacks of 512 mbufs, no timers, because a turn never waits, and no counters, as in Debian's package. A pool buffer
-   holds a packet. */
+   our stacks of 512 mbufs, no timers, because a turn never waits, and no counters, as in Debian's package. A buffer of
+   the pool holds a packet. */
 #ifdef BOARD
 #define LWIP_NOASSERT 1
 #define LWIP_NETIF_LOOPBACK 1

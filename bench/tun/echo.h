@@ -1,5 +1,5 @@
-/* In place of board/echo.h: lwIP's host 10.0.0.1 is on a TUN device, like that of capi/examples/tun_echo.c for our stack.
-   Its packets are copied to and from the device as in lwIP's port for Unix. */
+/* In place of board/echo.h: lwIP's host 10.0.0.1 is on a TUN device, like our stack's of capi/examples/tun_echo.c. Its
+   packets are copied to and from the device as in lwIP's port for Unix. */
 #include "lwip/ip4_frag.h"
 
 #include <fcntl.h>
