@@ -20,12 +20,12 @@ def script() -> str:
     return str(path.relative_to(TOP)) if path.is_relative_to(TOP) else path.name
 
 
-def parser(about: str | None, epilog: str | None = None) -> argparse.ArgumentParser:
+def parser(about: str | None) -> argparse.ArgumentParser:
     """Returns a parser for the running script. `about` is its docstring."""
     end_quietly()
     how = argparse.RawDescriptionHelpFormatter
     return argparse.ArgumentParser(
-        prog=script(), description=about, epilog=epilog, formatter_class=how, allow_abbrev=False
+        prog=script(), description=about, formatter_class=how, allow_abbrev=False
     )
 
 
