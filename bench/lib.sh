@@ -44,6 +44,17 @@ counted() { # PROGRAM ARGUMENT..
         valgrind --tool=callgrind --callgrind-out-file=/dev/null "$@" 2>&1 | sed -n 's/.*Collected : //p'
 }
 
+# A script: two lines, repeated, after a socket and its bind.
+repeated() { # TIMES FIRST SECOND
+    printf 'socket\nbind 3 0.0.0.0 7\n'
+    (set +o pipefail && yes "$2"$'\n'"$3" | head -n $((2 * $1)))
+}
+
+# Bytes as digits.
+digits() { # SIZE
+    printf '%*s' "$1" '' | sed 's/ /61/g'
+}
+
 # The instructions of each row and column that were counted last, as counts["ROW|COLUMN"].
 declare -A counts
 # Set when a row exceeds its limit: run.sh then ends with status 1.

@@ -19,11 +19,7 @@ cost_of() { # WORK LINE SIZE TURNS EACH
     echo $(((more - once) / (($4 - 1) * ($5 ? $5 : $3))))
 }
 
-# The digits of SIZE bytes, and of a packet to 10.0.0.1 that carries them, without a UDP checksum.
-digits() { # SIZE
-    printf '%*s' "$1" '' | sed 's/ /61/g'
-}
-
+# A packet to 10.0.0.1 that carries these bytes, without a UDP checksum.
 packet_digits() { # SIZE
     local sum=$((0x4500 + 28 + $1 + 1 + 0x4011 + 0x0a00 + 2 + 0x0a00 + 1))
     printf '4500%04x000100004011%04x0a0000020a000001' $((28 + $1)) $((65535 - (sum & 65535) - (sum >> 16)))
@@ -31,17 +27,11 @@ packet_digits() { # SIZE
     digits "$1"
 }
 
-# A script that repeats two lines.
-pairs() { # FIRST SECOND TIMES
-    printf 'socket\nbind 3 0.0.0.0 7\n'
-    for ((at = 0; at < $3; at++)); do printf '%s\n%s\n' "$1" "$2"; done
-}
-
 # The instructions of two lines, from the difference of 101 pairs and one.
 cost_of_pair() { # WORK FIRST SECOND
     local once more
-    pairs "$2" "$3" 1 > "$1/once"
-    pairs "$2" "$3" 101 > "$1/more"
+    repeated 1 "$2" "$3" > "$1/once"
+    repeated 101 "$2" "$3" > "$1/more"
     once="$(counted "$program" run < "$1/once")"
     more="$(counted "$program" run < "$1/more")"
     echo $(((more - once) / 100))

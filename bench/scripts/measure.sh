@@ -1,18 +1,6 @@
 # What a script costs: lines a second of bsdudp, the best of three runs, its resident memory, and the instructions of
 # bsdplay for a line of a mixed script, without its start. PROGRAM and BSDPLAY name other builds.
 
-# Two lines, repeated, after a socket and its bind.
-repeated() { # TIMES FIRST SECOND
-    printf 'socket\nbind 3 0.0.0.0 7\n'
-    (set +o pipefail && yes "$2"$'\n'"$3" | head -n $((2 * $1)))
-}
-
-# A `sendto` by loopback.
-looped() { # SIZE
-    printf 'sendto 3 127.0.0.1 7 '
-    printf '%*s' "$1" '' | sed 's/ /61/g'
-}
-
 lines_a_second() { # WORK NAME TIMES FIRST
     local best=0 begin rate
     repeated "$3" "$4" "recvfrom 3 9216" > "$1/script"
@@ -51,9 +39,9 @@ measure_scripts() { # WORK
     if [ -x "$program" ]; then
         table_head "lines a second" lines
         lines_a_second "$1" "rx and recvfrom, 2 bytes" 500000 "$rx"
-        lines_a_second "$1" "sendto by loopback and recvfrom, 2 bytes" 500000 "$(looped 2)"
-        lines_a_second "$1" "sendto by loopback and recvfrom, 1,472 bytes" 50000 "$(looped 1472)"
-        lines_a_second "$1" "sendto by loopback and recvfrom, 9,000 bytes" 10000 "$(looped 9000)"
+        lines_a_second "$1" "sendto by loopback and recvfrom, 2 bytes" 500000 "sendto 3 127.0.0.1 7 $(digits 2)"
+        lines_a_second "$1" "sendto by loopback and recvfrom, 1,472 bytes" 50000 "sendto 3 127.0.0.1 7 $(digits 1472)"
+        lines_a_second "$1" "sendto by loopback and recvfrom, 9,000 bytes" 10000 "sendto 3 127.0.0.1 7 $(digits 9000)"
         table_head "resident memory" KB
         for lines in 10,000 1,000,000 10,000,000; do
             table_row "$lines" "$(resident "$1" "${lines//,/}")"
