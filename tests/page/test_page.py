@@ -27,14 +27,11 @@ def test_module_in_node(page, bsdudp, bsdplay):
         pytest.fail(f"status {done.returncode}\n{said[-3000:]}", pytrace=False)
 
 
-def text_of(path):
-    return path.read_text(encoding="utf-8") if path.exists() else None
-
-
 @pytest.mark.needs("chromium")
 @pytest.mark.parametrize("tab, script", SCRIPTS, ids=[f"{it.parent.name}/{it.stem}" for _, it in SCRIPTS])
 def test_script_in_chromium(tab, script, chromium):
-    """Its replies are those of its file, if it has one, and otherwise those that it expects."""
-    options, wanted = (text_of(pathlib.Path(f"{script}.{kind}")) for kind in ("args", "stdout"))
-    asked = [tab, text_of(script), (options or "").split(), wanted, LESSONS in script.parents]
+    """What it expects comes, and its lines are shown. That the module replies as its file says is tested in node."""
+    options = pathlib.Path(f"{script}.args")
+    words = options.read_text(encoding="utf-8").split() if options.exists() else []
+    asked = [tab, script.read_text(encoding="utf-8"), words, LESSONS in script.parents]
     assert chromium.resize(1600).run(f"playInPage(...{json.dumps(asked)})") == []

@@ -74,6 +74,8 @@ def test_a_lesson_that_is_changed_becomes_a_copy(browser):
     browser.run("openNamed(LISTS.lessons[0])")
     assert browser.run("byId('script').value") == lesson
     assert choose(browser, "Lesson 1, changed") == lesson + "tick 3\n"
+    browser.run("openNamed(LISTS.lessons[0]); openOwn()")
+    assert browser.run("byId('script').value") == lesson + "tick 3\n"
 
 
 def test_a_lesson_that_is_changed_twice_has_two_copies(browser):
