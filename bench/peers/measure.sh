@@ -11,11 +11,15 @@ lwip_host=(def inet_chksum init ip mem memp netif pbuf stats timeouts udp
     ipv4/{ip4,ip4_addr,ip4_frag,icmp,etharp} ../netif/ethernet)
 lwip_board=("-I$bench/peers" -DBOARD)
 
+# Compiles a program with lwIP for UDP over IPv4.
+with_lwip() { # FILE PROGRAM FLAG..
+    local files=("${lwip_core[@]/#/$LWIP/src/core/}")
+    "${CC:-gcc}" "${@:3}" -I "$bench/peers" -I "$LWIP/src/include" -o "$2" "$1" "$bench/peers/sum.c" "${files[@]/%/.c}"
+}
+
 # One build of lwIP with lwip.c, as a shared library that exports only names that begin with its own.
 build_lwip() { # WORK NAME FLAG..
-    local files=("${lwip_core[@]/#/$LWIP/src/core/}")
-    "${CC:-gcc}" "${@:3}" -shared -fPIC -fvisibility=hidden "-DPEER=$2" -I "$bench/peers" -I "$LWIP/src/include" \
-        -o "$1/lib$2.so" "$bench/peers/lwip.c" "$bench/peers/sum.c" "${files[@]/%/.c}"
+    with_lwip "$bench/peers/lwip.c" "$1/lib$2.so" "${@:3}" -shared -fPIC -fvisibility=hidden "-DPEER=$2"
 }
 
 # The flags of its best build: for speed, with the port's sum, and with pools instead of its heap.

@@ -3,13 +3,6 @@
 
 . "$bench/peers/measure.sh"
 
-# lwIP's host, with the options and the port of bench/peers.
-build_lwip_echo() { # WORK NAME FLAG..
-    local files=("${lwip_core[@]/#/$LWIP/src/core/}")
-    "${CC:-gcc}" "${@:3}" -DTUN -I "$bench/peers" -I "$LWIP/src/include" -o "$1/$2" "$bench/board/lwip.c" \
-        "$bench/peers/sum.c" "${files[@]/%/.c}"
-}
-
 measure_tun() { # WORK
     local hosts=("tun_echo=$1/tun_echo") flags=(-O3 -Wall -Wextra)
     if ! unshare -n true 2> "$1/tun.log" || ! [ -w /dev/net/tun ] || ! command -v ip > "$1/tun.log"; then
@@ -20,8 +13,8 @@ measure_tun() { # WORK
     "${CC:-gcc}" "${flags[@]}" -I "$bench/../capi/include" -o "$1/tun_echo" "$bench/../capi/examples/tun_echo.c" \
         "$1/capi/libbsdudp.a"
     if lwip_sources "$1"; then
-        build_lwip_echo "$1" lwip_O2 -O2
-        build_lwip_echo "$1" lwip_O3 -O3 -march=x86-64-v2 -flto -DLWIP_NOASSERT -DPEERS_SUM
+        with_lwip "$bench/board/lwip.c" "$1/lwip_O2" -DTUN -O2
+        with_lwip "$bench/board/lwip.c" "$1/lwip_O3" -DTUN "${lwip_fast[@]}" -DPEERS_SUM
         hosts+=("lwIP -O2=$1/lwip_O2" "lwIP -O3 -flto, no asserts, a sum by SSE2=$1/lwip_O3")
     else
         echo "lwIP's sources aren't available by apt-get: lwIP is skipped"
