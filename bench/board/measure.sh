@@ -118,8 +118,6 @@ board_echoes() { # WORK
     if lwip_sources "$work"; then
         board_lwip "$work"
         board_lwip_sockets "$work"
-    else
-        echo "lwIP's sources aren't available by apt-get: its rows are skipped"
     fi
 }
 

@@ -32,7 +32,7 @@ measure_ether() { # WORK
     ether_row "$work" "the bare stack" bare
     ether_program "$work" host -DETHER "$bench/board/bench.c" "$work/lib/libbsdudp.a"
     ether_row "$work" "the host" host
-    lwip_sources "$work" || { echo "lwIP's sources aren't available by apt-get: its rows are skipped"; return 0; }
+    lwip_sources "$work" || return 0
     files=("${lwip_host[@]/#/$LWIP/src/core/}")
     for file in NONE COPIES; do
         ether_program "$work" lwip -DETHER -D$file "${lwip_board[@]}" -I "$LWIP/src/include" "$bench/board/lwip.c" \

@@ -7,8 +7,6 @@ measure_packets() { # WORK
     if lwip_sources "$1"; then
         build_lwip "$1" lwip "${lwip_best[@]}"
         more=(-DPACKETS_LWIP "$1/liblwip.so")
-    else
-        echo "lwIP's sources aren't available by apt-get: lwIP is skipped"
     fi
     build_bench "$1" packets bench_packets "${more[@]}"
     print_tables "$1" packets

@@ -1,8 +1,11 @@
 # Our stack compared with lwIP. LWIP names a folder with its sources.
 
-# The folder of lwIP's sources, those of Debian 12 if none is named.
+# The folder of lwIP's sources, those of Debian 12 if none is named. Says in a line if there are none.
 lwip_sources() { # WORK
-    LWIP=${LWIP:-$("$bench/../tools/debian-source" "$1" lwip 2> "$1/lwip.log")} && [ -f "$LWIP/src/core/udp.c" ]
+    LWIP=${LWIP:-$("$bench/../tools/debian-source" "$1" lwip 2> "$1/lwip.log")}
+    [ ! -f "$LWIP/src/core/udp.c" ] || return 0
+    echo "lwIP's sources aren't available by apt-get: lwIP is left out"
+    return 1
 }
 
 # Its files for UDP over IPv4; those for a host with counters, on a link of packets or of frames; and the flags of such.
@@ -29,10 +32,7 @@ lwip_best=("${lwip_fast[@]}" -DPEERS_SUM -DPEERS_POOLS)
 # lwIP as Debian compiles it, with its fastest sum; compiled for speed; with the port's sum; and with pools instead of
 # its heap, which is its best build.
 measure_peers() { # WORK
-    if ! lwip_sources "$1"; then
-        echo "skipped: lwIP's sources aren't available by apt-get"
-        return
-    fi
+    lwip_sources "$1" || return 0
     build_lwip "$1" lwip_O2 -O2
     build_lwip "$1" lwip_O2_sum3 -O2 -DLWIP_CHKSUM_ALGORITHM=3
     build_lwip "$1" lwip_O3 "${lwip_fast[@]}"
