@@ -11,7 +11,7 @@ enum { SENDER = 1, RECEIVER = 2, BROADCAST = 255 };
 /* crates/bench_packets/src/packets.rt */
 uint32_t bsdudp_exchange(const uint8_t *bytes, size_t len, uint16_t mtu, bool is_connected, uint32_t times);
 uint32_t bsdudp_loop_back(const uint8_t *bytes, size_t len, uint32_t times);
-uint32_t bsdudp_send_refused(const uint8_t *bytes, size_t len, bool is_connected, uint32_t times);
+uint32_t bsdudp_send_refused(const uint8_t *bytes, size_t len, uint32_t times);
 uint32_t bsdudp_receive(const uint8_t *packet, size_t len, uint8_t sockets, uint32_t before, bool is_read, uint32_t times);
 
 /* bench/peers/lwip.c, if measure.sh has its sources. */
@@ -46,7 +46,7 @@ static bool looped(const void *what, int column, uint64_t turns)
 static bool refused(const void *what, int column, uint64_t turns)
 {
     (void)what;
-    return bsdudp_send_refused(bytes, LENS[column], false, (uint32_t)turns) == turns;
+    return bsdudp_send_refused(bytes, LENS[column], (uint32_t)turns) == turns;
 }
 
 /* A packet: its receiver, how many sockets read it, how many arrive first and aren't read, and which byte is wrong. */

@@ -135,19 +135,13 @@ pub extern "C" fn bsdudp_loop_back(alloc: Global, bytes: &[u8], times: u32) -> u
 }
 
 /// Boots a stack and fills its output queue, and then `times` times sends a datagram to another host. Returns how often
-/// the send failed: `uint32_t bsdudp_send_refused(const uint8_t *bytes, size_t len, bool is_connected, uint32_t
-/// times)`.
+/// the send failed: `uint32_t bsdudp_send_refused(const uint8_t *bytes, size_t len, uint32_t times)`.
 #[unsafe(no_mangle)]
-pub extern "C" fn bsdudp_send_refused(
-    alloc: Global,
-    bytes: &[u8],
-    is_connected: bool,
-    times: u32,
-) -> u32 {
+pub extern "C" fn bsdudp_send_refused(alloc: Global, bytes: &[u8], times: u32) -> u32 {
     let Some(mut stack) = listening(alloc, SENDER, 1500, 1) else {
         return 0;
     };
-    let to = destination_of(&mut stack, is_connected);
+    let to = destination_of(&mut stack, false);
     'fill: for _ in 0..QUEUE {
         let _ = stack.sendto(SOCKET, to, bytes);
     }
