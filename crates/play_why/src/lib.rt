@@ -31,7 +31,6 @@ mod words;
 
 pub use addresses::{Addresses, Busiest};
 pub use blame::Blame;
-pub use delivered::Delivered;
 pub use ends::Ends;
 pub use finding::Finding;
 pub use judge::{Arrival, Judge, Others, broadcast_of};
@@ -39,8 +38,7 @@ pub use layout::Layout;
 pub use offload::Card;
 pub use outcome::Outcome;
 pub use parts::Loss;
-pub use ports::MOST_PORTS;
-pub use refusals::{MOST_REFUSALS, Refusal, Refusals, refusal_of};
+pub use refusals::{Refusal, Refusals, refusal_of};
 pub use sums::{COVERED, pseudo_sum, right_header_sum, right_udp_sum};
 pub use values::Value;
 pub use verdict::Verdict;

@@ -14,7 +14,7 @@ use params::{IP_UDP_HEADERS, PROTOCOL_UDP};
 use std::alloc::{AllocError, Global};
 
 /// How many ports are bound at the same time. For one more, the port that was bound first is closed.
-pub const MOST_PORTS: usize = 60;
+const MOST_PORTS: usize = 60;
 
 /// A port, and the descriptor of the socket that is bound to it.
 #[derive(Clone, Copy)]

@@ -8,7 +8,7 @@ use params::PROTOCOL_UDP;
 use std::alloc::{AllocError, Global};
 
 /// How many refusals are kept that were read ahead, and how many closed ports.
-pub const MOST_REFUSALS: usize = 4096;
+const MOST_REFUSALS: usize = 4096;
 
 /// The protocol number of ICMP (RFC 792).
 const ICMP: u8 = 1;
