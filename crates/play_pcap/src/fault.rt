@@ -11,7 +11,7 @@ pub enum CaptureFault {
     NotOpened,
     /// Reading it failed.
     NotRead,
-    /// It has more than [`crate::LONGEST_FILE`] bytes.
+    /// It has more than 16 MiB.
     TooLong,
     /// The host refused memory.
     Memory,

@@ -8,14 +8,14 @@ use crate::fault::CaptureFault;
 use script_loop::{Source, bytes};
 use std::alloc::Global;
 
-/// The longest capture that can be played, in bytes.
-pub const LONGEST_FILE: usize = 16_777_216;
+/// The longest capture that can be played: 16 MiB, in bytes.
+const LONGEST_FILE: usize = 16_777_216;
 
 /// The number of bytes read at a time.
 const CHUNK: usize = 8192;
 
 /// Reads everything that a reader has left. Returns `NotRead` if the reader returns an error, `TooLong` if it has more
-/// than [`LONGEST_FILE`] bytes, and `Memory` if the host refuses memory. On error some bytes have been read.
+/// than 16 MiB, and `Memory` if the host refuses memory. On error some bytes have been read.
 pub fn read_whole<R: Source>(alloc: Global, reader: &mut R) -> Result<Vec<u8>, CaptureFault>
     ensures all { IfOk result (λ v. Consumes (R.remaining reader.old) (R.remaining reader.new) v.items) }
     ensures ended { IfOk result (λ v. IsAtEnd (R.remaining reader.new)) }

@@ -16,7 +16,7 @@ mod wire_trace;
 
 pub use ask::{Ask, Details, Range, ask_of, range_of};
 pub use fault::CaptureFault;
-pub use files::{Folder, LONGEST_FILE, NoFolder, load_named, read_whole};
+pub use files::{Folder, NoFolder, load_named, read_whole};
 pub use laws::{lines_law, played_back_law, read_back_law, trace_law};
 pub use lines::{LINE, Lines};
 pub use moves::Tally;
