@@ -29,23 +29,16 @@ pub(crate) fn carry<T: Sink + Drop>(
 )
     ensures { AreLedTo (view segment.old) (view segment.new) }
 {
+    let (most, ends_early) = match bound {
+        Bound::Times(count) => (count, false),
+        Bound::Quiet(most) => (most, true),
+    };
     settle(segment, capture, names, log);
-    carry_on(segment, bound, capture, names, log);
-}
-
-/// Carries this often, after hosts on an Ethernet have transmitted what they have.
-fn carry_on<T: Sink + Drop>(
-    segment: &mut Segment,
-    bound: Bound,
-    capture: &mut Capture<T>,
-    names: &[Buffer<NAME>],
-    log: &mut Log,
-)
-    ensures { AreLedTo (view segment.old) (view segment.new) }
-{
-    match bound {
-        Bound::Times(count) => carry_times(segment, count, capture, names, log),
-        Bound::Quiet(most) => carry_all(segment, most, capture, names, log),
+    for _ in 0..most {
+        if ends_early && segment.is_quiet() {
+            return;
+        }
+        carry_once(segment, capture, names, log);
     }
 }
 
@@ -96,37 +89,4 @@ fn carry_once<T: Sink + Drop>(
     send(segment, capture, names, log);
     bring(segment, names, log);
     settle(segment, capture, names, log);
-}
-
-/// Carries this often.
-fn carry_times<T: Sink + Drop>(
-    segment: &mut Segment,
-    count: u32,
-    capture: &mut Capture<T>,
-    names: &[Buffer<NAME>],
-    log: &mut Log,
-)
-    ensures { AreLedTo (view segment.old) (view segment.new) }
-{
-    for _ in 0..count {
-        carry_once(segment, capture, names, log);
-    }
-}
-
-/// Carries until nothing is left, but at most this many times.
-fn carry_all<T: Sink + Drop>(
-    segment: &mut Segment,
-    most: u32,
-    capture: &mut Capture<T>,
-    names: &[Buffer<NAME>],
-    log: &mut Log,
-)
-    ensures { AreLedTo (view segment.old) (view segment.new) }
-{
-    for _ in 0..most {
-        if segment.is_quiet() {
-            return;
-        }
-        carry_once(segment, capture, names, log);
-    }
 }

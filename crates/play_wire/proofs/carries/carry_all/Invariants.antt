@@ -1,6 +1,0 @@
-use Rattle.segment.specs.Inside.{view}
-use Rattle.play_wire.specs.Acts.{AreLedTo}
-use Rattle.play_wire.proofs.carries.carry_all.Given as goal
-
-abbrev pub invariant-loop : goal.invariant-loop
-invariant-loop g l = AreLedTo (view l.fn.segment) (view l.segment)
