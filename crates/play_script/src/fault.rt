@@ -38,7 +38,7 @@ impl SettingFault {
             SettingFault::NotAddress => "not an address",
             SettingFault::NotNumber => "not a number that the setting can have",
             SettingFault::OtherNetwork =>
-                "--addr leaves the network of --bcast, which is wanted too",
+                "--addr is outside the network of the broadcast address: set --bcast too",
             SettingFault::BadSizes => "bad sizes",
             SettingFault::BadConfig => "bad config",
             SettingFault::Memory => "no memory",
