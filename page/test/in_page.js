@@ -374,7 +374,7 @@ function faultsOfForms() {
     faults.push(`the forms of lines are ${forms.join("; ")}`);
   }
   open("run", { text: "sokcet\nbind 3 localhost 7\n" });
-  const row = byId("rows").children[1].textContent, advice = "localhost is no ADDR (as 10.0.0.2): bind FD ADDR PORT";
+  const row = byId("rows").children[1].textContent, advice = "localhost is no ADDR (such as 10.0.0.2): bind FD ADDR PORT";
   select(1);
   const says = byId("look").textContent;
   const isSaid = row.replaceAll("`", "").includes(advice) && says.includes(advice);

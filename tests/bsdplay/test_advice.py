@@ -31,7 +31,7 @@ MACHINE = {
     "quit": "`quit` is no command",
     "carry": "`carry` is for many hosts and belongs to none: such a script begins with `host NAME`",
     "abcdefghijklmnopqrstuvwxyzabcdefgh": "`abcdefghijklmnopqrstuvwxyzabcdef..` is no command",
-    "bind 3 localhost 7": "`localhost` is no ADDR (as 10.0.0.2): `bind FD ADDR PORT`",
+    "bind 3 localhost 7": "`localhost` is no ADDR (such as 10.0.0.2): `bind FD ADDR PORT`",
     "bind 3 10.0.0.1 70000": "`70000` is no PORT (0 to 65535): `bind FD ADDR PORT`",
     "bind 3 10.0.0.1 07": "`07` is no PORT (0 to 65535): `bind FD ADDR PORT`",
     "bind 10.0.0.1 7": "`10.0.0.1` is no FD (0 to 4294967295): `bind FD ADDR PORT`",
@@ -111,7 +111,7 @@ WORDS = {
 }  # fmt: skip
 ANSWERED = re.compile(
     r"this asks for nothing|no command|is no |is missing: |too many: |otherwise: |asked of a host|"
-    r"unknown word|is wanted|not an? "
+    r"unknown word|expected |not an? "
 )
 
 
@@ -448,7 +448,7 @@ TIMED = {
         ["+1s sendto 3 10.0.0.2 9 0x12", " +10.0s\trx zz"],
         [f"-:1:26: {NO_DIGIT}", f"-:2:12: {NO_DIGIT}"],
     ),
-    "the column of a wrong word": (["+1s rx udp 10.0.0.2:9 < 10.0.0.1:7 -"], ["-:1:23: `>` is wanted"]),
+    "the column of a wrong word": (["+1s rx udp 10.0.0.2:9 < 10.0.0.1:7 -"], ["-:1:23: expected `>`"]),
     "a fragment times out": ([PART, *GONE], []),
     "a fragment times out, after ticks": ([PART, "tick 59", "+0s show unfinished => 1 ..", GONE[1]], []),
     "settings": (

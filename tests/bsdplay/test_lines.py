@@ -61,7 +61,7 @@ NAMED = {
 LONG = {UDP + "@65507": 65_535, UDP + "@65527 at 65528 last": 27, "rx @65534+00 => 00*65533": 65_535}
 NOT_HEX, ODD = 'not a hex digit (a text stands in quotes: "hi")', "odd number of hex digits"
 NO_BYTES, NO_NUMBER, TWICE = "bytes are missing", "a number is missing", "this was given already"
-NO_END, NO_SUCH = "an address with a port, as 10.0.0.2:7, is wanted", "the datagram has no such bytes"
+NO_END, NO_SUCH = "expected an address and port, such as 10.0.0.2:7", "the datagram has no such bytes"
 # Lines with an error: its column, and what it is.
 WRONG = {
     "rx 0g": (5, NOT_HEX),
@@ -104,8 +104,8 @@ WRONG = {
     "rx udp 10.0.0.0.2:7 > 10.0.0.1:7 -": (8, NO_END),
     "rx udp 10.0.0.2:65536 > 10.0.0.1:7 -": (8, "not a port of 0 to 65535"),
     "rx udp 10.0.0.2: > 10.0.0.1:7 -": (8, "not a port of 0 to 65535"),
-    "rx udp 10.0.0.2:5000": (8, "`>` is wanted"),
-    "rx  udp  10.0.0.2:5000  10.0.0.1:7 -": (25, "`>` is wanted"),
+    "rx udp 10.0.0.2:5000": (8, "expected `>`"),
+    "rx  udp  10.0.0.2:5000  10.0.0.1:7 -": (25, "expected `>`"),
     "rx udp 10.0.0.2:5000 > 10.0.0.1:x -": (24, "not a port of 0 to 65535"),
     UDP + "# none": (24, NO_BYTES),
     UDP + '"a" + "b"  idd 4': (46, "unknown word"),
@@ -115,8 +115,8 @@ WRONG = {
     UDP + "00 ttl 064": (42, "not a time to live of 0 to 255"),
     UDP + "00 size 65516": (43, "not a size of 0 to 65515"),
     UDP + "00 at 4 more": (41, "not a multiple of 8 of 0 to 65528"),
-    UDP + "00 at 8": (41, "`more` or `last` is wanted"),
-    UDP + "00 at 8 df": (43, "`more` or `last` is wanted"),
+    UDP + "00 at 8": (41, "expected `more` or `last`"),
+    UDP + "00 at 8 df": (43, "expected `more` or `last`"),
     UDP + "00 df id 3 df": (46, TWICE),
     UDP + "00 id 3 id 3": (43, TWICE),
     UDP + "00 nosum badudp": (44, TWICE),
@@ -124,8 +124,8 @@ WRONG = {
     UDP + "@8 size 17": (43, NO_SUCH),
     UDP + "@65508": (35, "more bytes than a packet has room for"),
     UDP + "@65528 at 0 more size 8": (35, "more bytes than a packet has room for"),
-    "rx raw": (4, "an address, as 10.0.0.2, is wanted"),
-    "rx raw 10.0.0.2:5000 > 10.0.0.1 00": (8, "an address, as 10.0.0.2, is wanted"),
+    "rx raw": (4, "expected an address, such as 10.0.0.2"),
+    "rx raw 10.0.0.2:5000 > 10.0.0.1 00": (8, "expected an address, such as 10.0.0.2"),
     RAW + "00 ihl 16": (35, "not a number of 0 to 15"),
     RAW + "00 proto 256": (37, "not a number of 0 to 255"),
     RAW + "00 sum 65536": (35, "not a number of 0 to 65535"),

@@ -80,7 +80,7 @@ impl Argument {
     pub(crate) fn label(self) -> &'static str {
         match self {
             Argument::Fd => "FD (0 to 4294967295)",
-            Argument::Addr => "ADDR (as 10.0.0.2)",
+            Argument::Addr => "ADDR (such as 10.0.0.2)",
             Argument::Port => "PORT (0 to 65535)",
             Argument::Len => "LEN (1 to 65535)",
             Argument::Count => "N (1 to 65535)",
