@@ -34,11 +34,10 @@ take-requires-clause-lone c =
 
 pub returns : goal.returns
 returns c =
-    let p = c.args.self.now.pool in
     let s = c.args.self.now.socks in
-    let stored : StoresWhole p s c.args.headed.packet.now c.take.new.pool c.take.new.self =
-    subst (λ (xs : List ℕ). StoresWhole p s xs c.take.new.pool c.take.new.self) c.in_ok-datagram.ensures.packet
-    c.in_ok-take.ensures in
+    let stored : StoresWhole c.args.self.now.pool s c.args.headed.packet.now c.take.new.pool c.take.new.self =
+    subst (λ (xs : List ℕ). StoresWhole c.args.self.now.pool s xs c.take.new.pool c.take.new.self)
+    c.in_ok-datagram.ensures.packet c.in_ok-take.ensures in
     record {
       does = came_whole c.requires.can.fit.owned c.requires.can.fit.reass stored c.args.self.now.net.counters
           c.count.new.self c.count.ensures c.requires.can.wire.free c.args.headed.is_headed.faultless

@@ -11,6 +11,7 @@ use Rattle.net_stack.specs.declared.host.Host.{Host}
 use Rattle.net_stack.proofs.CallLemmas.{lent, lent_inside, lent_shows}
 use Rattle.net_stack.proofs.Boot.{socks_gone, reass_gone, all_gone}
 use Rattle.net_stack.proofs.stack.Stack.end.Goals as goal
+use Rattle.net_stack.proofs.stack.Stack.end.Goals.{After-flush, After-end}
 
 pub flush-requires : goal.flush-requires
 flush-requires c = (lent_inside c.self.inside c.as_mut-parts.result.now c.as_mut-parts.ensures.value
@@ -20,40 +21,41 @@ pub end_empty-requires : goal.end_empty-requires
 end_empty-requires c = subst (λ (h : Host). AreEmpty h.socks.queues) (sym c.into_inner-pool.ensures)
     c.flush.ensures.empty
 
+-- the host is that of the stack, and the fragments leave it after the sockets
+is : (c : After-flush) → IsStackInside (lent c.self.inside c.as_mut-parts.result.now)
+is c = lent_inside c.self.inside c.as_mut-parts.result.now c.as_mut-parts.ensures.value c.self.invariant
+
+gone : (c : After-end) → Moves c.flush.new.pool
+    (held_all c.flush.new.pool (lent c.self.inside c.as_mut-parts.result.now).host.reass.datagrams) c.end.new.pool []
+gone c =
+    subst (λ (h : Host). Moves h.pool (held_all h.pool h.reass.datagrams) c.end.new.pool []) c.into_inner-pool.ensures
+    c.end.ensures
+
 pub end-requires : goal.end-requires
 end-requires c =
-    let f : Fields = lent c.self.inside c.as_mut-parts.result.now in
-    let is : IsStackInside f = lent_inside c.self.inside c.as_mut-parts.result.now c.as_mut-parts.ensures.value
-    c.self.invariant in
     subst (λ (h : Host). IsTable h.pool h.reass.datagrams) (sym c.into_inner-pool.ensures)
-    (socks_gone f c.flush.new.pool is.stack c.flush.ensures.moves).reass.table.table
+    (socks_gone (lent c.self.inside c.as_mut-parts.result.now) c.flush.new.pool
+    (is (goal.at.end-requires c).After-flush).stack c.flush.ensures.moves).reass.table.table
 
 pub end-requires-2-clause-out : goal.end-requires-2-clause-out
 end-requires-2-clause-out c =
-    let f : Fields = lent c.self.inside c.as_mut-parts.result.now in
-    let is : IsStackInside f = lent_inside c.self.inside c.as_mut-parts.result.now c.as_mut-parts.ensures.value
-    c.self.invariant in
-    let gone : Moves c.flush.new.pool (held_all c.flush.new.pool f.host.reass.datagrams) c.end.new.pool [] =
-    subst (λ (h : Host). Moves h.pool (held_all h.pool h.reass.datagrams) c.end.new.pool []) c.into_inner-pool.ensures
-    c.end.ensures in
+    let at = goal.at.end-requires-2-clause-out c in
     subst (λ (h : Host). IsOutputQueue c.end.new.pool h.net.out) (sym c.into_inner-pool.ensures)
-    (reass_gone f c.flush.new.pool c.end.new.pool is.stack c.flush.ensures.moves gone).output.queue
+    (reass_gone (lent c.self.inside c.as_mut-parts.result.now) c.flush.new.pool c.end.new.pool
+    (is at.After-flush).stack c.flush.ensures.moves (gone at.After-end)).output.queue
 
 pub end-requires-2-clause-none : goal.end-requires-2-clause-none
 end-requires-2-clause-none c =
-    let is = lent_inside c.self.inside c.as_mut-parts.result.now c.as_mut-parts.ensures.value c.self.invariant in
-    ap (λ (h : Host). h.net.looped.len) c.into_inner-pool.ensures ∙ ap (λ (t : TrainView). t.len) is.looped
+    ap (λ (h : Host). h.net.looped.len) c.into_inner-pool.ensures
+    ∙ ap (λ (t : TrainView). t.len) (is (goal.at.end-requires-2-clause-none c).After-flush).looped
 
 pub returns : goal.returns
 returns c =
     let f : Fields = lent c.self.inside c.as_mut-parts.result.now in
-    let is : IsStackInside f = lent_inside c.self.inside c.as_mut-parts.result.now c.as_mut-parts.ensures.value
-    c.self.invariant in
-    let gone : Moves c.flush.new.pool (held_all c.flush.new.pool f.host.reass.datagrams) c.end.new.pool [] =
-    subst (λ (h : Host). Moves h.pool (held_all h.pool h.reass.datagrams) c.end.new.pool []) c.into_inner-pool.ensures
-    c.end.ensures in
-    all_gone f c.end.new.pool c.end-2.new.pool is.stack
-    (reass_gone f c.flush.new.pool c.end.new.pool is.stack c.flush.ensures.moves gone)
+    let at = goal.at.returns c in
+    let all = (is at.After-flush).stack in
+    all_gone f c.end.new.pool c.end-2.new.pool all
+    (reass_gone f c.flush.new.pool c.end.new.pool all c.flush.ensures.moves (gone at.After-end))
     (subst (λ (h : Host). Moves c.end.new.pool (numbers c.end.new.pool h.net.out) c.end-2.new.pool [])
     c.into_inner-pool.ensures c.end-2.ensures)
     ∙ ap (λ (v : StackView). free_pool v.config)
