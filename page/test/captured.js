@@ -1,6 +1,6 @@
 // node page/test/captured.js MODULE.wasm CAPTURE..: prints the page's result for each capture, one JSON object on each
 // line: `fault`, or the script's `text` and its `steps`, each with its line, its reply, the lines below it, the
-// counters that increased, and the cause of a drop.
+// counters that increased, the cause of a drop, and the numbers in the headers of its packet.
 "use strict";
 const fs = require("fs");
 const { load } = require("./sources.js");
@@ -15,7 +15,7 @@ function played(engine, file) {
   const { code, steps } = page.tracePlay(engine, script.text);
   const told = ({ line, says, below, changed, causes, packet }) => ({ line, says, below,
     changed: Object.fromEntries(changed.map(({ name, by }) => [name, by])),
-    causes: causes ? [...causes.values()] : [], isPacket: packet !== undefined });
+    causes: causes ? [...causes.values()] : [], header: packet ? engine.header(packet.bytes) : null });
   return { ...script, end, code, steps: steps.map(told) };
 }
 

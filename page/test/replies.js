@@ -145,52 +145,6 @@ function tryGraded(script, hand, said) {
   }
 }
 
-// ---- headers
-
-// The checksum of words (RFC 1071), computed as the difference to a multiple of 65,535. An empty sum is 0.
-function sumOver(bytes) {
-  const all = bytes.length % 2 ? [...bytes, 0] : [...bytes];
-  const total = all.reduce((n, byte, i) => n + (i % 2 ? byte : 256 * byte), 0);
-  return total ? (65535 - (total % 65535)) % 65535 : 65535;
-}
-
-// The values in the headers of a packet, computed independently.
-function headerBy(bytes) {
-  const at = i => bytes[i], word = i => 256 * at(i) + at(i + 1), long = i => 65536 * word(i) + word(i + 2);
-  const names = ["parts", "version", "words", "service", "total", "id", "flags", "offset", "ttl", "protocol", "sum",
-    "rightSum", "source", "destination", "sourcePort", "destinationPort", "udpLength", "udpSum", "rightUdpSum",
-    "pseudoSum"];
-  const all = [0];
-  if (bytes.length >= 20) {
-    const head = sumOver([...bytes.slice(0, 10), 0, 0, ...bytes.slice(12, 20)]);
-    all.splice(0, 1, 1, at(0) >> 4, at(0) & 15, at(1), word(2), word(4), at(6) >> 5, (word(6) & 8191) * 8, at(8), at(9),
-      word(10), head, long(12), long(16));
-  }
-  if (bytes.length >= 28) {
-    const length = word(24), pseudo = [...bytes.slice(12, 20), 0, 17, at(24), at(25)];
-    const data = bytes.slice(28, Math.max(28, 20 + length));
-    const right = sumOver([...pseudo, ...bytes.slice(20, 26), 0, 0, ...data]);
-    all[0] = 2;
-    all.push(word(20), word(22), length, word(26), right || 65535, 65535 - sumOver(pseudo));
-  }
-  return Object.fromEntries(names.map((name, i) => [name, all[i] || 0]));
-}
-
-// The headers of packets of all lengths up to 80 bytes, some of them with sums that borrow to the end.
-function tryHeaders(engine) {
-  const below = numbers(7), packets = [];
-  for (let n = 0; n <= 80; n++) for (const limit of [256, 256, 2, 1]) {
-    const bytes = Array.from({ length: n }, () => (limit === 1 ? 255 : below(limit)));
-    if (n > 25 && limit > 1) bytes.splice(24, 2, 0, below(80));
-    packets.push(bytes);
-  }
-  for (const bytes of packets) {
-    const [got, wanted] = [engine.header(Uint8Array.from(bytes)), headerBy(bytes)].map(it => JSON.stringify(it));
-    if (got !== wanted) return fault(`the headers of ${page.hexOf(bytes)}`, `right are ${wanted}, not ${got}`);
-  }
-  return null;
-}
-
 // ---- frames
 
 // Frames, with their fields in the layout of RFC 826 and RFC 894: the offset, the name, and the value; a cross marks
@@ -614,7 +568,6 @@ async function main() {
   const exercises = scriptsOf(path.join(examples, "play")).filter(it => /exercise_/.test(it));
   for (const script of exercises) tryExercise(engine, script);
   for (const script of exercises) tryMarks(engine, script);
-  tryHeaders(engine);
   tryFrames();
   const plays = ["play", "play/wire", "play/ether"].flatMap(it => scriptsOf(path.join(examples, it)));
   for (const script of plays) {

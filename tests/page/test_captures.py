@@ -4,12 +4,13 @@ seconds) and which addresses a host can have follow from RFC 1122 and RFC 791.""
 import json
 import random
 import re
+import struct
 import subprocess
 
 import pytest
 
 from tests.cases import TOP
-from tests.packets import datagram, fragment, ip
+from tests.packets import HERE, PEER, UDP, checksum, datagram, ends, fragment, ip
 from tests.pcaps import NANOSECONDS, header, record
 
 pytestmark = [pytest.mark.needs("rt", "wasm-opt", "node"), pytest.mark.slow]
@@ -157,6 +158,45 @@ def test_a_long_capture_says_how_many_packets_are_shown(opened):
     assert script["counts"] == {"all": 320, "ip": 320, "ours": 320, "taken": 300}
 
 
+# ---- headers
+
+NAMES = "parts version words service total id flags offset ttl protocol sum rightSum source destination sourcePort"
+NAMES += " destinationPort udpLength udpSum rightUdpSum pseudoSum"
+
+
+def header_of(packet):
+    """Returns the numbers in the headers of a packet (RFC 791, RFC 768), with the right checksums; 0 for missing ones."""
+    found = [0] * 20
+    if len(packet) >= 20:
+        first, service, total, ident, place, *more = struct.unpack_from("!BBHHHBBH", packet)
+        right = checksum(packet[:10] + bytes(2) + packet[12:20])
+        found[:8] = 1, first >> 4, first & 15, service, total, ident, place >> 13, (place & 0x1FFF) * 8
+        found[8:14] = *more, right, *struct.unpack_from("!II", packet, 12)
+    if len(packet) >= 28:
+        *ports, length, came = struct.unpack_from("!HHHH", packet, 20)
+        pseudo = packet[12:20] + struct.pack("!HH", UDP, length)
+        right = checksum(pseudo + packet[20:26] + bytes(2) + packet[28 : 20 + length]) or 0xFFFF
+        found[0], found[14:] = 2, [*ports, length, came, right, 0xFFFF - checksum(pseudo)]
+    return dict(zip(NAMES.split(), found))
+
+
+def packets_of_any_length():
+    """Yields packets for a host of up to 80 bytes: with any bytes, with few that aren't 0, and with all ones."""
+    rng = random.Random(7)
+    for size in range(1, 81):
+        for fill in (rng.randbytes(80), bytes(rng.randrange(2) for _ in range(80)), b"\xff" * 80):
+            addressed = fill[:12] + ends(PEER, HERE) + fill[20:24] + bytes([0, size % 70]) + fill[26:]
+            yield (addressed if size >= 20 else fill)[:size]
+
+
+def test_numbers_and_right_checksums_of_headers(opened):
+    script = opened(capture((100, to("10.0.0.1")), *((100, it) for it in packets_of_any_length())))
+    steps = [it for it in script["steps"] if it["header"]]
+    assert len(steps) == 241
+    for step in steps:
+        assert step["header"] == header_of(bytes.fromhex(step["line"].split()[-1])), step["line"]
+
+
 # ---- comparison with `bsdplay why`
 
 
@@ -189,7 +229,7 @@ def told_by_page(script):
     it delivers are read after it."""
     numbers, told = [int(it) for it in re.findall(r"(?m)^# Record (\d+), ", script["text"])], {}
     for step in script["steps"]:
-        if step["isPacket"]:
+        if step["header"]:
             told[numbers[len(told)]] = ("".join(step["causes"]), False)
         elif step["line"].startswith("recvfrom"):
             last = numbers[len(told) - 1]
