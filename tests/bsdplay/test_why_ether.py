@@ -169,7 +169,7 @@ def test_without_a_hardware_address_the_message_says_so(bsdplay, tmp_path):
     ended = why(bsdplay, tmp_path, [frame(datagram(b"hi", between=(PEER, STRANGER)))])
     assert (ended.returncode, b"--mac names its hardware address" in ended.stderr) == (2, True), ended
     ended = run(bsdplay, "why", "--ether", "--addr", HERE, "-", script=header(link=ETHERNET))
-    assert (ended.returncode, b"--ether wants --mac" in ended.stderr) == (2, True), ended
+    assert (ended.returncode, b"--ether needs --mac" in ended.stderr) == (2, True), ended
     ended = run(bsdplay, "why", "--ether", "-", script=header(link=ETHERNET) + record("<", 0, 0, frame(HI)))
     assert (ended.returncode, b"Delivered: 1." in ended.stdout) == (0, True), ended
 

@@ -1,11 +1,14 @@
 //! Captures that are printed as scripts.
+ghost use Rattle.std.specs.Prelude.{IfOk};
 ghost use Rattle.play_pcap.specs.Events.{IsOrdered};
 
 use crate::formats::{Unread, load_capture};
 use crate::{UNREAD, USAGE};
 use capture::{Fault, Why};
 use clap::ArgMatches;
-use play_pcap::{CaptureFault, Details, Lines, OUTCOME, Tally, play_file, put_outcome, range_of};
+use play_pcap::{
+    CaptureFault, Details, Lines, OUTCOME, Range, Tally, play_file, put_outcome, range_of,
+};
 use play_script::Silent;
 use script_loop::{Buffer, LineBuffers};
 use std::{io, str};
@@ -22,6 +25,7 @@ pub(crate) fn report(
     let mut text: Buffer<OUTCOME> = Buffer::new(rt.alloc())?;
     put_outcome(&mut text, outcome);
     if let Ok(words) = str::from_utf8(text.as_slice()) {
+        let words = words.strip_prefix("error ").unwrap_or(words);
         eprintln!(rt; "bsdplay: {name}: {words}")?;
     }
     match outcome {
@@ -35,13 +39,26 @@ pub(crate) fn report(
 fn report_fault(rt: &HostRuntime, name: &str, fault: Fault) -> io::Result<u8> {
     if fault.why == Why::Gzip {
         eprintln!(rt;
-            "bsdplay: {name}: error {}: zcat FILE | bsdplay --from-pcap - reads it",
+            "bsdplay: {name}: {}: zcat FILE | bsdplay --from-pcap - reads it",
             fault.why
         )?;
     } else {
-        eprintln!(rt; "bsdplay: {name}: error {fault}")?;
+        eprintln!(rt; "bsdplay: {name}: {fault}")?;
     }
     Ok(BAD)
+}
+
+/// Returns the records that an option names.
+pub(crate) fn records_in(word: Option<&str>) -> Result<Option<Range>, &'static str>
+    ensures { IfOk result (λ range. IsOrdered range) }
+{
+    let Some(word) = word else {
+        return Ok(None);
+    };
+    match range_of(word.as_bytes()) {
+        Some(range) => Ok(Some(range)),
+        None => Err("--records takes two numbers, such as 3-17"),
+    }
 }
 
 /// Prints a capture as a script, on standard output.
@@ -71,16 +88,11 @@ pub(crate) fn print_capture(
     found: &ArgMatches<'_>,
 ) -> io::Result<u8> {
     let ticks = found.get_flag("ticks");
-    let Some(word) = found.get_str("N-M") else {
-        return print_file(rt, name, Details { range: None, ticks });
-    };
-    let Some(range) = range_of(word.as_bytes()) else {
-        eprintln!(rt; "bsdplay: --records {word}: two numbers are wanted, as 3-17")?;
-        return Ok(USAGE);
-    };
-    let details = Details {
-        range: Some(range),
-        ticks,
-    };
-    print_file(rt, name, details)
+    match records_in(found.get_str("N-M")) {
+        Ok(range) => print_file(rt, name, Details { range, ticks }),
+        Err(text) => {
+            eprintln!(rt; "bsdplay: {text}")?;
+            Ok(USAGE)
+        }
+    }
 }

@@ -330,7 +330,7 @@ fn play_all(rt: &HostRuntime, found: &ArgMatches<'_>) -> io::Result<u8> {
         }
     };
     let Some(manner) = manner_of(found, form) else {
-        eprintln!(rt; "bsdplay: a seed is a number, and seeds are two, as 1-1000")?;
+        eprintln!(rt; "bsdplay: --seed takes a number, and --seeds takes two, such as 1-1000")?;
         return Ok(USAGE);
     };
     let Some(names) = found.get_strs("FILE") else {

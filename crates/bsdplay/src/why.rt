@@ -1,6 +1,6 @@
 //! Why the packets of a capture were dropped: the subcommand, its options, and the capture that it opens.
 use crate::ether::{EtherEnd, mac_of};
-use crate::from_pcap::{BAD, report};
+use crate::from_pcap::{BAD, records_in, report};
 use crate::link_names::name_of;
 use crate::options::{WHY_OPTIONS, with_options};
 use crate::records::{Ahead, Counts, End, Machine, Play, find_mac, read_ahead};
@@ -10,7 +10,7 @@ use capture::{Fault, Records, Why};
 use clap::{Arg, ArgAction, ArgMatches, Command};
 use ether_host::{EtherFault, Mac};
 use net_stack::BootFault;
-use play_pcap::{CaptureFault, Range, range_of, read_whole};
+use play_pcap::{CaptureFault, Range, read_whole};
 use play_script::Silent;
 use play_why::{Judge, Layout, Refusals, broadcast_of};
 use script_loop::{Buffer, Source};
@@ -76,7 +76,7 @@ fn address_in(word: Option<&str>) -> Result<Option<u32>, &'static str> {
     };
     match Ipv4Addr::parse_ascii(word.as_bytes()) {
         Ok(address) => Ok(Some(address.to_bits())),
-        Err(_) => Err("--addr and --bcast take an IPv4 address, as 10.0.0.1"),
+        Err(_) => Err("--addr and --bcast take an IPv4 address, such as 10.0.0.1"),
     }
 }
 
@@ -90,7 +90,7 @@ fn flow_in(word: Option<&str>) -> Result<Option<Flow>, &'static str> {
             address: end.ip().to_bits(),
             port: end.port(),
         })),
-        Err(_) => Err("--flow takes an address and a port, as 10.0.0.1:53"),
+        Err(_) => Err("--flow takes an address and a port, such as 10.0.0.1:53"),
     }
 }
 
@@ -136,7 +136,7 @@ fn mac_in(word: Option<&str>, ether: bool) -> Result<Option<Mac>, &'static str> 
     }
     match mac_of(word.as_bytes()) {
         Some(mac) => Ok(Some(mac)),
-        None => Err("--mac takes the hardware address of a host, as 02:00:00:00:00:01"),
+        None => Err("--mac takes the hardware address of a host, such as 02:00:00:00:00:01"),
     }
 }
 
@@ -148,17 +148,6 @@ fn port_in(word: Option<&str>) -> Result<Option<u16>, &'static str> {
     match word.parse::<u16>() {
         Ok(port) if port != 0 => Ok(Some(port)),
         _ => Err("--port takes a number from 1 to 65535"),
-    }
-}
-
-/// Returns the records that an option names.
-fn records_in(word: Option<&str>) -> Result<Option<Range>, &'static str> {
-    let Some(word) = word else {
-        return Ok(None);
-    };
-    match range_of(word.as_bytes()) {
-        Some(range) => Ok(Some(range)),
-        None => Err("--records takes two numbers, as 3-17"),
     }
 }
 
@@ -544,7 +533,7 @@ fn judge_input(rt: &HostRuntime, choice: Choice) -> io::Result<u8> {
     if let Some(ours) = choice.address {
         if choice.ether && choice.mac.is_none() {
             eprintln!(rt;
-                "bsdplay: -: --ether wants --mac here, because the records are judged as they come"
+                "bsdplay: -: --ether needs --mac here, because the records are judged as they come"
             )?;
             return Ok(USAGE);
         }
