@@ -80,8 +80,9 @@ impl Fault {
             Fault::NoLinkWord => {
                 "a link is `mac M`, `mask M`, `gateway A` and `probe`, in front of settings"
             }
-            Fault::BadMac => "a hardware address is as 02:00:00:00:00:01, and none of a group",
-            Fault::BadMask => "a mask is as 255.255.255.0: ones, then zeros",
+            Fault::BadMac =>
+                "`mac` takes the hardware address of a host, such as 02:00:00:00:00:01",
+            Fault::BadMask => "`mask` takes ones, then zeros, such as 255.255.255.0",
             Fault::BadGateway => "a gateway is another address of the host's network, by its mask",
             Fault::BadMtu => "a frame takes a packet of 1500 bytes at most: `--mtu`",
             Fault::MacTaken => "another host has this hardware address",
