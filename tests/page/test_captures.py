@@ -165,7 +165,7 @@ NAMES += " destinationPort udpLength udpSum rightUdpSum pseudoSum"
 
 
 def header_of(packet):
-    """Returns the numbers in the headers of a packet (RFC 791, RFC 768), with the right checksums; 0 for missing ones."""
+    """Returns the numbers in the headers of a packet (RFC 791, RFC 768) and the right checksums; 0 for missing ones."""
     found = [0] * 20
     if len(packet) >= 20:
         first, service, total, ident, place, *more = struct.unpack_from("!BBHHHBBH", packet)

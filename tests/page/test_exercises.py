@@ -45,7 +45,7 @@ def test_bytes_in_a_question_do_not_name_their_fields(at_width):
     browser = at_width(1280)
     browser.run("open('run', { name: 'exercise_02_why_dropped', place: 2 })")
     assert browser.run("document.querySelectorAll('#look .byte').length") == 30
-    assert not browser.run("document.querySelector('#look [title], #look .rfc')")
+    assert browser.run("document.querySelector('#look [title], #look .rfc') === null")
 
 
 # ---- which bytes win

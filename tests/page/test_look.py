@@ -25,16 +25,21 @@ def opened(browser, mode, name):
 
 @pytest.mark.parametrize("mode, name", LESSONS)
 def test_lines_behind_a_question_are_hidden_until_it_is_answered(mode, name, at_width):
+    """And so is its own reply."""
     browser = at_width(1280)
     opened(browser, mode, name)
     browser.run("select(page.firstQuestion)")
-    for how in ("byId('forth').click()", "byId('last').click()", "byId('rows').lastChild.firstChild.click()"):
+    reply, row = browser.run("[page.steps[page.at].reply, byId('rows').children[page.at].textContent]")
+    assert reply not in row
+    assert " now " not in browser.run("byId('curve').querySelector('svg').getAttribute('aria-label')")
+    assert browser.run("document.querySelector('#look .predict') !== null")
+    for how in ("0", "byId('forth').click()", "byId('last').click()", "byId('rows').lastChild.firstChild.click()"):
         browser.run(how)
         said = browser.run("byId('look').textContent + byId('said').textContent")
         step = browser.run("({ note: page.noteOf(page.steps[page.at]), reply: page.steps[page.at].reply })")
         assert step["note"] not in said, how
         assert re.search("hidden until|A question: ", browser.run("byId('said').textContent")), how
-        assert not browser.run("document.querySelector('#look .mbuf-figure, #look .reply, #look .counters')"), how
+        assert browser.run("document.querySelector('#look .mbuf-figure, #look .reply, #look .counters') === null"), how
 
 
 def test_a_hidden_line_leads_to_the_question_and_can_be_shown(at_width):
@@ -340,7 +345,8 @@ def test_a_capture_has_counts_per_cause_and_a_way_to_the_next_drop(at_width):
     card = "byId('drops').querySelector('.card').click(); "
     assert [browser.run(card + numbers) for _ in range(3)] == [4, 2, 4]
     assert "Left to the card" in browser.run("document.querySelector('#look .verdict.wait').textContent")
-    assert not browser.run("document.querySelector('#look .verdict.no, #look .checks .fail, [aria-current] .sign-bad')")
+    wrong = "#look .verdict.no, #look .checks .fail, [aria-current] .sign-bad"
+    assert browser.run(f"document.querySelector('{wrong}') === null")
     assert browser.run("byId('said').textContent").count("Left to the card") == 1
     for width in HEIGHTS:
         assert at_width(width).run("faultsOfLayout()") == []
