@@ -211,7 +211,7 @@ BY_SERIAL, ALONE = [*MACHINE, "stdio"], [*MACHINE, "null"]
 # The most of the columns of bench/board's table, for each level: the library, the echo's text, data, bss and call
 # stack, and the instructions of three lengths.
 COSTS = {
-    "--small": [37_750, 17_050, 16, 52_500, 770, 2_445, 7_630, 22_100],
+    "--small": [37_750, 17_000, 16, 52_500, 770, 2_445, 7_630, 22_100],
     "-Os": [42_900, 21_350, 16, 52_500, 825, 1_785, 6_980, 21_500],
     "-O2": [73_000, 41_400, 16, 52_500, 765, 1_545, 6_550, 19_200],
 }
