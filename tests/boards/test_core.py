@@ -17,7 +17,7 @@ MODULE = ("rt", "wasm-opt", "cc")
 pytestmark = [pytest.mark.slow, pytest.mark.needs(*MODULE)]
 TARGETS = "cortex-m0 cortex-m3 cortex-m4 cortex-m7 cortex-m33 rv32imac i686 armv7 x86_64 aarch64".split()
 RANDOM = 2000
-MOST_OF_SMALL = 37_700  # bytes of the core for small flash, where pointers have 64 bits
+MOST_OF_SMALL = 36_250  # bytes of the core for small flash, where pointers have 64 bits
 
 
 class Host(NamedTuple):
