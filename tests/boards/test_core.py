@@ -106,7 +106,7 @@ def test_driver_builds(host, builds):
 @pytest.mark.needs("qemu-user")
 def test_scripts_on_riscv(core_for, plays, tmp_path):
     """Built with the toolchain's compiler and linker."""
-    tools = llvm.toolchain_of("libbsdudp") / "toolchain/bin"
+    tools = llvm.toolchain() / "toolchain/bin"
     library = core_for("rv32imac") / "libbsdudp.a"
     headers = llvm.run(CC, "-print-file-name=include").strip()
     how = [tools / "clang", "--target=riscv32-unknown-elf", "-march=rv32imac", "-mabi=ilp32", "-O1", "-ffreestanding"]

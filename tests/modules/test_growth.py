@@ -57,7 +57,7 @@ class Module:
 
     def __init__(self, path):
         with tempfile.TemporaryDirectory() as scratch:
-            text = llvm.readable(path, llvm.toolchain_of(path.stem), pathlib.Path(scratch))
+            text = llvm.readable(path, llvm.toolchain(), pathlib.Path(scratch))
         assert "\nmodule asm" not in text, f"{path.stem} has an assembler's text of its own"
         self.crate, self.names, self.exports, self.outside, self.blind = path.stem, {}, [], set(), set()
         inside = None
