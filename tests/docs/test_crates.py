@@ -118,6 +118,13 @@ def test_mutants_apply(crate):
     none_of(Fault(f"{path.relative_to(TOP)}:1", why) for path, why in edits.faults(TOP / "crates" / crate))
 
 
+def test_each_crate_has_a_mutant():
+    """The gate tries a mutant of each crate except those of tests, benchmarks and programs."""
+    without = {name for name in crates.uses() if not edits.edits_of(TOP / "crates" / name, edits.FOLDER)}
+    programs = {path.parts[-3] for path in TOP.glob("crates/*/src/main.rt")}
+    assert without == programs | {"flat_tests", "protocols_tests", "bench_packets", "bench_stack"}
+
+
 def test_wrong_definitions_apply_to_the_joined_crate(tmp_path):
     """tests/definitions can join flat_model and flat_wire in one crate, and each wrong definition applies there."""
     joined.make(TOP / "crates", tmp_path)

@@ -90,6 +90,7 @@ COUNTED = [
     ("README.md", "331, N of them wrong bytes", lambda: deviations("lwip", "NEVER")),
     ("README.md", "of them wrong bytes | not tried | N |", lambda: deviations("libslirp")),
     ("SECURITY.md", "about N lines of C", lambda: lines_of_code("capi/src/*.c")),
+    ("docs/maintain/testing.md", "The gate tries N mutants", lambda: mutants("must-fail")),
     ("docs/results.md", "| all (N) |", cases),
     ("docs/proved.md", "`bsdudp_core_sendto` and N more", exports),
     ("docs/proved.md", "about N lines of C in `capi/src`", lambda: lines_of_code("capi/src/*.c")),
