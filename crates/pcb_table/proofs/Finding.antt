@@ -10,7 +10,7 @@ use Rattle.flat_model.specs.Packets.Header.{first_fault}
 use Rattle.flat_model.specs.Machine.Event.{Opened}
 use Rattle.flat_model.specs.Sockets.Lookup.{best, exact, receivers, is_addr}
 use Rattle.flat_model.specs.Machine.State.{State}
-use Rattle.flat_model.specs.Machine.Calls.{Opens, read_addr, source_for}
+use Rattle.flat_model.specs.Machine.Calls.{Opens, read_addr}
 use Rattle.flat_model.specs.Machine.Send.{address_faults}
 use Rattle.flat_model.specs.declared.address.Addr.{Addr}
 use Rattle.flat_model.specs.declared.errno.Errno.{Errno}
@@ -19,9 +19,9 @@ use Rattle.pcb_table.specs.declared.block.Block.{Block}
 use Rattle.pcb_table.specs.declared.block.Connection.{Connection}
 use Rattle.pcb_table.specs.declared.interface.Interface.{Interface}
 use Rattle.pcb_table.specs.Table.{Queues, IsDescriptor, block_at, machine, packet_key, socket_with}
-use Rattle.pcb_table.specs.Found.{ChecksDestination, EnsuresPort, Finds, FindsAll, SendsFrom}
+use Rattle.pcb_table.specs.Found.{ChecksDestination, EnsuresPort, Finds, FindsAll}
 use Rattle.pcb_table.specs.Inside.Search.{best_block, youngest_block, receiving_blocks, block_connect_faults, interface_config, GivesPort}
-use Rattle.pcb_table.specs.Apart.{does_match, plain, AreApart, has_fd}
+use Rattle.pcb_table.specs.Apart.{does_match, AreApart, has_fd}
 use Rattle.pcb_table.specs.Inside.Fields.{IsCached, IsLowestUnused}
 use Rattle.pcb_table.specs.Inside.Changed.{unbound_block}
 use Rattle.pcb_table.proofs.Descriptors.{named_times, up_to_few, filter_few}
@@ -94,12 +94,6 @@ cached_best bs cache k ip port source apart cached is e =
 
 module _ (i : Interface) (bs : List Block) (last : Option ℕ) (fd : ℕ) (b : Block) (at : find (has_fd fd) bs ≡ Some b)
   where
-    pub sends_from : (ip source : ℕ) → source ≡ source_for (interface_config i) (plain b) ip
-        → SendsFrom (table_of i bs last) fd ip source
-    sends_from ip source e rest queues c found =
-        let same : b ≡ c = same_Some b c (sym at ∙ found) in
-        e ∙ ap (λ (d : Block). source_for (interface_config i) (plain d) ip) same
-
     abbrev destination_faults : (a : Addr) (c : Block) → List (Bool × Errno)
     destination_faults a c =
         (is_some c.peer, IsConnected) ∷ block_connect_faults (interface_config i) bs c

@@ -1,4 +1,4 @@
-use Rattle.std.proofs.Common.{ℕ, cond, length, ap, sym, ◌∙◌, arith, Bool}
+use Rattle.std.proofs.Common.{length, ap, ◌∙◌, arith}
 use Rattle.mbuf_chain.specs.Chain.{chain_of}
 use Rattle.sockbuf.proofs.Measures.{layout_long, references_in, references_are, bag_few, chain_few}
 use Rattle.sockbuf.proofs.measure.memory_of.Goals as goal
@@ -21,14 +21,3 @@ mbufs-init c = record {
   few = chain_few _ _ c.requires c.laws.ensures;
   bag = bag_few (chain_of c.args.pool.now c.args.chain.now).entries;
 }
-
-pub overflow_add-clusters : goal.overflow_add-clusters
-overflow_add-clusters c =
-    omega (
-      arith,
-      c.mbufs.invariant.count,
-      c.mbufs.invariant.few,
-      c.mbufs.invariant.bag,
-      ap references_in c.in-Some.ensures.steps,
-      ap (λ (b : Bool). cond {A = ℕ} b 1 0) (sym c.is_some.ensures ∙ c.if-is_some.true),
-    )
