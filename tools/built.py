@@ -12,6 +12,7 @@ import tempfile
 from typing import Dict, Iterable, Iterator, NamedTuple, Tuple
 
 from tools import crates, llvm, version
+from tools.command_line import Stop
 
 TOP = pathlib.Path(__file__).resolve().parent.parent
 PROGRAMS = {name: TOP / f"crates/{name}/out/{name}" for name in ("bsdudp", "bsdplay")}
@@ -25,10 +26,6 @@ OF_THE_SOURCES = ("docs/maintain/", "docs/DECISIONS.md")
 
 # The bytes of a file, and whether it's executable.
 File = Tuple[bytes, bool]
-
-
-class Lacking(Exception):
-    """What is missing, for the user."""
 
 
 class Need(NamedTuple):
@@ -77,9 +74,9 @@ def add_without(parser: argparse.ArgumentParser, *parts: str) -> None:
 
 
 def demand(wanted: Iterable[Need], without: Iterable[str]) -> None:
-    """Raises Lacking with all that is missing, except the parts that are left out."""
+    """Raises Stop with all that is missing, except the parts that are left out."""
     if llvm.TRIAL:
-        raise Lacking("TRIAL is set, and packages have no unproved parts: unset TRIAL")
+        raise Stop("TRIAL is set, and packages have no unproved parts: unset TRIAL")
     missing = [it for it in wanted if not it.is_there and it.part not in without]
     if not missing:
         return
@@ -88,7 +85,7 @@ def demand(wanted: Iterable[Need], without: Iterable[str]) -> None:
     names = list(dict.fromkeys(it.part for it in missing if it.part))
     if names:
         lines.append(f"What can be left out: {' '.join(f'--without {it}' for it in names)}")
-    raise Lacking("\n".join(lines))
+    raise Stop("\n".join(lines))
 
 
 def package_version() -> str:

@@ -1,6 +1,6 @@
 """The arguments of a script, read by argparse: `--help` prints its docstring, and a wrong argument ends it with a usage
-line and status 2. A script whose reader has ended, as in `SCRIPT | head -1`, ends without a message. A file that the
-command line names and that can't be used ends it with one line and status 1."""
+line and status 2. A script whose reader has ended, as in `SCRIPT | head -1`, ends without a message. These end it with
+one line and status 1: Stop, a program that failed, and a file that the command line names and that can't be used."""
 from __future__ import annotations
 
 import argparse
@@ -8,10 +8,15 @@ import atexit
 import os
 import pathlib
 import select
+import subprocess
 import sys
 from types import TracebackType
 
 TOP = pathlib.Path(__file__).resolve().parent.parent
+
+
+class Stop(Exception):
+    """Why a script can't do its work, as a line for the user."""
 
 
 def script() -> str:
@@ -30,8 +35,8 @@ def parser(about: str | None) -> argparse.ArgumentParser:
 
 
 def end_quietly() -> None:
-    """From now on, a BrokenPipeError of standard output prints nothing, and an OSError of a named file one line. Others
-    print their tracebacks."""
+    """From now on, a BrokenPipeError of standard output prints nothing, and a fault that the user can mend one line.
+    Others print their tracebacks."""
     sys.excepthook = report
     atexit.register(flush)
 
@@ -40,7 +45,9 @@ def report(kind: type[BaseException], fault: BaseException, trace: TracebackType
     """Prints an uncaught exception."""
     if isinstance(fault, BrokenPipeError) and is_unread():
         return
-    if isinstance(fault, OSError) and fault.filename and is_named(fault.filename):
+    if isinstance(fault, (Stop, subprocess.CalledProcessError)):
+        print(f"{script()}: {fault}", file=sys.stderr)
+    elif isinstance(fault, OSError) and fault.filename and is_named(fault.filename):
         print(f"{script()}: {fault.filename}: {fault.strerror}", file=sys.stderr)
     else:
         sys.__excepthook__(kind, fault, trace)

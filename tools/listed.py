@@ -1,12 +1,14 @@
 """The lists that libraries, documents and the web page share, read from the sources: counters, causes, errors,
 settings, forms of lines. tools/lists writes them into files that can't query a program, and page/build writes them into
-the page."""
+the page. Stop means that a source differs from this module's assumptions: if it has moved, change this module, too."""
 from __future__ import annotations
 
 import functools
 import pathlib
 import re
 from typing import Any, NamedTuple
+
+from tools.command_line import Stop
 
 TOP = pathlib.Path(__file__).resolve().parent.parent
 SPECS = TOP / "crates/flat_model/specs"
@@ -28,10 +30,6 @@ OTHER_CAUSES = {
     "IpReclaimed": "unfinished datagram given up for its buffers",
     "OutDropped": "output queue full",
 }
-
-
-class Unread(Exception):
-    """A source differs from this module's assumptions. If it has moved, change this module, too."""
 
 
 class Counter(NamedTuple):
@@ -84,7 +82,7 @@ def pieces(path: str, pattern: str, text: str | None = None) -> list[Any]:
     """Returns all that the pattern finds in a file, or in a part of it. Fails if it finds nothing."""
     found = re.findall(pattern, read(path) if text is None else text)
     if not found:
-        raise Unread(f"{path}: nothing there fits {pattern}")
+        raise Stop(f"{path}: nothing there fits {pattern}")
     return found
 
 
@@ -121,7 +119,7 @@ def rules() -> dict[str, str]:
     found = {why: rule for whys, rule in arms for why in re.findall(r"Why::(\w+)", whys)}
     for why, _ in causes_counted():
         if why not in found:
-            raise Unread(f"{RULES}: which rule does a packet break that ends with {why}?")
+            raise Stop(f"{RULES}: which rule does a packet break that ends with {why}?")
     return found
 
 
@@ -133,7 +131,7 @@ def counters() -> list[Counter]:
     named = named_counters()
     for variant, _ in named:
         if variant not in counts:
-            raise Unread(f"{MEANINGS}: what does {variant} count?")
+            raise Stop(f"{MEANINGS}: what does {variant} count?")
     return [Counter(variant, name, counts[variant], causes.get(variant, "")) for variant, name in named]
 
 
@@ -211,7 +209,7 @@ def codes() -> dict[str, int]:
 def errors_of(name: str, known: dict[str, str]) -> list[str]:
     """Returns the errors in the text of a definition, in order, with those in the lists `.._faults` that it names."""
     if name not in known:
-        raise Unread(f"crates/flat_model/specs/Machine: neither Calls.antt nor Send.antt has the definition {name}")
+        raise Stop(f"crates/flat_model/specs/Machine: neither Calls.antt nor Send.antt has the definition {name}")
     found = []
     for word, lack in re.findall(r"\b(\w+)\b(?: (Pool|Queue)\b)?", known[name]):
         if word.endswith("_faults") and word != name:

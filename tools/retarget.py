@@ -14,6 +14,8 @@ between pointers and numbers, an aggregate in memory, an address step that isn't
 that depends on a layout, an atomic access, a call through a pointer."""
 import re
 
+from tools.command_line import Stop
+
 SIZES = {"i8": 1, "i16": 2, "i32": 4, "i64": 8, "ptr": 8}
 NUMBER = r"(?:i\d+|<\d+ x i\d+>)"
 NAME = r'[%@](?:[\w.$-]+|"[^"]*")'
@@ -29,10 +31,6 @@ ENDS = r"(?:ret|br|switch|unreachable)\b"
 CALL = rf'(?:(?:tail|musttail|notail) )?call (?:[\w() ,]+ )?(?:\{{[^}}]*\}} |[\w<> ]+ )?@(?:[\w.$-]+|"[^"]*")\('
 # Attributes of a call or a head that depend on a struct's layout in memory.
 OF_LAYOUT = r"\b(?:byval|sret|byref|inalloca|preallocated|elementtype)\b"
-
-
-class Stop(Exception):
-    """The first line of an unknown form, with its number and the reason."""
 
 
 class Body:
@@ -184,7 +182,7 @@ def head(line):
 
 
 def retargeted(text, triple, layout):
-    """Returns the module's text for that target."""
+    """Returns the module's text for that target. Raises Stop with the number of the first line of an unknown form."""
     body, inside, made = Body(), False, []
     for number, line in enumerate(text.splitlines(), 1):
         try:

@@ -6,22 +6,20 @@ import pathlib
 import re
 from typing import Optional
 
+from tools.command_line import Stop
+
 TOP = pathlib.Path(__file__).resolve().parent.parent
 # The heading of a version: its number, and its release date or that it isn't released.
 HEADING = re.compile(r"## (\d+\.\d+\.\d+), (?:(\d{4}-\d\d-\d\d)|unreleased)")
 
 
-class NoVersion(Exception):
-    """CHANGELOG.md names no version."""
-
-
 def heading() -> re.Match[str]:
-    """Returns the heading of the newest version, which is the first one."""
+    """Returns the heading of the newest version, which is the first one. Raises Stop if CHANGELOG.md names none."""
     lines = (TOP / "CHANGELOG.md").read_text(encoding="utf-8").split("\n")
     at, first = next(((at, it) for at, it in enumerate(lines, 1) if it.startswith("## ")), (1, ""))
     found = HEADING.fullmatch(first)
     if not found:
-        raise NoVersion(f"CHANGELOG.md:{at}: no `## 1.2.3, unreleased` or `## 1.2.3, 2026-01-31`: {first}")
+        raise Stop(f"CHANGELOG.md:{at}: no `## 1.2.3, unreleased` or `## 1.2.3, 2026-01-31`: {first}")
     return found
 
 
@@ -36,4 +34,4 @@ def released() -> Optional[datetime.date]:
     try:
         return day and datetime.date.fromisoformat(day) or None
     except ValueError as fault:
-        raise NoVersion(f"CHANGELOG.md: {day} is no day") from fault
+        raise Stop(f"CHANGELOG.md: {day} is no day") from fault

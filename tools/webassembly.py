@@ -6,7 +6,8 @@ module for x86-64. clang compiles it, ld.lld links it with a heap in C, and bina
 import re
 import shutil
 
-from tools.llvm import TOP, Stop, readable, run
+from tools.command_line import Stop
+from tools.llvm import TOP, readable, run
 
 LAYOUT = "e-m:e-p:64:64-p10:8:8-p20:8:8-i64:64-i128:128-n32:64-S128"
 TARGET = "wasm64-unknown-unknown"

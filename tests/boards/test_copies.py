@@ -2,7 +2,7 @@
 refuses a core with a copy that it doesn't know."""
 import pytest
 
-from tools.llvm import Stop
+from tools.command_line import Stop
 
 BITS = "core::ptr::copy_drop::copy_bits::<i8>"
 MOVE = "call void @llvm.memmove.p0.p0.i64(ptr %a1, ptr %a0, i64 {}, i1 false)"

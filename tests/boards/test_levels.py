@@ -5,7 +5,7 @@ import re
 import pytest
 
 from tests.cases import TOP
-from tools.llvm import Stop
+from tools.command_line import Stop
 
 WAY = r"""
 /// .*

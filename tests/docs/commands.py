@@ -76,7 +76,6 @@ ROWS = {
     "cd crates/ip_out": Row("definitions", "crates/ip_out"),
     "rt lemma StepBy": Row("definitions", "StepBy"),
     "rt lemma head_fault": Row("definitions", "head_fault"),
-    "tools/callers write": Row("crates", "tools/callers"),
     "tools/lists write": Row("lists", "tools/lists"),
 }
 class Session(NamedTuple):

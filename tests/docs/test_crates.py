@@ -1,9 +1,7 @@
 """What pages say about the crates: their names and the crates that each uses, the toolchain's libraries, files with raw
-pointers, calls that other crates make, mutants that the prover rejects, and callers in READMEs."""
+pointers, calls that other crates make, and mutants that the prover rejects."""
 import functools
 import re
-import subprocess
-import sys
 
 import pytest
 
@@ -132,12 +130,3 @@ def test_wrong_definitions_apply_to_the_joined_crate(tmp_path):
     assert there
     for text in there.values():
         assert set(edits.applied(edits.pairs_in(text), tmp_path)) <= {f"specs/Machine/{name}.antt" for name in ("State", "Send")}
-
-
-# ---- callers -------------------------------------------------------------------------------------------------------
-
-
-def test_callers_of_readmes():
-    """The caller in a crate's README is a file of crates/callers, which the gate proves."""
-    done = subprocess.run([sys.executable, TOP / "tools/callers"], capture_output=True, text=True, check=False)
-    assert done.returncode == 0 and not done.stderr + done.stdout, done.stderr + done.stdout

@@ -1,5 +1,5 @@
-"""The lists of counters, causes, errors, commands and settings are those that tools/lists writes. It finds each list
-that isn't."""
+"""The lists of counters, causes, errors, commands and settings, and the callers of READMEs, are those that tools/lists
+writes. It finds each list that isn't."""
 import importlib.machinery
 import importlib.util
 import subprocess
