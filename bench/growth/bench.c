@@ -23,88 +23,59 @@ uint32_t bsdudp_oldest_keys(const uint8_t *first, size_t first_len, const uint8_
 static const uint8_t bytes[MOST];
 static uint8_t packets[MOST_FRAGMENTS * PACKETS_APART];
 
-static uint32_t sent(size_t len, uint32_t mbufs, uint32_t sockets, uint32_t at, uint32_t turns)
+/* To which socket or datagram, and in which order. */
+enum { OLDEST, NEWEST, IN_ORDER, REVERSED };
+
+static uint32_t to_socket(uint32_t sockets, uint32_t which, uint32_t turns)
 {
-    return bsdudp_send_and_receive(bytes, len, mbufs, (uint8_t)sockets, (uint8_t)at, turns);
+    uint32_t at = which == OLDEST ? 0 : sockets - 1;
+    return bsdudp_send_and_receive(bytes, 2, MBUFS, (uint8_t)sockets, (uint8_t)at, turns);
 }
 
-static uint32_t to_oldest(uint32_t sockets, uint32_t turns)
+static uint32_t from_pool(uint32_t mbufs, uint32_t len, uint32_t turns)
 {
-    return sent(2, MBUFS, sockets, 0, turns);
+    return bsdudp_send_and_receive(bytes, len, mbufs, 1, 0, turns);
 }
 
-static uint32_t to_newest(uint32_t sockets, uint32_t turns)
+/* The two fragments of a datagram. */
+static uint32_t two_fragments(uint32_t held, uint32_t which, uint32_t turns)
 {
-    return sent(2, MBUFS, sockets, sockets - 1, turns);
-}
-
-static uint32_t short_one(uint32_t mbufs, uint32_t turns)
-{
-    return sent(2, mbufs, 1, 0, turns);
-}
-
-static uint32_t long_one(uint32_t mbufs, uint32_t turns)
-{
-    return sent(MOST, mbufs, 1, 0, turns);
-}
-
-/* The two fragments of a datagram, and the offset of the second. */
-static const uint8_t *two_fragments(void)
-{
+    enum { LEN = PACKET_HEADER + PIECE };
     uint8_t *last = packets + PACKETS_APART;
     put_fragment(packets, PROTOCOL, 0, PIECE, 2 * PIECE);
     put_fragment(last, PROTOCOL, 1, PIECE, 2 * PIECE);
-    return last;
+    return (which == OLDEST ? bsdudp_oldest_keys : bsdudp_new_keys)(packets, LEN, last, LEN, (uint16_t)held, turns);
 }
 
-static uint32_t new_key(uint32_t held, uint32_t turns)
+static uint32_t fragments(uint32_t count, uint32_t order, uint32_t turns)
 {
-    const uint8_t *last = two_fragments();
-    return bsdudp_new_keys(packets, PACKET_HEADER + PIECE, last, PACKET_HEADER + PIECE, (uint16_t)held, turns);
-}
-
-static uint32_t oldest_key(uint32_t held, uint32_t turns)
-{
-    const uint8_t *last = two_fragments();
-    return bsdudp_oldest_keys(packets, PACKET_HEADER + PIECE, last, PACKET_HEADER + PIECE, (uint16_t)held, turns);
-}
-
-static uint32_t fragments(uint32_t count, bool reversed, uint32_t turns)
-{
-    for (uint32_t at = 0; at < count; at++)
-        put_fragment(packets + at * PACKETS_APART, PROTOCOL, reversed ? count - 1 - at : at, PIECE, count * PIECE);
+    for (uint32_t at = 0; at < count; at++) {
+        uint32_t piece = order == REVERSED ? count - 1 - at : at;
+        put_fragment(packets + at * PACKETS_APART, PROTOCOL, piece, PIECE, count * PIECE);
+    }
     return bsdudp_reassemble(packets, (size_t)count * PACKETS_APART, ALL_MBUFS, turns);
-}
-
-static uint32_t in_order(uint32_t count, uint32_t turns)
-{
-    return fragments(count, false, turns);
-}
-
-static uint32_t reversed(uint32_t count, uint32_t turns)
-{
-    return fragments(count, true, turns);
 }
 
 typedef struct {
     const char *grows, *counted, *sizes;
     uint32_t turns; /* that are compared with one */
     uint32_t each;  /* how often a turn does the counted work; 0 means the size */
-    uint32_t (*run)(uint32_t size, uint32_t turns);
+    uint32_t (*run)(uint32_t size, uint32_t what, uint32_t turns);
+    uint32_t what;
 } Line;
 
 static const Line LINES[] = {
     {"Open sockets of each stack", "2 bytes from one stack to another, to the oldest socket", "1 8 16 32 64", 65, 1,
-     to_oldest},
-    {"Open sockets of each stack", "to the newest", "1 8 16 32 64", 65, 1, to_newest},
+     to_socket, OLDEST},
+    {"Open sockets of each stack", "to the newest", "1 8 16 32 64", 65, 1, to_socket, NEWEST},
     {"Other datagrams that are unfinished", "a fragment of a new one, which has two", "0 10 100 1000 10000", 65, 2,
-     new_key},
+     two_fragments, NEWEST},
     {"Other datagrams that are unfinished", "a fragment of the oldest, which is completed and begun again",
-     "0 10 100 1000 10000", 65, 2, oldest_key},
-    {"Fragments of one datagram, of 8 bytes each", "each, in order", "7 45 250 1000 8000", 2, 0, in_order},
-    {"Fragments of one datagram, of 8 bytes each", "each, reversed", "7 45 250 1000 8000", 2, 0, reversed},
-    {"Mbufs of the pool", "2 bytes from one stack to another", "64 512 4096 16384 65535", 65, 1, short_one},
-    {"Mbufs of the pool", "1,472 bytes", "64 512 4096 16384 65535", 65, 1, long_one},
+     "0 10 100 1000 10000", 65, 2, two_fragments, OLDEST},
+    {"Fragments of one datagram, of 8 bytes each", "each, in order", "7 45 250 1000 8000", 2, 0, fragments, IN_ORDER},
+    {"Fragments of one datagram, of 8 bytes each", "each, reversed", "7 45 250 1000 8000", 2, 0, fragments, REVERSED},
+    {"Mbufs of the pool", "2 bytes from one stack to another", "64 512 4096 16384 65535", 65, 1, from_pool, 2},
+    {"Mbufs of the pool", "1,472 bytes", "64 512 4096 16384 65535", 65, 1, from_pool, MOST},
 };
 
 int main(int argc, char **argv)
@@ -117,6 +88,7 @@ int main(int argc, char **argv)
     }
     if (argc != 5 || strcmp(argv[1], "turns") || atoi(argv[2]) >= COUNT_OF(LINES))
         return 2;
+    const Line *line = &LINES[atoi(argv[2])];
     uint32_t turns = (uint32_t)atoi(argv[4]);
-    return LINES[atoi(argv[2])].run((uint32_t)atoi(argv[3]), turns) == turns ? 0 : 1;
+    return line->run((uint32_t)atoi(argv[3]), line->what, turns) == turns ? 0 : 1;
 }
