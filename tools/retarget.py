@@ -22,8 +22,6 @@ NAME = r'[%@](?:[\w.$-]+|"[^"]*")'
 ADDRESS = rf"(?:{NAME}|getelementptr (?:inbounds |nuw |nusw )*\(i8, ptr {NAME}, i64 -?\d+\))"
 MEMBER = r"(i8|i16|i32|i64|ptr)"
 NOTES = r"(?:, ![\w.]+ !(?:\d+|\{[^}]*\}))*"
-# Attributes of a target, and of unwind tables, which aren't used.
-OF_TARGET = r' "(?:probe-stack|stack-probe-size|target-cpu|target-features|tune-cpu)"="[^"]*"| uwtable(?:\(\w+\))?'
 # Beginnings of instructions that access no memory and convert no pointer to a number. The rest of the line is free.
 PLAIN = r"(?:add|sub|mul|udiv|urem|sdiv|srem|shl|lshr|ashr|and|or|xor|icmp|select|phi|zext|sext|trunc|freeze|bitcast"
 PLAIN += r"|extractvalue|insertvalue|extractelement|insertelement|shufflevector)\b"
@@ -162,13 +160,11 @@ def outside(line):
         if not re.match(r"declare (?:[\w()]+ )*\{ i64, i64 \} @rattle_alloc\(i64[^,%]*, i64[^,%]*\)", line):
             raise Stop("rattle_alloc in another form")
         return ALLOC
-    if line.startswith("attributes "):
-        return re.sub(OF_TARGET, "", line)
     if re.match(r"declare [^@]*@rattle_realloc\(", line):
         return line  # it's neither called nor defined: if that changes, the linker reports it
     if line.startswith("declare ") and re.search(rf"{OF_LAYOUT}|\{{.*@", line):
         raise Stop("a function of C that hands a struct over")
-    if not re.match(r"declare |source_filename = |; |!|$", line):
+    if not re.match(r"declare |target |attributes |source_filename = |; |!|$", line):
         raise Stop("a form that isn't known")
     return line
 
@@ -181,15 +177,13 @@ def head(line):
     return line
 
 
-def retargeted(text, triple, layout):
-    """Returns the module's text for that target. Raises Stop with the number of the first line of an unknown form."""
+def retargeted(text):
+    """Returns the module's text for such a processor. Raises Stop with the number of the first line of an unknown
+    form."""
     body, inside, made = Body(), False, []
     for number, line in enumerate(text.splitlines(), 1):
         try:
-            if line.startswith("target "):
-                what = re.match(r"target (datalayout|triple) = ", line)[1]
-                made.append(f'target {what} = "{layout if what == "datalayout" else triple}"')
-            elif inside:
+            if inside:
                 inside = line != "}"
                 made += body.rewritten(line.partition(" ; ")[0] if ":" in line else line) if inside else [line]
             elif line.startswith("define "):

@@ -7,7 +7,7 @@ import re
 import shutil
 
 from tools.command_line import Stop
-from tools.llvm import TOP, readable, run
+from tools.llvm import TOP, readable, run, with_target
 
 LAYOUT = "e-m:e-p:64:64-p10:8:8-p20:8:8-i64:64-i128:128-n32:64-S128"
 TARGET = "wasm64-unknown-unknown"
@@ -23,12 +23,7 @@ PORTABLE = ("c/arena.c", ["-O2"], ["--no-stack-first", "--global-base=16"], ["-O
 
 def retargeted(text):
     """Returns the module's text with another target, and the functions that it exports."""
-    text, layouts = re.subn(r'(?m)^target datalayout = ".*"$', f'target datalayout = "{LAYOUT}"', text)
-    text, triples = re.subn(r'(?m)^target triple = ".*"$', f'target triple = "{TARGET}"', text)
-    if layouts != 1 or triples != 1:
-        raise Stop("the LLVM module names no target in the way that is known here")
-    of_cpu = r' "(?:probe-stack|stack-probe-size|target-cpu|target-features|tune-cpu)"="[^"]*"'
-    text = re.sub(r"(?m)^attributes .*$", lambda it: re.sub(of_cpu, "", it[0]), text)
+    text = with_target(text, TARGET, LAYOUT)
     called = {it for it in re.findall(r"(?m)^declare [^@]*@([\w.]+)\(", text) if not it.startswith("llvm.")}
     if called - OF_HEAP:
         raise Stop(f"the module calls {', '.join(sorted(called - OF_HEAP))}, which heap.c doesn't have")
@@ -43,8 +38,7 @@ def compiled(module, kit, scratch, made):
     """Returns the module for WebAssembly with a 64-bit memory, linked with its heap."""
     heap, level, layout, _ = made
     clang = kit / "toolchain/bin/clang"
-    text = readable(module, kit, scratch)
-    text, exports = retargeted(text)
+    text, exports = retargeted(readable(module, kit, scratch))
     (scratch / "wasm.ll").write_text(text)
     how = ["-c", f"--target={TARGET}", "-mcpu=lime1", "-mllvm", "-expand-div-rem-bits=64", *level]
     how += ["-ffunction-sections", "-fdata-sections"]

@@ -118,7 +118,7 @@ def function(line):
 
 
 def rewritten(text):
-    return retarget.retargeted(text, "arm", "e").splitlines()
+    return retarget.retargeted(text).splitlines()
 
 
 def named(line):
