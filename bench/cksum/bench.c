@@ -139,17 +139,11 @@ static const Row ROWS[] = {
     {"c-avx2", sum, &BODIES[6]},
 };
 
-static bool has_avx2(void)
+static bool agree(const Table *table, size_t len)
 {
-    return __builtin_cpu_supports("avx2");
-}
-
-static bool agree(size_t len)
-{
-    for (int k = 0; k < COUNT_OF(BODIES); k++)
-        if (BODIES[k] != by_memcpy && (BODIES[k] != c_avx2 || has_avx2()) &&
-            BODIES[k](bytes, len) != c_plain(bytes, len)) {
-            fprintf(stderr, "body %d differs at %zu bytes\n", k, len);
+    for (int k = 0; k < table->row_count; k++)
+        if (BODIES[k] != by_memcpy && BODIES[k](bytes, len) != c_plain(bytes, len)) {
+            fprintf(stderr, "%s differs at %zu bytes\n", ROWS[k].name, len);
             return false;
         }
     return true;
@@ -157,14 +151,13 @@ static bool agree(size_t len)
 
 int main(int argc, char **argv)
 {
-    Table table = {"a sum of bytes, ns", COLUMNS, COUNT_OF(COLUMNS), ROWS, COUNT_OF(ROWS)};
-    if (!has_avx2())
-        table.row_count--;
+    const int rows = COUNT_OF(ROWS) - !__builtin_cpu_supports("avx2");
+    const Table table = {"a sum of bytes, ns", COLUMNS, COUNT_OF(COLUMNS), ROWS, rows};
     fill_bytes(bytes, MOST);
     for (size_t len = 0; argc == 1 && len <= 3000; len++)
-        if (!agree(len))
+        if (!agree(&table, len))
             return 1;
-    if (argc == 1 && !agree(MOST))
+    if (argc == 1 && !agree(&table, MOST))
         return 1;
     return bench_main(argc, argv, &table);
 }

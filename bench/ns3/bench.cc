@@ -123,11 +123,7 @@ Compare(const char* name, uint64_t wanted, int rounds, const std::function<uint6
             const double before = UserTime();
             const uint64_t came = run(ours);
             least[ours] = std::min(least[ours], UserTime() - before);
-            if (came != wanted)
-            {
-                std::fprintf(stderr, "%s: %llu came\n", name, static_cast<unsigned long long>(came));
-                std::exit(1);
-            }
+            NS_ABORT_MSG_IF(came != wanted, name << ": " << came << " came");
         }
     }
     std::printf("| %s | %.0f | %.0f | %.2f |\n", name, least[1], least[0], least[1] / least[0]);
@@ -143,17 +139,13 @@ enum Kind
     DEFAULT,
 };
 
-/// The resident memory of a process with this many nodes, in bytes.
+/// The most resident memory of a process with this many nodes, in KB.
 double
 Resident(uint32_t count, Kind kind)
 {
-    int ends[2];
-    long pages = 0;
-    if (pipe(ends) != 0)
-    {
-        std::exit(1);
-    }
-    if (fork() == 0)
+    const pid_t process = fork();
+    NS_ABORT_IF(process < 0);
+    if (process == 0)
     {
         NodeContainer nodes;
         NetDeviceContainer devices;
@@ -173,21 +165,12 @@ Resident(uint32_t count, Kind kind)
         {
             Install(kind != OWN, nodes, devices, addresses);
         }
-        long all = 0;
-        FILE* file = std::fopen("/proc/self/statm", "r");
-        const bool read = file && std::fscanf(file, "%ld %ld", &all, &pages) == 2;
-        _exit(read && write(ends[1], &pages, sizeof pages) == sizeof pages ? 0 : 1);
+        _exit(0);
     }
-    const bool told = read(ends[0], &pages, sizeof pages) == sizeof pages;
-    int status = 0;
-    wait(&status);
-    close(ends[0]);
-    close(ends[1]);
-    if (!told || status != 0)
-    {
-        std::exit(1);
-    }
-    return static_cast<double>(pages) * sysconf(_SC_PAGESIZE);
+    int status;
+    rusage usage;
+    NS_ABORT_IF(wait4(process, &status, 0, &usage) != process || status != 0);
+    return usage.ru_maxrss * 1.024;
 }
 
 } // namespace
@@ -217,7 +200,7 @@ main()
         const uint32_t counts[2] = {100, 1000};
         for (int i = 0; i < 2; i++)
         {
-            each[i] = (Resident(counts[i], row.kind) - Resident(counts[i], DEVICES)) / counts[i] / 1e3;
+            each[i] = (Resident(counts[i], row.kind) - Resident(counts[i], DEVICES)) / counts[i];
         }
         std::printf("| %s | %.1f | %.1f |\n", row.name, each[0], each[1]);
         std::fflush(stdout);

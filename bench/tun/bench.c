@@ -10,17 +10,13 @@
  * Each is the median of all rounds. ROUNDS sets another number than 100.
  */
 #define _GNU_SOURCE
+#include "timer.h"
+
 #include <arpa/inet.h>
 #include <sched.h>
 #include <signal.h>
-#include <stdbool.h>
-#include <stdint.h>
-#include <stdio.h>
-#include <stdlib.h>
-#include <string.h>
 #include <sys/socket.h>
 #include <sys/wait.h>
-#include <time.h>
 #include <unistd.h>
 
 enum { HOSTS = 8, SIZES = 3, MOST = 9000, UNDER_WAY = 16, PORT = 7, IP_DISCOVER = 10, MOST_ROUNDS = 1000 };
@@ -214,8 +210,7 @@ int main(int argc, char **argv)
     int rounds = getenv("ROUNDS") ? atoi(getenv("ROUNDS")) : 100;
     if (rounds < 1 || rounds > MOST_ROUNDS)
         stop("ROUNDS is 1 to 1000");
-    for (int k = 0; k < MOST; k++)
-        bytes[k] = (uint8_t)(k % 251);
+    fill_bytes(bytes, MOST);
     for (int k = 1; k < argc && host_count < HOSTS - 1; k++) {
         char *program = strchr(argv[k], '=');
         if (program == NULL)

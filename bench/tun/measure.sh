@@ -17,6 +17,6 @@ measure_tun() { # WORK
         with_lwip "$bench/board/lwip.c" "$1/lwip_O3" -DTUN "${lwip_fast[@]}" -DPEERS_SUM
         hosts+=("lwIP -O2=$1/lwip_O2" "lwIP -O3 -flto, no asserts, a sum by SSE2=$1/lwip_O3")
     fi
-    "${CC:-gcc}" "${flags[@]}" -o "$1/bench" "$bench/tun/bench.c"
+    "${CC:-gcc}" "${flags[@]}" -o "$1/bench" -I "$bench" "$bench/tun/bench.c"
     "$1/bench" "${hosts[@]}"
 }
