@@ -1,26 +1,34 @@
-use Rattle.std.proofs.Common.{ℕ, ◌-◌, ◌≤◌, cond, List, [], length, count_by, ap, ◌∙◌, arith}
+use Rattle.std.proofs.Common.{◌≡◌, ℕ, cond, List, [], ◌∷◌, length, count_by, ap, ◌∙◌, arith}
 use Rattle.std.specs.Prelude.{Result, Ok, Err, OnOk}
 use Rattle.std.proofs.lemmas.Result.{IfOk-weaker, on_err_weaker, on_ok_weaker}
 use Rattle.std.proofs.lemmas.List.Sums.{sum_by-cons}
 use Rattle.flat_model.specs.Amounts.Layout.{Room, Plain, is_cluster}
+use Rattle.chain_ops.specs.Stored.{rooms_for}
 use Rattle.chain_ops.proofs.Filling.{filled_one, has, lacks}
 use Rattle.chain_ops.proofs.Laws.Makes.{makes_new}
 use Rattle.chain_ops.proofs.Stored.{few_rooms, few_stored, none_free}
 use Rattle.chain_ops.proofs.store.store.Goals as goal
+use Rattle.chain_ops.proofs.store.store.Goals.{In-InMbuf}
+
+-- the bytes fit in one plain mbuf
+rooms : (c : In-InMbuf) → rooms_for c.args.large (length c.args.bytes.now) ≡ Plain (length c.args.bytes.now) ∷ []
+rooms c = few_rooms c.args.large (length c.args.bytes.now) c.requires.large (omega (arith, c.in-InMbuf.ensures.0))
+
+no_cluster : (c : In-InMbuf) → count_by is_cluster (rooms_for c.args.large (length c.args.bytes.now)) ≡ 0
+no_cluster c =
+    omega (
+      arith,
+      ap (count_by is_cluster) (rooms c),
+      sum_by-cons (λ (r : Room). cond {A = ℕ} (is_cluster r) 1 0) (Plain (length c.args.bytes.now)) [],
+    )
 
 pub returns-in-InMbuf-clause-ok : goal.returns-in-InMbuf-clause-ok
 returns-in-InMbuf-clause-ok c =
-    let size : ℕ = length c.args.bytes.now in
-    let rooms = few_rooms c.args.large size c.requires.large (omega (arith, c.in-InMbuf.ensures.0)) in
     IfOk-weaker c.new_plain_with.result _ _ (λ d a.
     let m = makes_new a in (
       [],
       none_free c.args.pool.now,
-      omega (
-        arith,
-        ap (count_by is_cluster) rooms,
-        sum_by-cons (λ (r : Room). cond {A = ℕ} (is_cluster r) 1 0) (Plain size) [],
-      ),
+      omega (arith, no_cluster (goal.at.returns-in-InMbuf-clause-ok c).In-InMbuf),
       record {
         adds = m.adds;
         front = m.front;
@@ -32,15 +40,10 @@ returns-in-InMbuf-clause-ok c =
 
 pub returns-in-InMbuf-clause-enough : goal.returns-in-InMbuf-clause-enough
 returns-in-InMbuf-clause-enough c =
-    let size : ℕ = length c.args.bytes.now in
-    let rooms = few_rooms c.args.large size c.requires.large (omega (arith, c.in-InMbuf.ensures.0)) in
+    let at = (goal.at.returns-in-InMbuf-clause-enough c).In-InMbuf in
     on_ok_weaker c.new_plain_with.result (λ less. (
-      omega (arith, less, ap (λ (rs : List Room). length rs) rooms),
-      omega (
-        arith,
-        ap (count_by is_cluster) rooms,
-        sum_by-cons (λ (r : Room). cond {A = ℕ} (is_cluster r) 1 0) (Plain size) [],
-      ),
+      omega (arith, less, ap (λ (rs : List Room). length rs) (rooms at)),
+      omega (arith, no_cluster at),
     )) c.new_plain_with.ensures.free
 
 pub returns-in-InCluster-clause-ok : goal.returns-in-InCluster-clause-ok
@@ -52,11 +55,9 @@ returns-in-InCluster-clause-ok c =
 
 pub returns-in-InCluster-clause-err : goal.returns-in-InCluster-clause-err
 returns-in-InCluster-clause-err c =
-    let size : ℕ = length c.args.bytes.now in
-    let many : 208 ≤ size = omega (arith, c.in-InCluster.ensures.0) in
-    let few : size ≤ 2048 - c.args.large = omega (arith, c.in-InCluster.ensures.1) in
-    on_err_weaker c.new_cluster_with.result (lacks c.args.large size c.requires.large many few c.args.pool.now)
-    c.new_cluster_with.ensures.err
+    on_err_weaker c.new_cluster_with.result
+    (lacks c.args.large (length c.args.bytes.now) c.requires.large (omega (arith, c.in-InCluster.ensures.0))
+    (omega (arith, c.in-InCluster.ensures.1)) c.args.pool.now) c.new_cluster_with.ensures.err
 
 both : {T E P Q R : Type 0} (r : Result T E) → (P → Q → R) → OnOk r P → OnOk r Q → OnOk r R
 both (Ok x) f p q = f p q
@@ -64,8 +65,7 @@ both (Err e) f p q = tt
 
 pub returns-in-InCluster-clause-enough : goal.returns-in-InCluster-clause-enough
 returns-in-InCluster-clause-enough c =
-    let size : ℕ = length c.args.bytes.now in
-    let many : 208 ≤ size = omega (arith, c.in-InCluster.ensures.0) in
-    let few : size ≤ 2048 - c.args.large = omega (arith, c.in-InCluster.ensures.1) in
-    both c.new_cluster_with.result (has c.args.large size c.requires.large many few c.args.pool.now)
-    c.new_cluster_with.ensures.free c.new_cluster_with.ensures.cluster
+    both c.new_cluster_with.result
+    (has c.args.large (length c.args.bytes.now) c.requires.large (omega (arith, c.in-InCluster.ensures.0))
+    (omega (arith, c.in-InCluster.ensures.1)) c.args.pool.now) c.new_cluster_with.ensures.free
+    c.new_cluster_with.ensures.cluster

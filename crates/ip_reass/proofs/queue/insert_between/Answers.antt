@@ -1,5 +1,5 @@
 use Rattle.std.proofs.Common.{refl, sym, ap, ◌∙◌, arith, ℕ, ◌+◌, ◌-◌, ◌++◌, ◌∷◌, take, drop, ◌≡◌}
-use Rattle.ip_reass.specs.Fragments.{bytes_held, fragment_of, fragments, cut, cut_to, queued, queued_end}
+use Rattle.ip_reass.specs.Fragments.{QueuedFragment, bytes_held, fragment_of, fragments, cut, cut_to, queued, queued_end}
 use Rattle.ip_reass.specs.Inside.Walks.{arrived, after, reach}
 use Rattle.ip_reass.proofs.Counted.{held_as, fragments_as}
 use Rattle.ip_reass.proofs.Inserts.{Covered, covered_in, Inserted, inserted_in, Settled, reaches}
@@ -39,13 +39,14 @@ insert_trimmed-gone-requires-clause-clear c =
       few = held_within (fragments c.args.pool.now c.args.datagram.now.fragments) q.apart q.small;
     }
 
+abbrev came : (c : After-insert_trimmed-gone) → QueuedFragment
+came c = arrived c.args.pool.now c.args.chain c.args.span.offset c.args.span.more
+
 done : (c : After-insert_trimmed-gone)
     → Settled c.args.pool.now c.args.datagram.now.fragments (after c.walk_to-before.result.front)
-    c.saturating_sub-lost.result c.args.chain
-    (arrived c.args.pool.now c.args.chain c.args.span.offset c.args.span.more) c.insert_trimmed-gone.new.pool
-    c.insert_trimmed-gone.new.train
+    c.saturating_sub-lost.result c.args.chain (came c) c.insert_trimmed-gone.new.pool c.insert_trimmed-gone.new.train
 done c =
-    let here = arrived c.args.pool.now c.args.chain c.args.span.offset c.args.span.more in
+    let here = came c in
     let i = after c.walk_to-before.result.front in
     let were = queued c.args.pool.now c.args.datagram.now.fragments in
     record {
@@ -57,14 +58,12 @@ done c =
     }
 
 some : (c : After-insert_trimmed-gone)
-    → Inserted c.args.pool.now c.args.datagram.now.fragments
-    (arrived c.args.pool.now c.args.chain c.args.span.offset c.args.span.more) c.insert_trimmed-gone.new.pool
+    → Inserted c.args.pool.now c.args.datagram.now.fragments (came c) c.insert_trimmed-gone.new.pool
     c.insert_trimmed-gone.new.train
 some c =
     inserted_in c.args.pool.now c.insert_trimmed-gone.new.pool c.args.datagram.now.fragments
-    c.insert_trimmed-gone.new.train
-    (after c.walk_to-before.result.front) c.saturating_sub-lost.result c.args.chain
-    (arrived c.args.pool.now c.args.chain c.args.span.offset c.args.span.more) c.requires.queue
+    c.insert_trimmed-gone.new.train (after c.walk_to-before.result.front) c.saturating_sub-lost.result c.args.chain
+    (came c) c.requires.queue
     c.walk_to-before.ensures.upto c.walk_to-before.ensures.above (omega arith) (omega arith) c.requires.small (done c)
 
 counted : (c : After-from)

@@ -16,8 +16,7 @@ overflow_add-head c =
 
 pub resize-requires-clause-low : goal.resize-requires-clause-low
 resize-requires-clause-low c =
-    let k = shown_at c.requires.place in
-    omega (arith, k.fit.low, ap (λ (h : Head). h.start) c.head-head.ensures.value)
+    omega (arith, (shown_at c.requires.place).fit.low, ap (λ (h : Head). h.start) c.head-head.ensures.value)
 
 pub resize-requires-clause-high : goal.resize-requires-clause-high
 resize-requires-clause-high c =
@@ -32,12 +31,10 @@ returns c =
     record {
       pool = c.resize.ensures.pool;
       change =
-          c.resize.ensures.change
-          ∙ ap (λ (h : Head). with_chain (pool_of s) c.args.first
+          c.resize.ensures.change ∙ ap (λ (h : Head). with_chain (pool_of s) c.args.first
           (with_entry (chain_of (pool_of s) c.args.first) at.index
           (entry_from s at.cell (with_segment (Rattle.mbuf_pool.specs.Store.mbuf_head s at.cell) (h.start + c.args.skip)
-          c.args.keep)))) c.head-head.ensures.value
-          ∙ ap (λ (e : Entry). with_chain (pool_of s) c.args.first
+          c.args.keep)))) c.head-head.ensures.value ∙ ap (λ (e : Entry). with_chain (pool_of s) c.args.first
           (with_entry (chain_of (pool_of s) c.args.first) at.index e)) (narrowed_is s c.args.first c.args.skip c.args.keep
           at k (omega (arith, k.long, c.requires.within)));
     }

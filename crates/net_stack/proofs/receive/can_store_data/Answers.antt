@@ -6,12 +6,16 @@ use Rattle.ledger.specs.Reserve.{are_free}
 use Rattle.chain_ops.specs.declared.store.Space.{Space}
 use Rattle.sock_calls.specs.Whole.{HasOne, HasSpace}
 use Rattle.net_stack.proofs.receive.can_store_data.Goals as goal
+use Rattle.net_stack.proofs.receive.can_store_data.Goals.{In-InCluster}
+
+space : (c : In-InCluster) → HasOne c.args.pool.now (length c.args.packet.now) true
+space c =
+    subst (λ (s : Space). HasSpace c.args.pool.now (length c.args.packet.now) s) c.in-InCluster.is c.requires.space
 
 pub returns-in-InCluster : goal.returns-in-InCluster
 returns-in-InCluster c = λ e.
     let p = c.args.pool.now in
-    let has : HasOne p (length c.args.packet.now) true =
-    subst (λ (s : Space). HasSpace p (length c.args.packet.now) s) c.in-InCluster.is c.requires.space in
+    let has = space (goal.at.returns-in-InCluster c).In-InCluster in
     let free : are_free p 2 1 ≡ true =
     λ i. le-leb 2 (p.mbufs - held_mbufs p) (omega (arith, has.mbufs)) i
     && le-leb 1 (free_clusters p) has.clusters i in
@@ -22,12 +26,7 @@ returns-in-InCluster c = λ e.
 
 pub is_sound-requires-clause-header : goal.is_sound-requires-clause-header
 is_sound-requires-clause-header c =
-    let has : HasOne c.args.pool.now (length c.args.packet.now) true =
-    subst (λ (s : Space). HasSpace c.args.pool.now (length c.args.packet.now) s) c.in-InCluster.is c.requires.space in
-    omega (arith, has.begins)
+    omega (arith, (space (goal.at.is_sound-requires-clause-header c).In-InCluster).begins)
 
 pub is_sound-requires-clause-most : goal.is_sound-requires-clause-most
-is_sound-requires-clause-most c =
-    let has : HasOne c.args.pool.now (length c.args.packet.now) true =
-    subst (λ (s : Space). HasSpace c.args.pool.now (length c.args.packet.now) s) c.in-InCluster.is c.requires.space in
-    omega (arith, has.fits)
+is_sound-requires-clause-most c = omega (arith, (space (goal.at.is_sound-requires-clause-most c).In-InCluster).fits)

@@ -2,26 +2,31 @@ use Rattle.std.proofs.Common.{◌≡◌, ◌<◌, ◌≤◌, ℕ, List, length, 
 use Rattle.std.specs.Prelude.{true, None, Some}
 use Rattle.std.proofs.lemmas.Grind.{common_steps}
 use Rattle.flat_model.specs.Packets.Header.{u16_at, udp_fault}
+use Rattle.flat_model.specs.declared.counters.Why.{Why}
 use Rattle.flat_model.specs.declared.counters.Why.TheVariants.{UdpBadLength, UdpHeaderDrops}
 use Rattle.ip_out.specs.declared.head.IpHead.{IpHead}
 use Rattle.ip_out.specs.Headed.{carried_of}
 use Rattle.udp.specs.declared.header.Header.{Header}
+use Rattle.udp.specs.Checked.{datagram_fault}
 use Rattle.udp.specs.Inside.{has_right_sum, header_in}
 use Rattle.udp.proofs.Reading.{carried_length, data_are, fault_of_packet}
 use Rattle.udp.proofs.checked.read.Goals as goal
-use Rattle.udp.proofs.checked.read.Goals.{then-carried-header-via-then-carried-header, then-carried-header-via-else-carried-header+then-header-lt-UDP_HEADER}
+use Rattle.udp.proofs.checked.read.Goals.{After-carried-carried, then-carried-header-via-then-carried-header, then-carried-header-via-else-carried-header+then-header-lt-UDP_HEADER}
+
+-- the packet has the fault of the datagram that it carries
+fault : (c : After-carried-carried) (why : Why)
+    → udp_fault c.head-head.result.src c.head-head.result.dst c.carried-carried.result.now ≡ Some why
+    → datagram_fault c.args.packet.packet.now ≡ Some why
+fault c why =
+    fault_of_packet c.args.packet.packet.now _ c.head-head.result why c.head-head.ensures
+    c.if-head-ne-PROTOCOL_UDP.false c.carried-carried.ensures
 
 pub returns-in_default : goal.returns-in_default
 returns-in_default c =
     let few : length c.carried-carried.result.now < 8 = omega (arith, c.in_default.ensures.cases) in
     let e : udp_fault c.head-head.result.src c.head-head.result.dst c.carried-carried.result.now
     ≡ Some UdpHeaderDrops = first_of (search rules, grind (arith, common_steps)) in
-    let head = c.head-head.ensures in
-    let kind = c.if-head-ne-PROTOCOL_UDP.false in
-    record {
-      packet = tt;
-      err = fault_of_packet c.args.packet.packet.now _ c.head-head.result _ head kind c.carried-carried.ensures e;
-    }
+    record { packet = tt; err = fault (goal.at.returns-in_default c).After-carried-carried UdpHeaderDrops e }
 
 pub returns-then-carried-header : goal.returns-then-carried-header
 returns-then-carried-header c =
@@ -35,12 +40,7 @@ returns-then-carried-header c =
       | then-carried-header-via-else-carried-header+then-header-lt-UDP_HEADER w ↦
           first_of (search rules, grind (arith, common_steps))
     ] in
-    let head = c.head-head.ensures in
-    let kind = c.if-head-ne-PROTOCOL_UDP.false in
-    record {
-      packet = tt;
-      err = fault_of_packet c.args.packet.packet.now _ c.head-head.result _ head kind c.carried-carried.ensures e;
-    }
+    record { packet = tt; err = fault (goal.at.returns-then-carried-header c).After-carried-carried UdpBadLength e }
 
 pub invariant_of-result : goal.invariant_of-result
 invariant_of-result c =
@@ -53,8 +53,7 @@ invariant_of-result c =
     let says : header ≡ header_in s = c.header_of-header.ensures s c.in-Some.ensures.cases.0 in
     let within : header.len ≤ length (carried_of packet) =
     subst (λ (xs : List ℕ). header.len ≤ length xs) carried c.if-carried-header.false in
-    let len : header.len ≡ u16_at 4 (carried_of packet) =
-    ap (λ (h : Header). h.len) says ∙ ap (u16_at 4) carried in
+    let len : header.len ≡ u16_at 4 (carried_of packet) = ap (λ (h : Header). h.len) says ∙ ap (u16_at 4) carried in
     let at : header.len ≡ u16_at 4 s = ap (λ (h : Header). h.len) says in
     let right : has_right_sum c.head-head.result.src c.head-head.result.dst s ≡ true =
     sym c.has_right_sum.ensures ∙ c.if-not-has_right_sum.false in

@@ -85,9 +85,7 @@ returns-in-Kept-clause-layout c =
     subst (λ (r : Arrival). HasLayout c.args.pool.now c.args.self.now.datagrams (key_in c.args.head)
     (arrived c.args.pool.now c.args.chain c.args.head.offset c.args.head.more) r c.insert_and_count-arrival.new.pool
     c.insert_and_count-arrival.new.table.items) c.in-Kept.is
-    (s.layout c.args.head.offset c.args.head.more c.insert_and_count-arrival.result
-    c.insert_and_count-arrival.new.pool c.insert_and_count-arrival.new.table.items
-    c.insert_and_count-arrival.ensures.layout)
+    (s.layout _ _ _ _ _ c.insert_and_count-arrival.ensures.layout)
 
 pub returns-in-Kept-clause-step : goal.returns-in-Kept-clause-step
 returns-in-Kept-clause-step c = λ rest held new acc goes.
@@ -139,15 +137,10 @@ invariant_of-self c =
     )
 
 -- ---- it's whole, or dropped
-inserted : goal.returns-clause-layout
-inserted c =
-    let s = there (goal.at.returns-clause-layout c).After-insert_and_count-arg-3-1 in
-    s.layout c.args.head.offset c.args.head.more c.insert_and_count-arrival.result
-    c.insert_and_count-arrival.new.pool c.insert_and_count-arrival.new.table.items
-    c.insert_and_count-arrival.ensures.layout
-
 pub returns-clause-layout : goal.returns-clause-layout
-returns-clause-layout c = inserted c
+returns-clause-layout c =
+    let s = there (goal.at.returns-clause-layout c).After-insert_and_count-arg-3-1 in
+    s.layout _ _ _ _ _ c.insert_and_count-arrival.ensures.layout
 
 pub returns-clause-step : goal.returns-clause-step
 returns-clause-step c = λ rest held new acc goes.
@@ -161,9 +154,7 @@ returns-clause-whole c = c.insert_and_count-arrival.ensures.whole
 pub returns-clause-cause : goal.returns-clause-cause
 returns-clause-cause c =
     let s = there (goal.at.returns-clause-cause c).After-insert_and_count-arg-3-1 in
-    s.cause c.args.head.offset c.args.head.more c.insert_and_count-arrival.result
-    c.insert_and_count-arrival.new.pool c.insert_and_count-arrival.new.table.items
-    c.insert_and_count-arrival.ensures.layout
+    s.cause _ _ _ c.insert_and_count-arrival.new.pool _ c.insert_and_count-arrival.ensures.layout
     c.insert_and_count-arrival.ensures.cause
 
 pub returns-clause-ready : goal.returns-clause-ready
@@ -172,11 +163,11 @@ returns-clause-ready c =
     record {
       table = c.insert_and_count-arrival.ensures.table;
       fragments =
-          fragments_after (inserted c) c.requires.ready.table c.requires.ready.fragments
+          fragments_after (returns-clause-layout c) c.requires.ready.table c.requires.ready.fragments
           c.insert_and_count-arrival.ensures.table;
       room =
           omega (arith, c.insert_and_count-arrival.ensures.moves.mbufs, s.room, c.follow.ensures.room);
-      distinct = distinct_after (inserted c) c.requires.ready.distinct;
+      distinct = distinct_after (returns-clause-layout c) c.requires.ready.distinct;
     }
 
 pub returns-clause-moves : goal.returns-clause-moves

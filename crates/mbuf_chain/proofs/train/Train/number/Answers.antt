@@ -1,8 +1,9 @@
 use Rattle.std.proofs.Common.{◌≡◌, ℕ, suc, Option, drop, slice_get, subst, sym, ap, ◌∙◌, arith, add-one}
 use Rattle.mbuf_chain.specs.Train.{TrainView, numbers}
-use Rattle.mbuf_chain.proofs.Runs.{IsRun, passing, run_there, last_is, run_of}
+use Rattle.mbuf_chain.proofs.Runs.{IsRun, Passing, passing, run_there, last_is, run_of}
 use Rattle.mbuf_chain.proofs.Trains.{live_queued, end_there}
 use Rattle.mbuf_chain.proofs.train.Train.number.Goals as goal
+use Rattle.mbuf_chain.proofs.train.Train.number.Goals.{In-chains}
 
 pub returns-then-self-i : goal.returns-then-self-i
 returns-then-self-i c =
@@ -22,30 +23,29 @@ chains-init c =
     subst (λ (at : Option ℕ). IsRun c.args.pool.now at (numbers c.args.pool.now c.args.self.now))
     (sym (ap (λ (t : TrainView). t.first) c.self.view_is) ∙ some) run
 
+here : (c : In-chains)
+    → Passing c.args.pool.now c.chains.at (numbers c.args.pool.now c.args.self.now) c.chains._passed
+here c =
+    passing c.args.pool.now c.chains.at (numbers c.args.pool.now c.args.self.now) c.chains._passed
+    (omega (arith, c.requires.place, c.requires.held.whole, c.chains-test.true)) c.chains.invariant
+
 pub after-requires : goal.after-requires
 after-requires c =
-    let here =
-    passing c.args.pool.now c.chains.at (numbers c.args.pool.now c.args.self.now) c.chains._passed
-    (omega (arith, c.requires.place, c.requires.held.whole, c.chains-test.true)) c.chains.invariant in
-    live_queued c.args.pool.now c.args.self.now c.chains._passed c.chains.at c.requires.held here.stands
+    live_queued c.args.pool.now c.args.self.now c.chains._passed c.chains.at c.requires.held
+    (here (goal.at.after-requires c).In-chains).stands
 
 pub unreachable-requires : goal.unreachable-requires
 unreachable-requires c =
-    let here =
-    passing c.args.pool.now c.chains.at (numbers c.args.pool.now c.args.self.now) c.chains._passed
-    (omega (arith, c.requires.place, c.requires.held.whole, c.chains-test.true)) c.chains.invariant in
     run_there c.args.pool.now _ (numbers c.args.pool.now c.args.self.now) (suc c.chains._passed)
-    (omega (arith, c.requires.place, c.requires.held.whole, c.chains-test.true)) here.rest
+    (omega (arith, c.requires.place, c.requires.held.whole, c.chains-test.true)) (here (goal.at.unreachable-requires c).In-chains).rest
     (sym c.after.ensures ∙ c.in_default.is)
 
 pub chains-preserved : goal.chains-preserved
 chains-preserved c =
-    let here =
-    passing c.args.pool.now c.chains.at (numbers c.args.pool.now c.args.self.now) c.chains._passed
-    (omega (arith, c.requires.place, c.requires.held.whole, c.chains-test.true)) c.chains.invariant in
+    let at = (goal.at.chains-preserved c).In-chains in
     rw add-one (subst (λ (o : Option ℕ). IsRun c.args.pool.now o
     (drop (suc c.chains._passed) (numbers c.args.pool.now c.args.self.now))) (sym c.after.ensures
-    ∙ c.in-Some.is) here.rest)
+    ∙ c.in-Some.is) (here at).rest)
 
 pub returns : goal.returns
 returns c =

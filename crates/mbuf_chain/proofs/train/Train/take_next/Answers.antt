@@ -21,9 +21,7 @@ live c =
     live_queued c.args.pool.now c.args.self.now (suc c.args.before.index) c.in-Some.number c.requires.held (taken c)
 
 pub after-requires : goal.after-requires
-after-requires c =
-    live_queued c.args.pool.now c.args.self.now c.args.before.index c.args.before.number c.requires.held
-    c.requires.before.number
+after-requires c = live_queued _ _ _ _ c.requires.held c.requires.before.number
 
 pub unreachable-requires : goal.unreachable-requires
 unreachable-requires c =
@@ -39,9 +37,7 @@ pub tag-tag-requires : goal.tag-tag-requires
 tag-tag-requires c = live (goal.at.tag-tag-requires c).In-Some
 
 pub set_after-requires-clause-headed : goal.set_after-requires-clause-headed
-set_after-requires-clause-headed c =
-    headed_packet c.args.pool.now c.args.self.now c.args.before.index c.args.before.number c.requires.held
-    c.requires.before.number
+set_after-requires-clause-headed c = headed_packet _ _ _ _ c.requires.held c.requires.before.number
 
 pub set_after-requires-2-clause-live : goal.set_after-requires-2-clause-live
 set_after-requires-2-clause-live c =
@@ -51,8 +47,7 @@ set_after-requires-2-clause-live c =
 
 pub set_after-requires-2-clause-headed : goal.set_after-requires-2-clause-headed
 set_after-requires-2-clause-headed c =
-    ap (λ (v : ChainView). v.front.header)
-    (kept_with c.args.pool.now c.set_after.new.self c.args.before.number
+    ap (λ (v : ChainView). v.front.header) (kept_with c.args.pool.now c.set_after.new.self c.args.before.number
     (placed (chain_of c.args.pool.now c.args.before.number) c.after-rest.result c.tag-kept.result) c.in-Some.number
     c.set_after.ensures.placed
     (next_apart c.args.pool.now c.args.self.now c.args.before.index c.args.before.number c.in-Some.number

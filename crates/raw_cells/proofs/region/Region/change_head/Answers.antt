@@ -1,13 +1,23 @@
-use Rattle.std.proofs.Common.{◌∙◌, ℕ, ◌%◌, ◌+◌, ◌*◌, ap, arith, refl}
+use Rattle.std.proofs.Common.{◌≡◌, ◌<◌, ◌≤◌, ◌∙◌, ℕ, length, ◌%◌, ◌+◌, ◌*◌, ap, arith, refl}
 use Rattle.raw_cells.specs.declared.head.Change.TheVariants.{Next, NextPacket, Data, PacketLen, Arrival, NoPacket}
 use Rattle.raw_cells.specs.declared.head.PacketHeader.{PacketHeader}
-use Rattle.raw_cells.specs.Inside.Layout.{link_of}
+use Rattle.raw_cells.specs.declared.head.Head.{Head}
+use Rattle.raw_cells.specs.declared.region.Region.TheInside.{Inside}
+use Rattle.raw_cells.specs.Cells.{Cells, IsSized, SetsCellHead}
+use Rattle.raw_cells.specs.Inside.Layout.{IsRegion, cells_of, link_of}
 use Rattle.raw_cells.proofs.Patches.{room_at, low_change, packet_change, field_kept, field_sized, arrival_set, data_set, flags_read, next_packet_set, next_set, packet_dropped, packet_len_set}
 use Rattle.raw_cells.proofs.region.Region.change_head.Goals as goal
 
+room : (r : Inside) {v : Cells} {i : ℕ} → IsRegion r → cells_of r ≡ v → i < length v.heads
+    → 128 * i + 32 ≤ length r.block
+room r {v} {i} is shown lt = room_at r is v shown i lt
+
+sized : (r : Inside) {v : Cells} {i : ℕ} (h : Head) (t : Cells) → IsRegion r → cells_of r ≡ v → i < length v.heads
+    → SetsCellHead v t i h → IsSized t
+sized r {v} {i} h t is shown lt = field_sized r is v shown i lt _ _
+
 pub slice_mut-requires : goal.slice_mut-requires
-slice_mut-requires c =
-    omega (arith, room_at c.self.inside c.self.invariant c.args.self.now c.self.view_is c.args.index c.requires.index)
+slice_mut-requires c = omega (arith, room c.self.inside c.self.invariant c.self.view_is c.requires.index)
 
 pub returns-in-Next-clause-change : goal.returns-in-Next-clause-change
 returns-in-Next-clause-change c =
@@ -19,12 +29,10 @@ returns-in-Next-clause-change c =
 
 pub returns-in-Next-clause-sized : goal.returns-in-Next-clause-sized
 returns-in-Next-clause-sized c =
-    field_sized c.self.inside c.self.invariant c.args.self.now c.self.view_is c.args.index c.requires.index _ _
-    (returns-in-Next-clause-change c)
+    sized c.self.inside _ _ c.self.invariant c.self.view_is c.requires.index (returns-in-Next-clause-change c)
 
 pub slice_mut-requires-in-NextPacket : goal.slice_mut-requires-in-NextPacket
-slice_mut-requires-in-NextPacket c =
-    omega (arith, room_at c.self.inside c.self.invariant c.args.self.now c.self.view_is c.args.index c.requires.index)
+slice_mut-requires-in-NextPacket c = omega (arith, room c.self.inside c.self.invariant c.self.view_is c.requires.index)
 
 pub returns-in-NextPacket-clause-change : goal.returns-in-NextPacket-clause-change
 returns-in-NextPacket-clause-change c =
@@ -37,12 +45,10 @@ returns-in-NextPacket-clause-change c =
 
 pub returns-in-NextPacket-clause-sized : goal.returns-in-NextPacket-clause-sized
 returns-in-NextPacket-clause-sized c =
-    field_sized c.self.inside c.self.invariant c.args.self.now c.self.view_is c.args.index c.requires.index _ _
-    (returns-in-NextPacket-clause-change c)
+    sized c.self.inside _ _ c.self.invariant c.self.view_is c.requires.index (returns-in-NextPacket-clause-change c)
 
 pub slice_mut-requires-in-Data : goal.slice_mut-requires-in-Data
-slice_mut-requires-in-Data c =
-    omega (arith, room_at c.self.inside c.self.invariant c.args.self.now c.self.view_is c.args.index c.requires.index)
+slice_mut-requires-in-Data c = omega (arith, room c.self.inside c.self.invariant c.self.view_is c.requires.index)
 
 pub invariant_of-self-in-Data : goal.invariant_of-self-in-Data
 invariant_of-self-in-Data c =
@@ -59,12 +65,10 @@ returns-in-Data-clause-change c =
 
 pub returns-in-Data-clause-sized : goal.returns-in-Data-clause-sized
 returns-in-Data-clause-sized c =
-    field_sized c.self.inside c.self.invariant c.args.self.now c.self.view_is c.args.index c.requires.index _ _
-    (returns-in-Data-clause-change c)
+    sized c.self.inside _ _ c.self.invariant c.self.view_is c.requires.index (returns-in-Data-clause-change c)
 
 pub slice_mut-requires-in-PacketLen : goal.slice_mut-requires-in-PacketLen
-slice_mut-requires-in-PacketLen c =
-    omega (arith, room_at c.self.inside c.self.invariant c.args.self.now c.self.view_is c.args.index c.requires.index)
+slice_mut-requires-in-PacketLen c = omega (arith, room c.self.inside c.self.invariant c.self.view_is c.requires.index)
 
 pub returns-in-PacketLen-clause-change : goal.returns-in-PacketLen-clause-change
 returns-in-PacketLen-clause-change c =
@@ -77,12 +81,10 @@ returns-in-PacketLen-clause-change c =
 
 pub returns-in-PacketLen-clause-sized : goal.returns-in-PacketLen-clause-sized
 returns-in-PacketLen-clause-sized c =
-    field_sized c.self.inside c.self.invariant c.args.self.now c.self.view_is c.args.index c.requires.index _ _
-    (returns-in-PacketLen-clause-change c)
+    sized c.self.inside _ _ c.self.invariant c.self.view_is c.requires.index (returns-in-PacketLen-clause-change c)
 
 pub slice_mut-requires-in-Arrival : goal.slice_mut-requires-in-Arrival
-slice_mut-requires-in-Arrival c =
-    omega (arith, room_at c.self.inside c.self.invariant c.args.self.now c.self.view_is c.args.index c.requires.index)
+slice_mut-requires-in-Arrival c = omega (arith, room c.self.inside c.self.invariant c.self.view_is c.requires.index)
 
 pub returns-in-Arrival-clause-change : goal.returns-in-Arrival-clause-change
 returns-in-Arrival-clause-change c =
@@ -95,12 +97,10 @@ returns-in-Arrival-clause-change c =
 
 pub returns-in-Arrival-clause-sized : goal.returns-in-Arrival-clause-sized
 returns-in-Arrival-clause-sized c =
-    field_sized c.self.inside c.self.invariant c.args.self.now c.self.view_is c.args.index c.requires.index _ _
-    (returns-in-Arrival-clause-change c)
+    sized c.self.inside _ _ c.self.invariant c.self.view_is c.requires.index (returns-in-Arrival-clause-change c)
 
 pub slice_mut-requires-in-NoPacket : goal.slice_mut-requires-in-NoPacket
-slice_mut-requires-in-NoPacket c =
-    omega (arith, room_at c.self.inside c.self.invariant c.args.self.now c.self.view_is c.args.index c.requires.index)
+slice_mut-requires-in-NoPacket c = omega (arith, room c.self.inside c.self.invariant c.self.view_is c.requires.index)
 
 pub returns-in-NoPacket-clause-change : goal.returns-in-NoPacket-clause-change
 returns-in-NoPacket-clause-change c =
@@ -108,12 +108,10 @@ returns-in-NoPacket-clause-change c =
     c.args.change NoPacket (cc) 18 2 (128 * c.args.index + 18) c.clear_packet.new.bytes (omega arith) (omega arith)
     c.clear_packet.ensures.len
     (λ room. packet_dropped c.self.inside.block (128 * c.args.index) c.clear_packet.new.bytes room
-    c.clear_packet.ensures.len c.clear_packet.ensures.packet
-    (c.clear_packet.ensures.cluster
+    c.clear_packet.ensures.len c.clear_packet.ensures.packet (c.clear_packet.ensures.cluster
     ∙ ap (λ (x : ℕ). x % 2) (flags_read c.self.inside.block (128 * c.args.index + 18) _
     c.slice_mut-in-NoPacket.ensures.value)))
 
 pub returns-in-NoPacket-clause-sized : goal.returns-in-NoPacket-clause-sized
 returns-in-NoPacket-clause-sized c =
-    field_sized c.self.inside c.self.invariant c.args.self.now c.self.view_is c.args.index c.requires.index _ _
-    (returns-in-NoPacket-clause-change c)
+    sized c.self.inside _ _ c.self.invariant c.self.view_is c.requires.index (returns-in-NoPacket-clause-change c)
