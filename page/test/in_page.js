@@ -1,26 +1,33 @@
-// The functions that tests/page calls in the page.
+// The functions that tests/page calls in the page: `faultsOf(tryKeys)` returns the faults that a test finds.
 "use strict";
+
+let faults = [];
+const fault = text => faults.push(text);
+
+async function faultsOf(test, ...words) {
+  faults = [];
+  await test(...words);
+  return [...new Set(faults)].slice(0, 24);
+}
 
 // The most lines of an example that are tested: the last one, and others at equal distances.
 const LOOKS = 12;
 
 // Plays a script in the page and tests its lines: all lines of a lesson, and of an example that isn't too long.
-function playInPage(mode, text, words, isLesson) {
-  const faults = [];
+function tryScript(mode, text, words, isLesson) {
   open(mode, { text, options: optionsOf(words) });
   revealAll();
-  if (page.mode !== mode) faults.push(`it's opened under ${page.mode}`);
+  if (page.mode !== mode) fault(`it's opened under ${page.mode}`);
   page.steps.forEach((step, i) => {
     const isOther = step.expected !== null && !step.isMet;
-    if (isOther) faults.push(`line ${page.notes.places[i] + 1}: it's answered ${step.says || step.reply}`);
+    if (isOther) fault(`line ${page.notes.places[i] + 1}: it's answered ${step.says || step.reply}`);
   });
   const by = isLesson ? 1 : Math.ceil(page.steps.length / LOOKS);
   for (let i = page.steps.length - 1; i >= 0; i -= by) {
     select(i);
-    if (!byId("look").firstChild) faults.push(`line ${i + 1} shows nothing`);
-    faults.push(...{ run: faultsOfOwners, chain: faultsOfDrawing, wire: faultsOfHosts }[mode](i));
+    if (!byId("look").firstChild) fault(`line ${i + 1} shows nothing`);
+    ({ run: tryOwners, chain: tryDrawing, wire: tryHosts })[mode](i);
   }
-  return faults;
 }
 
 // Answers all questions, so that each line shows what it did.
@@ -34,45 +41,44 @@ const mbufsOwned = ({ owned }) => Object.values(owned).reduce((n, it) => n + it.
 
 // The owners' buffers are those that aren't free, the places of the bytes are drawn, and each datagram and packet has
 // the number of buffers that the program says.
-function faultsOfOwners(i) {
-  const step = page.steps[i], held = page.heldAfter(step.number), { state } = held, faults = [];
+function tryOwners(i) {
+  const step = page.steps[i], held = page.heldAfter(step.number), { state } = held;
   if (mbufsOwned(held) !== step.pool.used) {
-    faults.push(`line ${i + 1}: ${mbufsOwned(held)} mbufs have an owner, and ${step.pool.used} are in use`);
+    fault(`line ${i + 1}: ${mbufsOwned(held)} mbufs have an owner, and ${step.pool.used} are in use`);
   }
-  if (!document.querySelector("#look .mbuf-figure")) faults.push(`line ${i + 1} has no figure`);
+  if (!document.querySelector("#look .mbuf-figure")) fault(`line ${i + 1} has no figure`);
   const waits = held.sockets.reduce((n, it) => n + it.queue.reduce((m, one) => m + one.data.length + 16, 0), 0);
   const drawn = state.sockets.reduce((n, it) => n + it.cc, 0);
-  const isSame = waits === drawn && state.output.len === held.output.length;
-  return isSame ? faults : [...faults, `line ${i + 1}: ${drawn} bytes are drawn in sockets, and ${waits} wait; or packets`];
+  if (waits !== drawn || state.output.len !== held.output.length) {
+    fault(`line ${i + 1}: ${drawn} bytes are drawn in sockets, and ${waits} wait; or packets`);
+  }
 }
 
 // The same for each host on a wire, and each has a place in the view.
-function faultsOfHosts(i) {
+function tryHosts(i) {
   const step = page.steps[i], names = [...step.now.keys()];
   const shown = document.querySelectorAll(".hosts > .column").length;
-  const faults = shown === names.length ? [] : [`line ${i + 1}: ${shown} machines are shown of ${names.length}`];
+  if (shown !== names.length) fault(`line ${i + 1}: ${shown} machines are shown of ${names.length}`);
   for (const [name, n] of step.now) {
     const host = page.hosts.get(name), held = page.heldOf(host, n), { pool } = stateOf(step, name, page.hosts);
     const own = mbufsOwned(held);
-    if (own !== pool.used) faults.push(`line ${i + 1}: at ${name} ${own} mbufs have an owner of ${pool.used} in use`);
+    if (own !== pool.used) fault(`line ${i + 1}: at ${name} ${own} mbufs have an owner of ${pool.used} in use`);
   }
-  return faults;
 }
 
 // The drawing of each chain has the mbufs that it shows, with the reference counts of their clusters.
-function faultsOfDrawing(i) {
+function tryDrawing(i) {
   const step = page.steps[i], chains = page.drawnAfter(step.number), clusters = clustersIn(chains);
   const shapeOf = it => [it.isCluster, it.bytes.length, it.isCluster ? clusters.get(it.cluster).length : undefined];
   const drawn = JSON.stringify([...chains].map(([slot, mbufs]) => [slot, mbufs.map(shapeOf)]));
   const shown = JSON.stringify([...step.chains]
     .map(([slot, { mbufs }]) => [slot, mbufs.map(it => [it.isCluster, it.bytes, it.count])]));
-  if (drawn !== shown) return [`line ${i + 1}: ${drawn} is drawn, and ${shown} shown`];
+  if (drawn !== shown) fault(`line ${i + 1}: ${drawn} is drawn, and ${shown} shown`);
   const state = page.chainsAfter(step.number), all = [...chains.values()].flat();
   if (state.mbufs.length !== all.length || new Set(state.mbufs.map(it => it.n)).size !== all.length) {
-    return [`line ${i + 1}: the figure has other mbufs`];
+    fault(`line ${i + 1}: the figure has other mbufs`);
   }
-  const isDrawn = !chains.size || document.querySelector("#look .mbuf-figure svg");
-  return isDrawn ? [] : [`line ${i + 1} has no figure`];
+  if (chains.size && !document.querySelector("#look .mbuf-figure svg")) fault(`line ${i + 1} has no figure`);
 }
 
 // ---- layout and colours
@@ -112,24 +118,21 @@ function solid() {
       && (hasText(it) || it.matches("input, select, textarea, svg, .bar")));
 }
 
-function faultsOfOverlap() {
+function tryOverlap() {
   const isSticky = it => it.closest(".bar-of") !== null;
   const all = solid().flatMap(it => seenBoxes(it).map(box => ({ it, box, isHead: isSticky(it) })));
   all.sort((a, b) => a.box.top - b.box.top);
-  const faults = new Set();
   all.forEach((a, i) => {
     for (const b of all.slice(i + 1)) {
       if (b.box.top >= a.box.bottom) break;
       if (a.it === b.it || a.it.contains(b.it) || b.it.contains(a.it) || a.isHead !== b.isHead) continue;
-      if (doOverlap(a.box, b.box)) faults.add(`${nameOf(a.it)} and ${nameOf(b.it)} overlap`);
+      if (doOverlap(a.box, b.box)) fault(`${nameOf(a.it)} and ${nameOf(b.it)} overlap`);
     }
   });
-  return [...faults].slice(0, 8);
 }
 
 // The texts of a drawn mbuf or cluster are inside its box, and none covers another.
-function faultsOfPicture() {
-  const faults = new Set();
+function tryPicture() {
   for (const group of document.querySelectorAll(".mbuf-figure g[role=img]")) {
     const box = group.querySelector(".box").getBoundingClientRect();
     if (!box.width) continue;
@@ -137,27 +140,25 @@ function faultsOfPicture() {
       .map(it => ({ text: it.textContent, box: it.getBoundingClientRect() }));
     texts.forEach((a, i) => {
       if (a.box.left < box.left - 1 || a.box.right > box.right + 1 || a.box.bottom > box.bottom + 1) {
-        faults.add(`“${a.text}” stands out of its box`);
+        fault(`“${a.text}” stands out of its box`);
       }
       const other = texts.slice(i + 1).find(b => doOverlap(a.box, b.box) && Math.abs(b.box.top - a.box.top) < 4);
-      if (other) faults.add(`“${a.text}” and “${other.text}” overlap`);
+      if (other) fault(`“${a.text}” and “${other.text}” overlap`);
     });
   }
-  return [...faults].slice(0, 8);
 }
 
 // No text is cut off at its side, unless dots mark that or it can be scrolled.
-function faultsOfWidth() {
-  const faults = [], wide = document.documentElement.scrollWidth;
-  if (wide > innerWidth + 1) faults.push(`the page is ${wide} pixels wide`);
+function tryWidth() {
+  const wide = document.documentElement.scrollWidth;
+  if (wide > innerWidth + 1) fault(`the page is ${wide} pixels wide`);
   for (const it of solid()) {
     const style = getComputedStyle(it), box = it.getBoundingClientRect();
     if (it.closest(".scroller") || it.matches("input, textarea, select")) continue;
     if (it.scrollWidth > it.clientWidth + 1 && style.overflowX !== "visible"
-      && style.display !== "inline") faults.push(`${nameOf(it)} is cut off`);
-    if (box.right > innerWidth + 1) faults.push(`${nameOf(it)} stands out on the right`);
+      && style.display !== "inline") fault(`${nameOf(it)} is cut off`);
+    if (box.right > innerWidth + 1) fault(`${nameOf(it)} stands out on the right`);
   }
-  return [...new Set(faults)].slice(0, 8);
 }
 
 const channels = colour => (colour.match(/[\d.]+/g) || []).map(Number);
@@ -181,17 +182,15 @@ function behind(it) {
 }
 
 // WCAG 2.1, 1.4.3. In drawings the text is on the paper's colour or on a shape's. style.css names those of shapes.
-function faultsOfContrast() {
-  const faults = [];
+function tryContrast() {
   for (const it of solid().filter(it => !it.matches("svg, .bar"))) {
     const contrast = contrastOf(getComputedStyle(it).color, behind(it));
-    if (contrast < 4.5) faults.push(`${nameOf(it)} has a contrast of ${contrast.toFixed(1)}`);
+    if (contrast < 4.5) fault(`${nameOf(it)} has a contrast of ${contrast.toFixed(1)}`);
   }
   for (const text of document.querySelectorAll(".mbuf-figure text")) {
     const contrast = contrastOf(getComputedStyle(text).fill, underText(text)), name = text.getAttribute("class");
-    if (contrast < 4.5) faults.push(`${name} in the figure has a contrast of ${contrast.toFixed(1)}`);
+    if (contrast < 4.5) fault(`${name} in the figure has a contrast of ${contrast.toFixed(1)}`);
   }
-  return [...new Set(faults), ...faultsOfBorders()].slice(0, 8);
 }
 
 // The background of a text in a figure: the last shape drawn there before it. A text on a pattern has its own outline.
@@ -206,55 +205,58 @@ function underText(text) {
 }
 
 // WCAG 2.1, 1.4.11: the border of a field is visible.
-function faultsOfBorders() {
-  const contrast = it => contrastOf(getComputedStyle(it).borderTopColor, behind(it.parentElement));
-  return solid().filter(it => it.matches("input, select") && contrast(it) < 3)
-    .map(it => `the border of ${nameOf(it)} has a contrast of ${contrast(it).toFixed(1)}`);
+function tryBorders() {
+  for (const it of solid().filter(it => it.matches("input, select"))) {
+    const contrast = contrastOf(getComputedStyle(it).borderTopColor, behind(it.parentElement));
+    if (contrast < 3) fault(`the border of ${nameOf(it)} has a contrast of ${contrast.toFixed(1)}`);
+  }
 }
 
 // In print only the selected line is shown, with the colours of its legends.
-function faultsOfPrint() {
+function tryPrint() {
   const isShown = it => it !== null && getComputedStyle(it).display !== "none";
-  const left = ["header", ".ways-of", ".bar-of", "button.all"].filter(name => isShown(document.querySelector(name)));
+  for (const name of ["header", ".ways-of", ".bar-of", "button.all"]) {
+    if (isShown(document.querySelector(name))) fault(`${name} is printed`);
+  }
   const marks = [...document.querySelectorAll("#look .legend span")].map(it => getComputedStyle(it, "::before"));
   const isClear = it => channels(it.backgroundColor)[3] === 0 && it.backgroundImage === "none";
-  const isLost = it => it.printColorAdjust !== "exact" || isClear(it);
-  return [...left.map(name => `${name} is printed`), ...(marks.length ? [] : ["no legend is printed"]),
-    ...(marks.some(isLost) ? ["a legend loses its colours in print"] : [])];
+  if (!marks.length) fault("no legend is printed");
+  if (marks.some(it => it.printColorAdjust !== "exact" || isClear(it))) fault("a legend loses its colours in print");
 }
 
-const faultsOfLayout = () =>
-  [faultsOfOverlap, faultsOfPicture, faultsOfWidth, faultsOfContrast, faultsOfHidden].flatMap(look => look());
-
 // Hidden elements are invisible, whatever their style.
-const faultsOfHidden = () => [...document.querySelectorAll("[hidden]")].filter(it => it.getClientRects().length)
-  .map(it => `${nameOf(it)} is hidden, and seen`);
+function tryHidden() {
+  for (const it of document.querySelectorAll("[hidden]")) {
+    if (it.getClientRects().length) fault(`${nameOf(it)} is hidden, and seen`);
+  }
+}
+
+function tryLayout() {
+  for (const look of [tryOverlap, tryPicture, tryWidth, tryContrast, tryBorders, tryHidden]) look();
+}
 
 // Arrow keys step, except in the script's field. A link restores a script. A packet made in the form is inserted.
-function faultsOfKeys() {
-  const faults = [],
-    press = (it, key) => it.dispatchEvent(new KeyboardEvent("keydown", { key, bubbles: true, cancelable: true }));
+function tryKeys() {
+  const press = (it, key) => it.dispatchEvent(new KeyboardEvent("keydown", { key, bubbles: true, cancelable: true }));
   open("run", { name: "01_a_datagram" });
   press(document.body, "ArrowDown");
   press(byId("rows").firstChild.firstChild, "ArrowDown");
-  if (page.at !== 2) faults.push("arrow keys don't step");
+  if (page.at !== 2) fault("arrow keys don't step");
   press(byId("script"), "ArrowDown");
-  if (page.at !== 2) faults.push("an arrow key in the script steps");
+  if (page.at !== 2) fault("an arrow key in the script steps");
   const before = byId("script").value;
   link();
   open("chain", { text: "" });
   openLink();
   if (byId("script").value !== before || page.mode !== "run"
-    || page.at !== 2) faults.push("a link doesn't bring the script back");
+    || page.at !== 2) fault("a link doesn't bring the script back");
   byId("make").click();
   putPacket();
-  if (page.steps[3].verb !== "rx" || page.at !== 3) faults.push("a packet that was made isn't put in");
-  return faults;
+  if (page.steps[3].verb !== "rx" || page.at !== 3) fault("a packet that was made isn't put in");
 }
 
 // An invalid address or port is refused with the reason, and nothing is inserted.
-function faultsOfMaking() {
-  const faults = [];
+function tryMaking() {
   for (const [field, value, right] of [["source", "300.1.1.1", "10.0.0.2"], ["destination-port", "99999", "7"],
     ["id", "-1", "1"]]) {
     open("run", { name: "01_a_datagram" });
@@ -262,47 +264,45 @@ function faultsOfMaking() {
     byId(`packet-${field}`).value = value;
     putPacket();
     const isSaid = !byId("packet-fault-says").hidden && byId("packet-fault-says").textContent.includes("Refused");
-    if (page.steps.length !== 12 || !byId("maker").open || !isSaid) faults.push(`${field} ${value} isn't refused`);
+    if (page.steps.length !== 12 || !byId("maker").open || !isSaid) fault(`${field} ${value} isn't refused`);
     byId(`packet-${field}`).value = right;
     putPacket();
-    if (page.steps.length !== 13 || byId("maker").open) faults.push(`${field} ${right} isn't put in`);
+    if (page.steps.length !== 13 || byId("maker").open) fault(`${field} ${right} isn't put in`);
   }
-  return faults;
 }
 
 // The lessons follow one another across all tabs. A question hides the reply.
-function faultsOfGuide() {
-  const faults = [], names = [];
+function tryGuide() {
+  const names = [];
   openNamed(LISTS.lessons[0]);
   for (; page.known && names.length < 99; openNext()) {
     if (names.includes(page.known.name)) break;
     names.push(page.known.name);
     if (byId("next-lesson").hidden) break;
   }
-  if (names.join() !== LISTS.lessons.map(it => it.name).join()) faults.push(`the lessons follow as ${names.join()}`);
-  for (const lesson of LISTS.lessons) faults.push(...faultsOfQuestions(lesson));
+  if (names.join() !== LISTS.lessons.map(it => it.name).join()) fault(`the lessons follow as ${names.join()}`);
+  LISTS.lessons.forEach(tryQuestions);
   const piece = (from, rest) => `rx udp 10.0.0.2:5000 > 10.0.0.1:7 "hello, hello" id 9 badudp at ${from} ${rest}\n`;
   open("run", { text: `socket\nbind 3 0.0.0.0 7\n${piece(0, "more size 16")}${piece(16, "last")}`, place: 3 });
   const [, came, right] = /0x(\w+) came, and 0x(\w+) would be right/.exec(byId("look").textContent) || [];
   const isNext = came && parseInt(came, 16) === parseInt(right, 16) + 1;
-  if (!isNext) faults.push("beside a wrong checksum of fragments the right one isn't shown");
+  if (!isNext) fault("beside a wrong checksum of fragments the right one isn't shown");
   open("run", { text: "rx udp 10.0.0.2:5000 > 10.0.0.1:7 \"hi\" badudp\n" });
   const said = byId("said").textContent;
-  if (!/^line 1: .*Dropped: .*0x6fdf/.test(said)) faults.push(`a screen reader hears: ${said}`);
-  return faults;
+  if (!/^line 1: .*Dropped: .*0x6fdf/.test(said)) fault(`a screen reader hears: ${said}`);
 }
 
 // After a wrong guess, the right one is shown.
-function faultsOfQuestions({ mode, name, title }) {
+function tryQuestions({ mode, name, title }) {
   open(mode, { name });
   const i = page.firstQuestion;
-  if (i === null) return [`${title} asks nothing`];
+  if (i === null) return fault(`${title} asks nothing`);
   select(i);
   const wrong = page.notes.questions[i].answers.findIndex(it => !it.isRight);
   document.querySelectorAll(".predict input")[wrong].click();
   document.querySelector(".predict .main").click();
   const isSeen = document.querySelector("#look .verdict.no") && document.querySelector("#look .reply");
-  return isSeen ? [] : [`${title}: a wrong guess isn't shown`];
+  if (!isSeen) fault(`${title}: a wrong guess isn't shown`);
 }
 
 // Writes an answer into the field of a question, and presses its button. Returns the page's message.
@@ -316,8 +316,8 @@ function askedFor(k, answer) {
 
 // Each question of an exercise is asked once, a wrong guess is rejected, and the right one is accepted and written to
 // the hand-in. With all of them the exercise passes.
-function faultsOfAsks({ title, text }) {
-  const wanted = readNotes(text).asks, faults = [], say = what => faults.push(`exercise ${title}: ${what}`);
+function tryAsks({ title, text }) {
+  const wanted = readNotes(text).asks, say = what => fault(`exercise ${title}: ${what}`);
   const fields = byId("rows").querySelectorAll(".ask input");
   const isAsked = wanted.length > 0 && fields.length === wanted.length;
   if (!isAsked) say(`${fields.length} of ${wanted.length} questions are asked`);
@@ -332,115 +332,108 @@ function faultsOfAsks({ title, text }) {
     if (!byId("script").value.includes(`#? ${asked} => ${answer}\n`)) say("an answer isn't in the text");
   });
   if (!/it passes/.test(byId("score").textContent)) say(`it doesn't pass: ${byId("score").textContent}`);
-  return faults;
 }
 
 // An exercise shows no reply before it's predicted. Right predictions are accepted, and a wrong one is rejected.
-function faultsOfExercises() {
-  const faults = [];
+function tryExercises() {
   for (const { mode, name, title, text } of LISTS.exercises) {
     keep(`text.${name}`, null);
     open(mode, { name });
-    if (/=>/.test(byId("script").value)) faults.push(`exercise ${title} has replies in it`);
+    if (/=>/.test(byId("script").value)) fault(`exercise ${title} has replies in it`);
     const wanted = readNotes(text).lines.map(line => partsOf(line).wanted);
     wanted.forEach((reply, i) => reply !== null && expectHere(i, reply));
-    faults.push(...faultsOfAsks({ title, text }));
+    tryAsks({ title, text });
     const count = wanted.filter(reply => reply !== null).length;
     if (!byId("score").textContent.startsWith(`${count} of ${count} `)) {
-      faults.push(`exercise ${title} isn't found right: ${byId("score").textContent}`);
+      fault(`exercise ${title} isn't found right: ${byId("score").textContent}`);
     }
     open("run", { name: "01_a_datagram" });
     open(mode, { name });
-    if (!byId("score").textContent.startsWith(`${count} of`)) faults.push(`exercise ${title} isn't kept`);
+    if (!byId("score").textContent.startsWith(`${count} of`)) fault(`exercise ${title} isn't kept`);
     anew();
     expectHere(1, "error 99");
     const isMarked = byId("rows").children[1].textContent.includes("✗ expected error 99");
-    if (!isMarked) faults.push(`exercise ${title}: beside a line that's predicted its reply isn't seen`);
-    if (!/^0 of 1 /.test(byId("score").textContent)) faults.push(`exercise ${title}: a wrong reply is taken`);
+    if (!isMarked) fault(`exercise ${title}: beside a line that's predicted its reply isn't seen`);
+    if (!/^0 of 1 /.test(byId("score").textContent)) fault(`exercise ${title}: a wrong reply is taken`);
     anew();
   }
-  return faults;
 }
 
 // The forms are those of the help, and are linked from the card and from a wrong line. For a wrong line the page
 // suggests a command, and a button corrects it.
-function faultsOfForms() {
-  const faults = [], forms = [...byId("forms-of").querySelectorAll("li")].map(it => it.textContent);
+function tryForms() {
+  const forms = [...byId("forms-of").querySelectorAll("li")].map(it => it.textContent);
   if (!forms.includes("bind FD ADDR PORT") || !forms.includes("carry [all] [N]") || forms.length < 35) {
-    faults.push(`the forms of lines are ${forms.join("; ")}`);
+    fault(`the forms of lines are ${forms.join("; ")}`);
   }
   open("run", { text: "sokcet\nbind 3 localhost 7\n" });
   const row = byId("rows").children[1].textContent, advice = "localhost is no ADDR (such as 10.0.0.2): bind FD ADDR PORT";
   select(1);
   const says = byId("look").textContent;
   const isSaid = row.replaceAll("`", "").includes(advice) && says.includes(advice);
-  if (!isSaid) faults.push(`of a wrong line it's said: ${row}`);
+  if (!isSaid) fault(`of a wrong line it's said: ${row}`);
   select(0);
   byId("look").querySelector(".mend .main").click();
-  if (page.steps[0].says !== "ok 3" || page.at !== 0) faults.push("a command that was meant isn't written");
+  if (page.steps[0].says !== "ok 3" || page.at !== 0) fault("a command that was meant isn't written");
   select(1);
   byId("look").querySelector(".mend button").click();
   const isOpen = byId("forms").open && document.activeElement === byId("forms").querySelector("summary");
-  if (!isOpen || !isSeen(byId("forms-of"))) faults.push("the forms of lines aren't opened by a wrong line");
+  if (!isOpen || !isSeen(byId("forms-of"))) fault("the forms of lines aren't opened by a wrong line");
   showLeft("read");
-  return faults;
 }
 
 // A capture that's dropped on the page is played. Another file is refused.
-async function faultsOfCapture(hex) {
-  const file = (bytes, name) => new File([bytes], name), faults = [];
+async function tryCapture(hex) {
+  const file = (bytes, name) => new File([bytes], name);
   open("chain", { text: "" });
   const data = new DataTransfer();
   data.items.add(file(bytesOf(hex), "a.pcap"));
   dispatchEvent(new DragEvent("dragover", { dataTransfer: data, cancelable: true }));
-  if (byId("drop").hidden) faults.push("where to drop a capture isn't shown");
+  if (byId("drop").hidden) fault("where to drop a capture isn't shown");
   dispatchEvent(new DragEvent("drop", { dataTransfer: data, cancelable: true }));
   await new Promise(done => setTimeout(done, 200));
-  if (page.mode !== "run" || !byId("drop").hidden) faults.push("a capture that's dropped isn't opened");
+  if (page.mode !== "run" || !byId("drop").hidden) fault("a capture that's dropped isn't opened");
   const before = byId("script").value;
   await openFile(file(new Uint8Array(99), "b.pcap"));
   if (byId("script").value !== before || byId("trouble").textContent !== "b.pcap: bad magic number at byte 0") {
-    faults.push(`what is no capture isn't refused: ${byId("trouble").textContent}`);
+    fault(`what is no capture isn't refused: ${byId("trouble").textContent}`);
   }
   await openFile(file(bytesOf(hex + hex.slice(48, 90)), "c.pcap"));
   const isCut = /^c.pcap: record cut short at byte \d+\. /.test(byId("trouble").textContent);
   if (!isCut || byId("script").value.split("\nrx ").length !== 2) {
-    faults.push(`of a capture that is cut it's said: ${byId("trouble").textContent}`);
+    fault(`of a capture that is cut it's said: ${byId("trouble").textContent}`);
   }
   const packed = new Blob([bytesOf(hex)]).stream().pipeThrough(new CompressionStream("gzip"));
   await openFile(file(await new Response(packed).arrayBuffer(), "d.pcap.gz"));
   if (!byId("script").value.startsWith("# d.pcap.gz: 1 record, 1 IPv4 packet, 1 for 10.0.0.1.\n")) {
-    faults.push("a gzip isn't unpacked");
+    fault("a gzip isn't unpacked");
   }
   await openFile(file(bytesOf("1f8b0800"), "e.gz"));
-  if (!/^e.gz: compressed by gzip/.test(byId("trouble").textContent)) faults.push("a bad gzip isn't named");
-  return faults;
+  if (!/^e.gz: compressed by gzip/.test(byId("trouble").textContent)) fault("a bad gzip isn't named");
 }
 
 // The buttons of a wire insert a line after the selected one, and keep the focus.
-function faultsOfWire() {
-  const faults = [];
+function tryWire() {
   open("wire", { name: "13_a_request_and_its_answer", place: 6 });
   byId("put-loss").click();
-  if (page.steps[7].line !== "loss 100%" || page.at !== 7) faults.push("the wire doesn't lose all by its button");
-  if (!document.activeElement.closest(".puts")) faults.push("the keyboard isn't at the buttons of the wire");
+  if (page.steps[7].line !== "loss 100%" || page.at !== 7) fault("the wire doesn't lose all by its button");
+  if (!document.activeElement.closest(".puts")) fault("the keyboard isn't at the buttons of the wire");
   byId("put-carry").click();
   const isLost = page.steps[8].moved.some(it => it.fate === "lost") && !page.steps[8].moved.some(it => it.to);
-  if (!isLost) faults.push("a packet that was lost isn't shown");
+  if (!isLost) fault("a packet that was lost isn't shown");
   byId("put-loss").click();
-  if (page.steps[9].line !== "loss 0%" || page.at !== 9) faults.push("the wire isn't mended by its button");
+  if (page.steps[9].line !== "loss 0%" || page.at !== 9) fault("the wire isn't mended by its button");
   const before = byId("script").value;
   link();
   open("run", { text: "" });
   openLink();
-  if (byId("script").value !== before || page.mode !== "wire") faults.push("a link doesn't bring machines back");
+  if (byId("script").value !== before || page.mode !== "wire") fault("a link doesn't bring machines back");
   open("run", { text: before });
-  if (page.mode !== "wire") faults.push("a script with hosts isn't opened as one of many machines");
-  return faults;
+  if (page.mode !== "wire") fault("a script with hosts isn't opened as one of many machines");
 }
 
 // The script is saved under its name, and opening it again gives the same script. No file is written.
-async function faultsOfSaving() {
+async function trySaving() {
   const { createObjectURL } = URL, { click } = HTMLAnchorElement.prototype, saved = {};
   URL.createObjectURL = it => createObjectURL.call(URL, (saved.file = it));
   HTMLAnchorElement.prototype.click = function () { saved.name = this.download; };
@@ -453,7 +446,7 @@ async function faultsOfSaving() {
   await load({ target: { files: [new File([saved.file], saved.name, { type: "text/plain" })], value: saved.name } });
   const isSame = byId("script").value === before && page.mode === "chain" && page.steps.length === 18;
   const isNamed = saved.name === "03_sharing_without_copying.txt";
-  return isSame && isNamed ? [] : ["a script that was saved isn't opened again"];
+  if (!isSame || !isNamed) fault("a script that was saved isn't opened again");
 }
 
 // ---- by keyboard only
@@ -477,4 +470,4 @@ function noteFocus() {
   return it === document.body || getComputedStyle(marked).outlineStyle !== "none" ? [] : [`${nameOf(it)} isn't marked`];
 }
 
-const faultsOfTabs = () => takers().filter(it => !reached.has(it)).map(it => `${nameOf(it)} isn't reached by Tab`);
+const unreached = () => takers().filter(it => !reached.has(it)).map(it => `${nameOf(it)} isn't reached by Tab`);

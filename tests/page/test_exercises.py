@@ -38,7 +38,7 @@ def test_an_exercise_shows_the_bytes_of_its_packets(folder, name, width, at_widt
             assert "".join(shown) == digits[1]
         else:
             assert line in card
-        assert browser.run("faultsOfLayout()") == []
+        assert browser.run("faultsOf(tryLayout)") == []
 
 
 def test_bytes_in_a_question_do_not_name_their_fields(at_width):

@@ -163,7 +163,7 @@ def test_nothing_overlaps_or_is_cut_off(view, theme, at_width):
     """At each width. Each text has a contrast of at least 4.5."""
     at_width(1280).run(f"showLeft('read'); {VIEWS[view]}; setTheme('{theme}')")
     for width in HEIGHTS:
-        assert at_width(width).run("faultsOfLayout()") == [], f"{width} pixels"
+        assert at_width(width).run("faultsOf(tryLayout)") == [], f"{width} pixels"
 
 
 @pytest.mark.parametrize("view", VIEWS)
@@ -181,7 +181,7 @@ def test_only_the_selected_line_is_printed(tab, name, place, at_width):
     browser.run(OPENED.format(tab, name, place))
     browser.ask("Emulation.setEmulatedMedia", media="print")
     try:
-        assert browser.run("faultsOfPrint()") == []
+        assert browser.run("faultsOf(tryPrint)") == []
     finally:
         browser.ask("Emulation.setEmulatedMedia", media="")
 
@@ -223,7 +223,7 @@ def test_on_a_phone_nothing_speaks_of_keys(at_width):
     try:
         assert browser.run(seen) == 0
         assert "Tap › and ‹ to step" in browser.run("byId('start').innerText")
-        assert browser.run("faultsOfLayout()") == []
+        assert browser.run("faultsOf(tryLayout)") == []
     finally:
         browser.ask("Emulation.setTouchEmulationEnabled", enabled=False)
         at_width(390)
@@ -277,7 +277,7 @@ def test_lines_that_cannot_be_played_are_marked_while_they_are_written(at_width)
     )
     assert colour != other
     assert browser.run("byId('faulty').textContent").startswith("Line 2: bnd is no command (bind?). 1 more line")
-    assert browser.run("faultsOfLayout()") == []
+    assert browser.run("faultsOf(tryLayout)") == []
     browser.run("byId('script').value = 'socket\\nbind 3 0.0.0.0 7\\n'; later(); clearTimeout(timer); replay(0)")
     assert browser.run(marked) == [False, False] and not browser.run("byId('faulty').textContent")
 
@@ -349,7 +349,7 @@ def test_a_capture_has_counts_per_cause_and_a_way_to_the_next_drop(at_width):
     assert browser.run(f"document.querySelector('{wrong}') === null")
     assert browser.run("byId('said').textContent").count("Left to the card") == 1
     for width in HEIGHTS:
-        assert at_width(width).run("faultsOfLayout()") == []
+        assert at_width(width).run("faultsOf(tryLayout)") == []
     browser.run("open('run', { name: 'exercise_02_why_dropped' })")
     assert browser.run("byId('drops').hidden")
 

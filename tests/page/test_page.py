@@ -34,4 +34,4 @@ def test_script_in_chromium(tab, script, chromium):
     options = pathlib.Path(f"{script}.args")
     words = options.read_text(encoding="utf-8").split() if options.exists() else []
     asked = [tab, script.read_text(encoding="utf-8"), words, LESSONS in script.parents]
-    assert chromium.resize(1600).run(f"playInPage(...{json.dumps(asked)})") == []
+    assert chromium.resize(1600).run(f"faultsOf(tryScript, ...{json.dumps(asked)})") == []
