@@ -80,13 +80,17 @@ static int client(void)
     return -1;
 }
 
-/* Linux itself: a socket that echoes. It starts when its device exists. */
-static void echo_by_linux(int ready, int begin)
+/* Linux itself: a socket that echoes, in a namespace of its own, at the other end of a pair of devices. */
+static void echo_by_linux(void)
 {
     struct sockaddr_in any = address("0.0.0.0"), from;
-    char byte = 0;
-    if (unshare(CLONE_NEWNET) < 0 || write(ready, &byte, 1) != 1 || read(begin, &byte, 1) != 1 ||
-        system("ip addr add 10.0.0.1/24 dev far && ip link set far up") != 0)
+    char other_end[200];
+    snprintf(other_end, sizeof other_end,
+             "nsenter -t %d -n ip link set far netns %d && ip addr add 10.0.0.1/24 dev far && ip link set far up",
+             (int)getppid(), (int)getpid());
+    if (system("ip link add near type veth peer name far && ip addr add 10.0.0.2/24 dev near && "
+               "ip link set near up") != 0 ||
+        unshare(CLONE_NEWNET) < 0 || system(other_end) != 0)
         _exit(1);
     int it = new_socket();
     if (bind(it, (struct sockaddr *)&any, sizeof any) < 0)
@@ -99,33 +103,14 @@ static void echo_by_linux(int ready, int begin)
     }
 }
 
-static pid_t start_linux(void)
+/* Runs a host: a program, or without one Linux. */
+static void run_host(const char *program)
 {
-    char command[200], byte;
-    int ready[2], begin[2];
-    if (pipe(ready) < 0 || pipe(begin) < 0)
-        stop("no pipe");
-    pid_t child = fork();
-    if (child == 0)
-        echo_by_linux(ready[1], begin[0]);
-    snprintf(command, sizeof command,
-             "ip link add near type veth peer name far netns %d && ip addr add 10.0.0.2/24 dev near && "
-             "ip link set near up",
-             (int)child);
-    if (read(ready[0], &byte, 1) != 1 || system(command) != 0 || write(begin[1], &byte, 1) != 1)
-        stop("no pair of devices");
-    return child;
-}
-
-static pid_t start_program(const char *program)
-{
-    pid_t child = fork();
-    if (child == 0) {
-        if (freopen("/dev/null", "w", stdout) != NULL)
-            execl(program, program, "1500", (char *)0);
-        _exit(127);
-    }
-    return child;
+    if (program == NULL)
+        echo_by_linux();
+    else if (freopen("/dev/null", "w", stdout) != NULL)
+        execl(program, program, "1500", (char *)0);
+    _exit(127);
 }
 
 /* Starts a host in a namespace that this process enters too, and waits until it echoes. */
@@ -135,7 +120,9 @@ static void start(const char *name, const char *program)
     if (unshare(CLONE_NEWNET) < 0)
         stop("no namespace");
     it->name = name;
-    it->process = program ? start_program(program) : start_linux();
+    it->process = fork();
+    if (it->process == 0)
+        run_host(program);
     clock_getcpuclockid(it->process, &it->clock);
     for (int tries = 0; tries < 100; tries++) {
         usleep(50000);
