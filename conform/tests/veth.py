@@ -2,8 +2,8 @@
 """Runs a command in a network namespace with an interface w0, at whose other end, in another
 namespace, Linux has 10.0.0.1/24 and a UDP echo service on port 7."""
 import ctypes
+import os
 import pathlib
-import queue
 import socket
 import subprocess
 import sys
@@ -14,8 +14,6 @@ sys.path.insert(0, str(pathlib.Path(__file__).resolve().parent.parent.parent))
 from tools import command_line  # noqa: E402
 
 CLONE_NEWNET = 0x40000000
-# Seconds in which the other end must be ready.
-SOON = 30
 
 
 def run(*words):
@@ -33,11 +31,9 @@ def quiet(interface):
         file.write("1")
 
 
-def echo(said, linked):
-    """The other end."""
-    unshare()
-    said.put(threading.get_native_id())
-    linked.wait()
+def other_end():
+    """Makes both interfaces in this namespace. Returns the socket of the service."""
+    run("ip", "link", "add", "w0", "type", "veth", "peer", "name", "w1")
     quiet("w1")
     run("ip", "link", "set", "lo", "up")
     run("ip", "addr", "add", "10.0.0.1/24", "broadcast", "+", "dev", "w1")
@@ -46,7 +42,10 @@ def echo(said, linked):
     it = socket.socket(socket.AF_INET, socket.SOCK_DGRAM)
     it.setsockopt(socket.SOL_SOCKET, socket.SO_BROADCAST, 1)
     it.bind(("0.0.0.0", 7))
-    said.put("ready")
+    return it
+
+
+def echo(it):
     while True:
         data, sender = it.recvfrom(65536)
         try:
@@ -57,15 +56,13 @@ def echo(said, linked):
 
 def main():
     words = command_line.with_command(command_line.parser(__doc__), "COMMAND", "the command with its words").command
-    said, linked = queue.Queue(), threading.Event()
     unshare()
-    threading.Thread(target=echo, args=(said, linked), daemon=True).start()
-    other = str(said.get(timeout=SOON))
-    run("ip", "link", "add", "w0", "type", "veth", "peer", "name", "w1", "netns", other)
+    there = os.open("/proc/thread-self/ns/net", os.O_RDONLY)
+    threading.Thread(target=echo, args=[other_end()], daemon=True).start()
+    unshare()
+    run("nsenter", f"--net=/proc/{os.getpid()}/fd/{there}", "ip", "link", "set", "w0", "netns", str(os.getpid()))
     quiet("w0")
     run("ip", "link", "set", "w0", "up", "mtu", "65535", "txqueuelen", "1000")
-    linked.set()
-    said.get(timeout=SOON)
     return subprocess.run(words, check=False).returncode
 
 
