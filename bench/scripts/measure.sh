@@ -1,16 +1,23 @@
-# What a script costs: lines a second of bsdudp, the best of three runs, its resident memory, and the instructions of
+# What a script costs: lines a second, the best of three runs, the resident memory of bsdudp, and the instructions of
 # bsdplay for a line of a mixed script, without its start. PROGRAM and BSDPLAY name other builds.
 
-lines_a_second() { # WORK NAME TIMES FIRST
-    local best=0 begin rate
-    repeated "$3" "$4" "recvfrom 3 9216" > "$1/script"
+# A row for the script in this folder, and the program that plays it.
+lines_a_second() { # WORK NAME PROGRAM..
+    local best=0 begin rate lines
+    lines="$(wc -l < "$1/script")"
     for _ in 1 2 3; do
         begin=$(date +%s%N)
-        "$program" run < "$1/script" > /dev/null
-        rate=$((2 * $3 * 1000000000 / ($(date +%s%N) - begin)))
+        "${@:3}" < "$1/script" > /dev/null
+        rate=$((lines * 1000000000 / ($(date +%s%N) - begin)))
         ((rate < best)) || best=$rate
     done
     table_row "$2" "$(printf '%.0f' "$(printf '%.1e' "$best")")" # two digits that aren't 0
+}
+
+# The same for bsdudp, with a line and a recvfrom this number of times.
+pairs_a_second() { # WORK NAME TIMES FIRST
+    repeated "$3" "$4" "recvfrom 3 9216" > "$1/script"
+    lines_a_second "$1" "$2" "$program" run
 }
 
 # The most resident memory of bsdudp in a script with this number of lines, in KB.
@@ -26,10 +33,15 @@ resident() { # WORK LINES
     rm "$1/lines"
 }
 
-# The instructions of bsdplay for a mixed script, with all lines but the first two this number of times.
-of_mixed() { # WORK TIMES OPTION..
+# Writes a mixed script, with all lines but the first two this number of times.
+mix() { # WORK TIMES
     head -n 2 "$bench/scripts/mixed.txt" > "$1/script"
     for ((i = 0; i < $2; i++)); do tail -n +3 "$bench/scripts/mixed.txt"; done >> "$1/script"
+}
+
+# The instructions of bsdplay for it.
+of_mixed() { # WORK TIMES OPTION..
+    mix "$1" "$2"
     counted "$bsdplay" "${@:3}" "$1/script"
 }
 
@@ -38,10 +50,14 @@ measure_scripts() { # WORK
     local rx="rx 4500001e00010000401166cc0a0000020a00000113880007000a6fdf6869"
     if [ -x "$program" ]; then
         table_head "lines a second" lines
-        lines_a_second "$1" "rx and recvfrom, 2 bytes" 500000 "$rx"
-        lines_a_second "$1" "sendto by loopback and recvfrom, 2 bytes" 500000 "sendto 3 127.0.0.1 7 $(digits 2)"
-        lines_a_second "$1" "sendto by loopback and recvfrom, 1,472 bytes" 50000 "sendto 3 127.0.0.1 7 $(digits 1472)"
-        lines_a_second "$1" "sendto by loopback and recvfrom, 9,000 bytes" 10000 "sendto 3 127.0.0.1 7 $(digits 9000)"
+        pairs_a_second "$1" "rx and recvfrom, 2 bytes" 500000 "$rx"
+        pairs_a_second "$1" "sendto by loopback and recvfrom, 2 bytes" 500000 "sendto 3 127.0.0.1 7 $(digits 2)"
+        pairs_a_second "$1" "sendto by loopback and recvfrom, 1,472 bytes" 50000 "sendto 3 127.0.0.1 7 $(digits 1472)"
+        pairs_a_second "$1" "sendto by loopback and recvfrom, 9,000 bytes" 10000 "sendto 3 127.0.0.1 7 $(digits 9000)"
+        if [ -x "$bsdplay" ]; then
+            mix "$1" 5000
+            lines_a_second "$1" "a mixed script, by bsdplay" "$bsdplay"
+        fi
         table_head "resident memory" KB
         for lines in 10,000 1,000,000 10,000,000; do
             table_row "$lines" "$(resident "$1" "${lines//,/}")"
