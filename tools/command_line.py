@@ -27,22 +27,15 @@ def script() -> str:
 
 def parser(about: str | None) -> argparse.ArgumentParser:
     """Returns a parser for the running script. `about` is its docstring."""
-    end_quietly()
-    how = argparse.RawDescriptionHelpFormatter
-    return argparse.ArgumentParser(
-        prog=script(), description=about, formatter_class=how, allow_abbrev=False
-    )
-
-
-def end_quietly() -> None:
-    """From now on, a BrokenPipeError of standard output prints nothing, and a fault that the user can mend one line.
-    Others print their tracebacks."""
     sys.excepthook = report
     atexit.register(flush)
+    how = argparse.RawDescriptionHelpFormatter
+    return argparse.ArgumentParser(prog=script(), description=about, formatter_class=how, allow_abbrev=False)
 
 
 def report(kind: type[BaseException], fault: BaseException, trace: TracebackType | None) -> None:
-    """Prints an uncaught exception."""
+    """Prints an uncaught exception: nothing for a BrokenPipeError of standard output, a line for a fault that the user
+    can mend, and otherwise the traceback."""
     if isinstance(fault, BrokenPipeError) and is_unread():
         return
     if isinstance(fault, (Stop, subprocess.CalledProcessError)):
@@ -73,11 +66,6 @@ def is_unread() -> bool:
     poll = select.poll()
     poll.register(sys.stdout.fileno(), 0)
     return any(event & select.POLLERR for _, event in poll.poll(0))
-
-
-def none(about: str | None) -> None:
-    """Parses the arguments of a script that takes none."""
-    parser(about).parse_args()
 
 
 def with_command(read: argparse.ArgumentParser, name: str, about: str) -> argparse.Namespace:

@@ -4,6 +4,7 @@ the page. Stop means that a source differs from this module's assumptions: if it
 from __future__ import annotations
 
 import functools
+import ipaddress
 import pathlib
 import re
 from typing import Any, NamedTuple
@@ -239,14 +240,6 @@ def calls_by_error() -> dict[str, list[str]]:
 # ---- settings ------------------------------------------------------------------------------------------------------
 
 
-def number(text: str) -> int:
-    return int(text.replace("_", "").replace(",", ""), 0)
-
-
-def dotted(address: int) -> str:
-    return ".".join(str(address >> shift & 255) for shift in (24, 16, 8, 0))
-
-
 def values_of(field: str, most: str, params: dict[str, int]) -> str:
     """Returns the values that a field of the configuration may have, from its check."""
     check = read(CONFIG).partition("#[cfg(test)]")[0]
@@ -255,9 +248,9 @@ def values_of(field: str, most: str, params: dict[str, int]) -> str:
         return "the same, and not that of `--addr`"
     if field == "addr":
         range_of = r"(\d+) <= network && network < FIRST_MULTICAST >> 24 && network != LOOPBACK >> 24"
-        first = pieces(CONFIG, range_of, check)[0]
-        last = params["FIRST_MULTICAST"] - 1
-        return f"{dotted(int(first) << 24)} to {dotted(last)}, not in {params['LOOPBACK'] >> 24}/8"
+        first = int(pieces(CONFIG, range_of, check)[0])
+        ends = map(ipaddress.IPv4Address, (first << 24, params["FIRST_MULTICAST"] - 1))
+        return f"{' to '.join(map(str, ends))}, not in {params['LOOPBACK'] >> 24}/8"
     least = (re.findall(rf"(\w+) <= self\.{field}\b", check) + ["0"])[0]
     most = (re.findall(rf"self\.{field} <= (\w+)", check) + [most])[0]
     return f"{params.get(least, least)} to {params[most]}"
@@ -272,15 +265,15 @@ def options() -> dict[str, list[str]]:
 def settings() -> list[Setting]:
     """Returns the options of `bsdudp run` with their values and defaults."""
     named = pieces(PARAMS, r"pub const (\w+): \w+ = ([0-9a-fx_]+);")
-    params = {name: number(value) for name, value in named} | {"U16_MAX": 65535, "u32::MAX": 4294967295}
+    params = {name: int(value, 0) for name, value in named} | {"U16_MAX": 65535, "u32::MAX": 4294967295}
     block = read(COMMAND_LINE).partition("DEFAULTS: Config")[2].partition("};")[0]
-    defaults = {field: number(it) for field, it in pieces(COMMAND_LINE, r"(\w+): (0x[0-9a-f_]+|[0-9_]+),", block)}
+    defaults = {field: int(it, 0) for field, it in pieces(COMMAND_LINE, r"(\w+): (0x[0-9a-f_]+|[0-9_]+),", block)}
     uses = pieces(OPTIONS, r'get_str\("(\w+)"\), (?:([\w:]+), )?(?:u32::from\()?DEFAULTS\.(\w+)')
     about = {name: (most, field) for name, most, field in uses}
     found = []
     for name in options()["run"]:
         most, field = about[name]
-        default = defaults[field] if most else dotted(defaults[field])
+        default = defaults[field] if most else ipaddress.IPv4Address(defaults[field])
         found.append(Setting(name, params.get(most, 0), values_of(field, most, params), str(default)))
     return found
 

@@ -9,10 +9,15 @@ from typing import Iterable, Iterator, NamedTuple, NoReturn, Sequence
 
 import pytest
 
-from tools.listed import cells_of, number, read
+from tools.listed import cells_of, read
 
 TOP = pathlib.Path(__file__).resolve().parent.parent.parent
 SHOWN = 30
+
+
+def number(text: str) -> int:
+    """Returns a number of a page, such as 1,500."""
+    return int(text.replace(",", ""))
 
 
 class Fault(NamedTuple):

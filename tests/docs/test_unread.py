@@ -12,7 +12,7 @@ from tests.docs.test_help import PACKAGES, scripts
 HEAD = f"""import os, sys
 sys.path.insert(0, {str(TOP)!r})
 from tools import command_line
-command_line.none('A list.')
+command_line.parser('A list.').parse_args()
 """
 # A list that fits in the buffer, so that it's written at the end, and one that doesn't fit.
 SHORT, LONG = (f"{HEAD}for it in range({count}):\n    print(it)\n" for count in (3, 100_000))
