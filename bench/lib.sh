@@ -1,4 +1,5 @@
-# The functions of bench/run.sh for a subject. CC and CFLAGS name another compiler and its flags, RT another `rt`.
+# The functions of bench/run.sh for a subject, whose files are in the folder $work. CC and CFLAGS name another compiler
+# and its flags, RT another `rt`.
 
 bench="$(cd "$(dirname "${BASH_SOURCE[0]}")" && pwd)"
 crates="$bench/../crates"
@@ -10,20 +11,19 @@ crate_of() { # SUBJECT
 }
 
 # Proves and builds a static library.
-build_library() { # WORK CRATE
-    (cd "$crates/$2" && "${RT:-rt}" lib > "$1/lib.log" 2>&1) || { cat "$1/lib.log" >&2; return 1; }
+build_library() { # CRATE
+    (cd "$crates/$1" && "${RT:-rt}" lib > "$work/lib.log" 2>&1) || { cat "$work/lib.log" >&2; return 1; }
 }
 
-# Builds a subject's program, WORK/bench, with the static libraries of these crates, and with other libraries.
-build_bench() { # WORK SUBJECT CRATES [LIBRARY..]
-    local work="$1" subject="$2" names="$3" crate archives=()
-    shift 3
-    for crate in $names; do
-        build_library "$work" "$crate"
+# Builds a subject's program, $work/bench, with the static libraries of these crates, and with other libraries.
+build_bench() { # SUBJECT CRATES [LIBRARY..]
+    local crate archives=()
+    for crate in $2; do
+        build_library "$crate"
         archives+=("$crates/$crate/out/lib$crate.a")
     done
-    "${CC:-gcc}" ${CFLAGS:--O3} -Wall -Wextra -I "$bench" -o "$work/bench" "$bench/$subject/bench.c" \
-        "${archives[@]}" "$kit/c/liblibc_c.a" "$@" "-Wl,-rpath,$work"
+    "${CC:-gcc}" ${CFLAGS:--O3} -Wall -Wextra -I "$bench" -o "$work/bench" "$bench/$1/bench.c" \
+        "${archives[@]}" "$kit/c/liblibc_c.a" "${@:3}" "-Wl,-rpath,$work"
 }
 
 # Prints a row of a table, and the head of one with the line below it.
@@ -76,18 +76,18 @@ check_limits() { # SUBJECT
 }
 
 # The instructions of each turn, from the difference of 101 turns and one.
-print_instructions() { # WORK
+print_instructions() {
     local column columns row rows once more cells
     counts=()
-    mapfile -t columns < <("$1/bench" columns)
+    mapfile -t columns < <("$work/bench" columns)
     table_head instructions "${columns[@]}"
-    mapfile -t rows < <("$1/bench" rows)
+    mapfile -t rows < <("$work/bench" rows)
     for row in "${rows[@]}"; do
         cells=()
         for column in "${columns[@]}"; do
-            "$1/bench" turns "$row" "$column" 1 || { echo "$row: it went wrong" >&2; return 1; }
-            once="$(counted "$1/bench" turns "$row" "$column" 1)"
-            more="$(counted "$1/bench" turns "$row" "$column" 101)"
+            "$work/bench" turns "$row" "$column" 1 || { echo "$row: it went wrong" >&2; return 1; }
+            once="$(counted "$work/bench" turns "$row" "$column" 1)"
+            more="$(counted "$work/bench" turns "$row" "$column" 101)"
             counts[$row|$column]=$(((more - once) / 100))
             cells+=("${counts[$row|$column]}")
         done
@@ -96,16 +96,16 @@ print_instructions() { # WORK
 }
 
 # Both tables of a subject whose program is built. Its instructions are compared with bench/limits.
-print_tables() { # WORK SUBJECT
+print_tables() { # SUBJECT
     if command -v valgrind > /dev/null; then
-        print_instructions "$1"
-        check_limits "$2"
+        print_instructions
+        check_limits "$1"
     fi
-    "$1/bench"
+    "$work/bench"
 }
 
 # Measures a subject that has no measure.sh.
-measure() { # WORK SUBJECT
-    build_bench "$1" "$2" "$(crate_of "$2")"
-    print_tables "$1" "$2"
+measure() { # SUBJECT
+    build_bench "$1" "$(crate_of "$1")"
+    print_tables "$1"
 }

@@ -19,9 +19,9 @@ for subject in "${subjects[@]}"; do
     echo "== $subject"
     if [ -f "$bench/$subject/measure.sh" ]; then
         . "$bench/$subject/measure.sh"
-        "measure_$subject" "$work"
+        "measure_$subject"
     else
-        measure "$work" "$subject"
+        measure "$subject"
     fi
 done
 [ -z "$over_limit" ] || exit 1

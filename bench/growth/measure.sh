@@ -12,11 +12,11 @@ print_line() { # COUNTED SIZES COSTS
 }
 
 # The instructions of the counted work, which a turn of bench does EACH times: the difference of TURNS turns and one.
-cost_of() { # WORK LINE SIZE TURNS EACH
+cost_of() { # LINE SIZE TURNS EACH
     local once more
-    once="$(counted "$1/bench" turns "$2" "$3" 1)"
-    more="$(counted "$1/bench" turns "$2" "$3" "$4")"
-    echo $(((more - once) / (($4 - 1) * ($5 ? $5 : $3))))
+    once="$(counted "$work/bench" turns "$1" "$2" 1)"
+    more="$(counted "$work/bench" turns "$1" "$2" "$3")"
+    echo $(((more - once) / (($3 - 1) * ($4 ? $4 : $2))))
 }
 
 # A packet to 10.0.0.1 that carries these bytes, without a UDP checksum.
@@ -28,16 +28,16 @@ packet_digits() { # SIZE
 }
 
 # The instructions of two lines, from the difference of 101 pairs and one.
-cost_of_pair() { # WORK FIRST SECOND
+cost_of_pair() { # FIRST SECOND
     local once more
-    repeated 1 "$2" "$3" > "$1/once"
-    repeated 101 "$2" "$3" > "$1/more"
-    once="$(counted "$program" run < "$1/once")"
-    more="$(counted "$program" run < "$1/more")"
+    repeated 1 "$1" "$2" > "$work/once"
+    repeated 101 "$1" "$2" > "$work/more"
+    once="$(counted "$program" run < "$work/once")"
+    more="$(counted "$program" run < "$work/more")"
     echo $(((more - once) / 100))
 }
 
-print_script_lines() { # WORK
+print_script_lines() {
     local program="${PROGRAM:-$crates/bsdudp/out/bsdudp}" size sizes=(2 64 256 1472 9000) sends=() arrives=() read=()
     if [ ! -x "$program" ]; then
         echo "bytes of data: left out, since $program isn't built (rt run in crates/bsdudp)"
@@ -45,29 +45,29 @@ print_script_lines() { # WORK
     fi
     table_head "Bytes of data, as digits in script lines" "${sizes[@]}" ''
     for size in "${sizes[@]}"; do
-        arrives+=("$(cost_of_pair "$1" "rx $(packet_digits "$size")" 'recvfrom 3 1')")
-        read+=("$(cost_of_pair "$1" "rx $(packet_digits "$size")" 'recvfrom 3 9216')")
-        sends+=("$(cost_of_pair "$1" "sendto 3 127.0.0.1 7 $(digits "$size")" 'recvfrom 3 9216')")
+        arrives+=("$(cost_of_pair "rx $(packet_digits "$size")" 'recvfrom 3 1')")
+        read+=("$(cost_of_pair "rx $(packet_digits "$size")" 'recvfrom 3 9216')")
+        sends+=("$(cost_of_pair "sendto 3 127.0.0.1 7 $(digits "$size")" 'recvfrom 3 9216')")
     done
     print_line "rx, and a recvfrom of one byte" "${sizes[*]}" "${arrives[*]}"
     print_line "rx, and its recvfrom" "${sizes[*]}" "${read[*]}"
     print_line "sendto by loopback, and its recvfrom" "${sizes[*]}" "${sends[*]}"
 }
 
-measure_growth() { # WORK
+measure_growth() {
     local line=0 last= grows what turns each all sizes size costs
     if ! command -v valgrind > /dev/null; then
         echo "skipped: it counts instructions by valgrind"
         return
     fi
-    build_bench "$1" growth "bench_stack bench_packets"
+    build_bench growth "bench_stack bench_packets"
     while IFS=$'\t' read -r grows what turns each all; do
         read -r -a sizes <<< "$all"
         [ "$grows" = "$last" ] || table_head "$grows" "${sizes[@]}" ''
         last="$grows" costs=()
-        for size in "${sizes[@]}"; do costs+=("$(cost_of "$1" "$line" "$size" "$turns" "$each")"); done
+        for size in "${sizes[@]}"; do costs+=("$(cost_of "$line" "$size" "$turns" "$each")"); done
         print_line "$what" "$all" "${costs[*]}"
         line=$((line + 1))
-    done < <("$1/bench" lines)
-    print_script_lines "$1"
+    done < <("$work/bench" lines)
+    print_script_lines
 }

@@ -1,7 +1,7 @@
 # ns-3's applications with bsdudp, compared with ns-3's own stack as Debian compiles it.
 
-measure_ns3() { # WORK
-    local work="$1" top="$bench/.." flags
+measure_ns3() {
+    local top="$bench/.." flags
     if ! command -v cmake > "$work/ns3.log" || ! pkg-config --exists ns3-applications ns3-point-to-point gsl sqlite3; then
         echo "skipped: it wants cmake, pkg-config, libns3-dev, libgsl-dev and libsqlite3-dev"
         return

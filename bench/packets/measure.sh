@@ -2,14 +2,14 @@
 
 . "$bench/peers/measure.sh"
 
-measure_packets() { # WORK
+measure_packets() {
     local more=()
-    if lwip_sources "$1"; then
-        build_lwip "$1" lwip "${lwip_best[@]}"
-        more=(-DPACKETS_LWIP "$1/liblwip.so")
+    if lwip_sources; then
+        build_lwip lwip "${lwip_best[@]}"
+        more=(-DPACKETS_LWIP "$work/liblwip.so")
     fi
-    build_bench "$1" packets bench_packets "${more[@]}"
-    print_tables "$1" packets
+    build_bench packets bench_packets "${more[@]}"
+    print_tables packets
     check_drops
 }
 

@@ -1,8 +1,8 @@
 # Our stack compared with lwIP. LWIP names a folder with its sources.
 
 # The folder of lwIP's sources, those of Debian 12 if none is named. Says in a line if there are none.
-lwip_sources() { # WORK
-    LWIP=${LWIP:-$("$bench/../tools/debian-source" "$1" lwip 2> "$1/lwip.log")}
+lwip_sources() {
+    LWIP=${LWIP:-$("$bench/../tools/debian-source" "$work" lwip 2> "$work/lwip.log")}
     [ ! -f "$LWIP/src/core/udp.c" ] || return 0
     echo "lwIP's sources aren't available by apt-get: lwIP is left out"
     return 1
@@ -21,8 +21,8 @@ with_lwip() { # FILE PROGRAM FLAG..
 }
 
 # One build of lwIP with lwip.c, as a shared library that exports only names that begin with its own.
-build_lwip() { # WORK NAME FLAG..
-    with_lwip "$bench/peers/lwip.c" "$1/lib$2.so" "${@:3}" -shared -fPIC -fvisibility=hidden "-DPEER=$2"
+build_lwip() { # NAME FLAG..
+    with_lwip "$bench/peers/lwip.c" "$work/lib$1.so" "${@:2}" -shared -fPIC -fvisibility=hidden "-DPEER=$1"
 }
 
 # The flags of its best build: for speed, with the port's sum, and with pools instead of its heap.
@@ -31,13 +31,13 @@ lwip_best=("${lwip_fast[@]}" -DPEERS_SUM -DPEERS_POOLS)
 
 # lwIP as Debian compiles it, with its fastest sum; compiled for speed; with the port's sum; and with pools instead of
 # its heap, which is its best build.
-measure_peers() { # WORK
-    lwip_sources "$1" || return 0
-    build_lwip "$1" lwip_O2 -O2
-    build_lwip "$1" lwip_O2_sum3 -O2 -DLWIP_CHKSUM_ALGORITHM=3
-    build_lwip "$1" lwip_O3 "${lwip_fast[@]}"
-    build_lwip "$1" lwip_O3_sse2 "${lwip_fast[@]}" -DPEERS_SUM
-    build_lwip "$1" lwip_O3_pools "${lwip_best[@]}"
-    build_bench "$1" peers "bench_stack bench_packets" "$bench/peers/sum.c" "$1"/liblwip_*.so
-    print_tables "$1" peers
+measure_peers() {
+    lwip_sources || return 0
+    build_lwip lwip_O2 -O2
+    build_lwip lwip_O2_sum3 -O2 -DLWIP_CHKSUM_ALGORITHM=3
+    build_lwip lwip_O3 "${lwip_fast[@]}"
+    build_lwip lwip_O3_sse2 "${lwip_fast[@]}" -DPEERS_SUM
+    build_lwip lwip_O3_pools "${lwip_best[@]}"
+    build_bench peers "bench_stack bench_packets" "$bench/peers/sum.c" "$work"/liblwip_*.so
+    print_tables peers
 }
