@@ -5,21 +5,12 @@ bench="$(cd "$(dirname "${BASH_SOURCE[0]}")" && pwd)"
 crates="$bench/../crates"
 kit="$(dirname "$("${RT:-rt}" doc)")" # its C archive has the functions that call malloc and free
 
-# The crate whose static library has a subject: bench_packets if the subject has none of its own.
-crate_of() { # SUBJECT
-    if [ -d "$crates/bench_$1" ]; then echo "bench_$1"; else echo bench_packets; fi
-}
-
-# Proves and builds a static library.
-build_library() { # CRATE
-    (cd "$crates/$1" && "${RT:-rt}" lib > "$work/lib.log" 2>&1) || { cat "$work/lib.log" >&2; return 1; }
-}
-
-# Builds a subject's program, $work/bench, with the static libraries of these crates, and with other libraries.
+# Builds a subject's program, $work/bench, with the static libraries of these crates, which are proved and built, and with
+# other libraries.
 build_bench() { # SUBJECT CRATES [LIBRARY..]
     local crate archives=()
     for crate in $2; do
-        build_library "$crate"
+        (cd "$crates/$crate" && "${RT:-rt}" lib > "$work/lib.log" 2>&1) || { cat "$work/lib.log" >&2; return 1; }
         archives+=("$crates/$crate/out/lib$crate.a")
     done
     "${CC:-gcc}" ${CFLAGS:--O3} -Wall -Wextra -I "$bench" -o "$work/bench" "$bench/$1/bench.c" \
@@ -104,8 +95,10 @@ print_tables() { # SUBJECT
     "$work/bench"
 }
 
-# Measures a subject that has no measure.sh.
+# Measures a subject that has no measure.sh. If there is no crate bench_SUBJECT, bench_packets has its functions.
 measure() { # SUBJECT
-    build_bench "$1" "$(crate_of "$1")"
+    local crate=bench_$1
+    [ -d "$crates/$crate" ] || crate=bench_packets
+    build_bench "$1" "$crate"
     print_tables "$1"
 }
