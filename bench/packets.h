@@ -44,14 +44,6 @@ static inline void put_header(uint8_t *to, Ends ends, uint8_t protocol, uint32_t
     put_two(to + 10, checksum_of(to, PACKET_HEADER, 0));
 }
 
-/* The packet from 10.0.0.1 to 10.0.0.2 of a datagram's bytes from `offset` on, of `size` bytes. */
-static inline void put_packet(uint8_t *to, uint8_t protocol, uint32_t offset, uint32_t size, bool more)
-{
-    put_header(to, (Ends){1, 2, 0, 0}, protocol, offset, size, more);
-    for (uint32_t at = 0; at < size; at++)
-        to[PACKET_HEADER + at] = (uint8_t)(offset + at);
-}
-
 /* The packet of a whole UDP datagram (RFC 768). Returns its length. */
 static inline size_t put_datagram(uint8_t *to, Ends ends, const uint8_t *bytes, size_t len)
 {
@@ -70,11 +62,13 @@ static inline size_t put_datagram(uint8_t *to, Ends ends, const uint8_t *bytes, 
     return PACKET_HEADER + size;
 }
 
-/* Fragment `at` of a datagram of `len` bytes that is cut into pieces of `each`. */
+/* Fragment `at` of a datagram from 10.0.0.1 to 10.0.0.2 of `len` bytes that is cut into pieces of `each`. */
 static inline void put_fragment(uint8_t *to, uint8_t protocol, uint32_t at, uint32_t each, uint32_t len)
 {
-    uint32_t left = len - at * each;
-    put_packet(to, protocol, at * each, left < each ? left : each, left > each);
+    uint32_t offset = at * each, left = len - offset, size = left < each ? left : each;
+    put_header(to, (Ends){1, 2, 0, 0}, protocol, offset, size, left > each);
+    for (uint32_t k = 0; k < size; k++)
+        to[PACKET_HEADER + k] = (uint8_t)(offset + k);
 }
 
 #endif

@@ -1,6 +1,7 @@
 #!/usr/bin/env python3
 """Runs a command in a network namespace with an interface w0, at whose other end, in another
 namespace, Linux has 10.0.0.1/24 and a UDP echo service on port 7."""
+import contextlib
 import ctypes
 import os
 import pathlib
@@ -48,10 +49,8 @@ def other_end():
 def echo(it):
     while True:
         data, sender = it.recvfrom(65536)
-        try:
+        with contextlib.suppress(OSError):
             it.sendto(data, sender)
-        except OSError:
-            pass
 
 
 def main():
