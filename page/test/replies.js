@@ -11,13 +11,15 @@ const { load } = require("./sources.js");
 const [file, examples, lessons, program, player] = process.argv.slice(2);
 const page = load(["Engine", "configOf", "optionsOf", "readNotes", "partsOf", "linesOf", "hexOf", "bytesOf", "hasHosts",
   "DEFAULTS", "DEFAULT_CONFIG", "usageIn", "slotsIn", "drawnChains", "clustersIn", "playChains", "traceHosts",
-  "isFollowed", "Frame", "tracePlay", "traceStack", "Held", "chainsIn"], file);
+  "isFollowed", "Frame", "tracePlay", "traceStack", "Held", "chainsIn", "dotted"], file);
 
 let faults = 0;
 function fault(script, text) {
   console.error(`${script}: ${text}`);
   faults += 1;
 }
+
+const textOf = lines => lines.map(line => line + "\n").join("");
 
 const scriptsOf = folder => fs.readdirSync(folder).filter(name => name.endsWith(".txt"))
   .map(name => path.join(folder, name));
@@ -34,13 +36,13 @@ const examplesOf = folder => scriptsOf(folder).map(name => ({ name, config: conf
 function dialogsOf(table) {
   return fs.readFileSync(table, "utf8").trimEnd().split("\n\n").map(part => {
     const [head, ...lines] = part.split("\n"), [name, ...words] = head.split(" ");
-    const [text, replies] = [0, 1].map(at => lines.map(line => line.split(" => ")[at] + "\n").join(""));
+    const [text, replies] = [0, 1].map(at => textOf(lines.map(line => line.split(" => ")[at])));
     return { name, config: page.configOf(page.optionsOf(words)), text, replies };
   });
 }
 
 function tryExample(engine, command, { name, config, text, replies }) {
-  const said = engine[command](config, text).replies.map(reply => reply + "\n").join("");
+  const said = textOf(engine[command](config, text).replies);
   if (said !== replies) fault(name, "the page's module has other replies than expected");
 }
 
@@ -225,18 +227,12 @@ const TWO = ["socket", "setsockopt 3 reuseport 1", "bind 3 0.0.0.0 7", "socket",
 // first mbuf, at a multiple of 4, and M_PREPEND the headers in front of them or at the end of an mbuf of their own. An
 // arriving packet begins at the front of an mbuf or cluster, and its headers are cut off there (volume 2, chapter 2).
 const BOUND = ["socket", "bind 3 0.0.0.0 9"], BROADCAST = [...BOUND, "setsockopt 3 broadcast 1"];
-const PATHS = [
-  [[...BOUND, `sendto 3 10.0.0.2 7 ${SENT(2)}`], "; H96+30"],
-  [[...BROADCAST, `sendto 3 10.0.0.255 7 ${SENT(2)}`], "; H96+30"],
-  [[...BOUND, `sendto 3 10.0.0.2 7 ${SENT(71)}`], "; H28+99"],
-  [[...BROADCAST, `sendto 3 10.0.0.255 7 ${SENT(71)}`], "; H28+99"],
-  [[...BOUND, `sendto 3 10.0.0.2 7 ${SENT(208)}`], "; H100+28 56+208x1"],
-  [[...BROADCAST, `sendto 3 10.0.0.255 7 ${SENT(208)}`], "; H100+28 56+208x1"],
+const SENDS = [[2, "; H96+30"], [71, "; H28+99"], [208, "; H100+28 56+208x1"]];
+const CHAINS = [
+  ...SENDS.map(([n, chain]) => [[...BOUND, `sendto 3 10.0.0.2 7 ${SENT(n)}`], chain]),
+  ...SENDS.map(([n, chain]) => [[...BROADCAST, `sendto 3 10.0.0.255 7 ${SENT(n)}`], chain]),
   [["socket", "bind 3 0.0.0.0 7", RX('"hi"', "", "10.0.0.255:7")], "H28+16 56+2"],
   [["socket", "bind 3 0.0.0.0 7", RX("@1472", "", "10.0.0.255:7")], "H28+16 28+1472x1"],
-];
-const CHAINS = [
-  ...PATHS,
   [["socket", "bind 3 0.0.0.0 7", RX('"hi"')], "H28+16 56+2"],
   [["socket", "bind 3 0.0.0.0 7", RX('"hi"'), RX("@1472", "id 2")], "H28+16 56+2 / H28+16 28+1472x1"],
   [["socket", "bind 3 0.0.0.0 7", RX('"hi"'), RX("@1472", "id 2"), "recvfrom 3 9000"], "H28+16 28+1472x1"],
@@ -266,7 +262,7 @@ function tryChains(engine) {
   const config = page.DEFAULT_CONFIG, bare = text => text.replace(/^[; ]+|[; ]+$/g, "");
   for (const [lines, wanted] of CHAINS) {
     const { own } = page.tracePlay(engine, lines.join("\n"));
-    const got = wordsOf(engine.state(config, own.map(it => it.line + "\n").join(""))), last = lines[lines.length - 1];
+    const got = wordsOf(engine.state(config, textOf(own.map(it => it.line)))), last = lines[lines.length - 1];
     if (bare(got) !== bare(wanted)) {
       fault(`the mbufs after ${last.slice(0, 60)}`, `${wanted} is right, and the state has ${got}`);
     }
@@ -283,7 +279,7 @@ function tryStates(engine, name, config, lines) {
   for (let n = 1; n <= steps.length; n++) {
     const some = lines.slice(0, n), isRead = n === steps.length || n % READ_EACH === 0;
     const held = isRead ? new page.Held(engine, config, some) : null;
-    const state = isRead ? held.state : engine.state(config, some.map(line => line + "\n").join(""));
+    const state = isRead ? held.state : engine.state(config, textOf(some));
     tryState(`${name}, after line ${n}`, state, steps[n - 1].pool, held);
   }
 }
@@ -359,7 +355,6 @@ function tryHosts(engine, name, { steps, hosts }, isWhole = true) {
 
 function tryHost(engine, name, host) {
   if (!program) return;
-  const textOf = lines => lines.map(line => line + "\n").join("");
   const words = Object.entries(host.options).map(([option, value]) => `--${option}=${value}`);
   const native = child.spawnSync(program, ["run", ...words], { input: textOf(host.lines), maxBuffer: 1 << 28 });
   const isSame = native.status === 0 && native.stdout.toString() === textOf(host.steps.map(step => step.reply));
@@ -390,8 +385,8 @@ function tryShown(name, { steps }) {
   const wordsOf = ({ source, destination, arp, packet }) => {
     const { operation, mac, ip, target } = arp || {};
     if (!arp) return packet ? packet.tells.replace(" → ", " > ").split(", ")[0] : "";
-    return `${source} > ${destination} ARP ${operation === 1 ? `who has ${dotted(target)}, tell ${dotted(ip)}`
-      : `${dotted(ip)} is at ${mac}`}`;
+    const [from, to] = [ip, target].map(page.dotted);
+    return `${source} > ${destination} ARP ${operation === 1 ? `who has ${to}, tell ${from}` : `${from} is at ${mac}`}`;
   };
   for (const { below, wire } of steps.filter(it => it.line === "show wire")) {
     wire.flight.filter(it => it.packet instanceof page.Frame).forEach((it, i) => {
@@ -400,8 +395,6 @@ function tryShown(name, { steps }) {
     });
   }
 }
-
-const dotted = ip => [24, 16, 8, 0].map(shift => (ip >>> shift) & 255).join(".");
 
 // Random lines of three hosts with different MTUs, on a wire that loses, repeats and delays packets.
 function randomWire(below) {
@@ -517,7 +510,7 @@ function randomScript(lines, below) {
     words[below(words.length)] = others[below(others.length)];
     return words.join(" ");
   };
-  return Array.from({ length: LINES }, () => (below(8) ? any() : mixed()) + "\n").join("");
+  return textOf(Array.from({ length: LINES }, () => (below(8) ? any() : mixed())));
 }
 
 // A line of thousands of digits in every script takes too much time.
@@ -530,8 +523,7 @@ function tryRandom(engine, command, examples) {
     const words = ["--mbufs", String(1 + below(100)), "--clusters", String(below(20))];
     const native = child.spawnSync(program, [command, ...words], { input: script, maxBuffer: 1 << 28 });
     const got = engine[command](page.configOf(page.optionsOf(words)), script);
-    const said = got.replies.map(reply => reply + "\n").join("");
-    if (native.status !== 0 || got.code !== 0 || said !== native.stdout.toString()) {
+    if (native.status !== 0 || got.code !== 0 || textOf(got.replies) !== native.stdout.toString()) {
       // one is enough: the others mostly differ for the same reason
       fault(command, `random script ${i} is answered otherwise by the page's module than by ${program}`);
       return;
@@ -580,8 +572,7 @@ async function main() {
   const lessonsOfChains = scriptsOf(path.join(lessons, "chain"))
     .map(name => ({ name, config: configOf(name), text: fs.readFileSync(name, "utf8") }));
   for (const { name, config, text } of [...chains, ...lessonsOfChains]) {
-    tryDrawings(engine, name, config, page.readNotes(text).lines
-      .map(line => page.partsOf(line).asked + "\n").join(""));
+    tryDrawings(engine, name, config, textOf(page.readNotes(text).lines.map(line => page.partsOf(line).asked)));
   }
   tryRandomDrawings(engine, chains);
   if (program) {
