@@ -4,7 +4,6 @@ from __future__ import annotations
 import datetime
 import pathlib
 import re
-from typing import Optional
 
 from tools.command_line import Stop
 
@@ -28,7 +27,7 @@ def newest() -> str:
     return heading()[1]
 
 
-def released() -> Optional[datetime.date]:
+def released() -> datetime.date | None:
     """Returns the release date of the newest version, or None."""
     day = heading()[2]
     try:

@@ -37,16 +37,13 @@ static bool exchanged(const void *what, int column, uint64_t turns)
     return bsdudp_exchange(bytes, LENS[column], link->mtu, link->is_connected, (uint32_t)turns) == turns;
 }
 
-static bool looped(const void *what, int column, uint64_t turns)
-{
-    (void)what;
-    return bsdudp_loop_back(bytes, LENS[column], (uint32_t)turns) == turns;
-}
+/* What one stack does by itself. */
+typedef uint32_t Alone(const uint8_t *bytes, size_t len, uint32_t times);
+static Alone *const LOOP_BACK = bsdudp_loop_back, *const REFUSE = bsdudp_send_refused;
 
-static bool refused(const void *what, int column, uint64_t turns)
+static bool alone(const void *what, int column, uint64_t turns)
 {
-    (void)what;
-    return bsdudp_send_refused(bytes, LENS[column], (uint32_t)turns) == turns;
+    return (*(Alone *const *)what)(bytes, LENS[column], (uint32_t)turns) == turns;
 }
 
 /* A packet: its receiver, how many sockets read it, how many arrive first and aren't read, and which byte is wrong. */
@@ -94,7 +91,7 @@ static const Row ROWS[] = {
     {"from one stack to another", exchanged, &SMALL},
     {"the same with an MTU of 4,352", exchanged, &LARGE},
     {"by a connected socket", exchanged, &CONNECTED},
-    {"by loopback", looped, NULL},
+    {"by loopback", alone, &LOOP_BACK},
     {"delivered, with its recvfrom", arrived, &READ},
     {"dropped: no socket has the port", arrived, &NO_PORT},
     {"dropped: the receive queue is full", arrived, &FULL_QUEUE},
@@ -104,7 +101,7 @@ static const Row ROWS[] = {
     {"broadcast that no socket receives", arrived, &TO_NONE},
     {"broadcast, read by one socket", arrived, &TO_ONE},
     {"broadcast, read by three sockets", arrived, &TO_THREE},
-    {"sendto, output queue full", refused, NULL},
+    {"sendto, output queue full", alone, &REFUSE},
 #ifdef PACKETS_LWIP
     {"lwIP: delivered and read", arrived_at_lwip, &READ},
     {"lwIP: no such port", arrived_at_lwip, &NO_PORT},
