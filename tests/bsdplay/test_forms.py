@@ -1,10 +1,12 @@
 """The forms in which bsdplay prints a script's replies. Without its escape sequences, coloured output is the plain
 text. The objects of --json contain the plain text if their bytes are printed as text, and the output of --quiet if all
-digits are printed. Then how bytes are printed, when colours are used, and which options exclude each other."""
+digits are printed. Then how bytes are printed, how many replies are written at once, when colours are used, and which
+options exclude each other."""
 import json
 import os
 import pty
 import re
+import socket
 import subprocess
 
 import pytest
@@ -147,6 +149,21 @@ def test_bytes_are_printed_as_the_script_writes_them(sent, line, got, bsdplay):
     printed = run(bsdplay, script=script).stdout.decode().splitlines()
     wanted = [f"4  {GET} => {GOT}{got[0]}", *[f"-:4: expected from {it}" for it in got[1:]]]
     same(f"of {sent}, by {line}", [it for it in printed if it.startswith(("4 ", "-:4:"))], wanted)
+
+
+# ---- system calls --------------------------------------------------------------------------------------------------
+
+
+@pytest.mark.parametrize("words", [[], ["--quiet"], ["--color", "always"], ["--json"]], ids=" ".join)
+def test_replies_are_written_together(words, bsdplay):
+    """A packet of this socket has what one `write` of the program wrote. The script is short enough for one `read`."""
+    ours, its = socket.socketpair(socket.AF_UNIX, socket.SOCK_SEQPACKET)
+    script = of_lines(["socket", "bind 3 0.0.0.0 7", *['sendto 3 10.0.0.1 7 "hi"', "recvfrom 3 9"] * 20])
+    with ours:
+        with its:
+            subprocess.run([bsdplay, *words], input=script.encode(), stdout=its, check=False)
+        written = list(iter(lambda: ours.recv(1 << 20), b""))
+    assert len(written) == 1 and written[0].count(b"\n") >= 42, f"{len(written)} writes"
 
 
 # ---- options -------------------------------------------------------------------------------------------------------

@@ -65,17 +65,34 @@ fn shown_len(bytes: &[u8], colours: bool) -> usize {
     len
 }
 
-/// Returns how many of the first bytes are printed as they are, up to the end of the first line.
-fn plain_len(bytes: &[u8], colours: bool) -> usize {
+/// How many bytes are looked at together.
+const BLOCK: usize = 16;
+
+/// Returns whether all of these bytes are characters of ASCII that are printed as they are. It looks at each of them,
+/// so that the compiler compares them as vectors.
+fn is_plain(block: &[u8]) -> bool {
+    let mut other = false;
+    for byte in block {
+        let printable = byte.wrapping_sub(0x20) < 0x5f;
+        other = other | !(printable | (*byte == b'\n') | (*byte == b'\t'));
+    }
+    !other
+}
+
+/// Returns how many of the first bytes are printed as they are, of the first line alone if that is wanted.
+fn plain_len(bytes: &[u8], colours: bool, one_line: bool) -> usize {
     let mut at = 0usize;
     for _ in 0..bytes.len() {
         let rest = bytes.get(at..).unwrap_or_default();
-        let step = shown_len(rest, colours);
+        let step = match rest.get(..BLOCK) {
+            Some(block) if !one_line && is_plain(block) => BLOCK,
+            _ => shown_len(rest, colours),
+        };
         if step == 0 {
             break;
         }
         at = at.saturating_add(step);
-        if rest.first() == Some(&b'\n') {
+        if one_line && rest.first() == Some(&b'\n') {
             break;
         }
     }
@@ -141,7 +158,7 @@ impl<W: Write> Write for Screen<W> {
             self.at_front = false;
             return Ok(echo.min(buf.len()));
         }
-        let plain = &buf[..plain_len(buf, self.colours).min(buf.len())];
+        let plain = &buf[..plain_len(buf, self.colours, self.typed).min(buf.len())];
         if let Some(last) = plain.last() {
             self.at_front = *last == b'\n';
             return self.inner.write(plain);

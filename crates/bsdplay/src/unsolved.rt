@@ -1,5 +1,6 @@
 //! Exercises: scripts in which `?` is expected of a line, or is the answer to a question.
 use crate::hand_in::unmarked;
+use memchr::{memchr, memchr_iter, memrchr};
 use play_grade::{Marker, first_line};
 use std::alloc::{AllocError, Global};
 use std::io::{self, Read};
@@ -78,7 +79,7 @@ impl<R: Read> Unsolved<R> {
 
     /// Returns whether the line expects `?`. Without memory for a look at it, it doesn't.
     fn awaits(&mut self) -> bool {
-        if !self.line.as_slice().contains(&b'?') {
+        if memchr(b'?', self.line.as_slice()).is_none() {
             return false;
         }
         if self.marker.is_none() {
@@ -113,7 +114,7 @@ impl<R: Read> Unsolved<R> {
     }
 
     /// Takes more bytes of the script, line by line.
-    fn take(&mut self, chunk: &[u8]) -> io::Result<()> {
+    fn take_lines(&mut self, chunk: &[u8]) -> io::Result<()> {
         let mut left = chunk;
         for _ in 0..chunk.len().saturating_add(1) {
             let (piece, more) = first_line(left);
@@ -123,6 +124,36 @@ impl<R: Read> Unsolved<R> {
             };
             self.end_line(b"\n")?;
             left = rest;
+        }
+        Ok(())
+    }
+
+    /// Takes more bytes of lines without a `?`, all of which are passed on together.
+    fn take_solved(&mut self, chunk: &[u8]) -> io::Result<()> {
+        let len = match memrchr(b'\n', chunk) {
+            Some(last) => last.saturating_add(1),
+            None => 0,
+        };
+        let lines = chunk.get(..len).unwrap_or_default();
+        if !lines.is_empty() {
+            let count = memchr_iter(b'\n', lines).count();
+            self.number = self.number.saturating_add(count as u64);
+            self.ready.extend_from_slice(self.line.as_slice())?;
+            self.ready.extend_from_slice(lines)?;
+            self.line.clear();
+        }
+        self.line
+            .extend_from_slice(chunk.get(len..).unwrap_or_default())?;
+        Ok(())
+    }
+
+    /// Takes more bytes of the script.
+    fn take(&mut self, chunk: &[u8]) -> io::Result<()> {
+        let asks = memchr(b'?', chunk).is_some() || memchr(b'?', self.line.as_slice()).is_some();
+        if asks || self.open.first.is_some() {
+            self.take_lines(chunk)?;
+        } else {
+            self.take_solved(chunk)?;
         }
         if self.line.len() > LONGEST_HELD {
             self.ready.extend_from_slice(self.line.as_slice())?;

@@ -1,4 +1,5 @@
 //! The output of a script, watched for settings for which there is no memory: the player goes on after such a line.
+use memchr::memchr;
 use play_script::{Played, Sink};
 use script_loop::Buffer;
 use std::alloc::{AllocError, Global};
@@ -44,16 +45,26 @@ impl Seen {
         }
     }
 
+    /// Looks at a line whose last piece this is.
+    fn end_line(&mut self, piece: &[u8]) {
+        // Most lines are written as a whole, and needn't be copied.
+        if self.line.is_empty() {
+            self.lacks = self.lacks || is_lack(piece);
+            return;
+        }
+        self.keep(piece);
+        self.lacks = self.lacks || is_lack(self.line.as_slice());
+        self.line.clear();
+    }
+
     /// Looks at the lines that these bytes end.
     fn watch(&mut self, bytes: &[u8]) {
         let mut rest = bytes;
         for _ in 0..bytes.len() {
-            let Some(at) = rest.iter().position(|byte| *byte == b'\n') else {
+            let Some(at) = memchr(b'\n', rest) else {
                 break;
             };
-            self.keep(rest.get(..at).unwrap_or_default());
-            self.lacks = self.lacks || is_lack(self.line.as_slice());
-            self.line.clear();
+            self.end_line(rest.get(..at).unwrap_or_default());
             rest = rest.get(at.saturating_add(1)..).unwrap_or_default();
         }
         self.keep(rest);
