@@ -5,8 +5,8 @@ bench="$(cd "$(dirname "${BASH_SOURCE[0]}")" && pwd)"
 crates="$bench/../crates"
 kit="$(dirname "$("${RT:-rt}" doc)")" # its C archive has the functions that call malloc and free
 
-# Builds a subject's program, $work/bench, with the static libraries of these crates, which are proved and built, and with
-# other libraries.
+# Builds a subject's program, $work/bench, with the static libraries of these crates, which are proved and built first,
+# and with other libraries.
 build_bench() { # SUBJECT CRATES [LIBRARY..]
     local crate archives=()
     for crate in $2; do

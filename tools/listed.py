@@ -248,9 +248,9 @@ def values_of(field: str, most: str, params: dict[str, int]) -> str:
         return "the same, and not that of `--addr`"
     if field == "addr":
         range_of = r"(\d+) <= network && network < FIRST_MULTICAST >> 24 && network != LOOPBACK >> 24"
-        first = int(pieces(CONFIG, range_of, check)[0])
-        ends = map(ipaddress.IPv4Address, (first << 24, params["FIRST_MULTICAST"] - 1))
-        return f"{' to '.join(map(str, ends))}, not in {params['LOOPBACK'] >> 24}/8"
+        first, after = int(pieces(CONFIG, range_of, check)[0]) << 24, params["FIRST_MULTICAST"]
+        ends = f"{ipaddress.IPv4Address(first)} to {ipaddress.IPv4Address(after - 1)}"
+        return f"{ends}, not in {params['LOOPBACK'] >> 24}/8"
     least = (re.findall(rf"(\w+) <= self\.{field}\b", check) + ["0"])[0]
     most = (re.findall(rf"self\.{field} <= (\w+)", check) + [most])[0]
     return f"{params.get(least, least)} to {params[most]}"

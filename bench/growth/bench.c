@@ -37,7 +37,7 @@ static uint32_t from_pool(uint32_t mbufs, uint32_t len, uint32_t turns)
     return bsdudp_send_and_receive(bytes, len, mbufs, 1, 0, turns);
 }
 
-/* The two fragments of a datagram. */
+/* Both fragments of a new datagram arrive while `held` others are unfinished, or the oldest is completed and begun. */
 static uint32_t two_fragments(uint32_t held, uint32_t which, uint32_t turns)
 {
     enum { LEN = PACKET_HEADER + PIECE };
@@ -61,7 +61,7 @@ typedef struct {
     uint32_t turns; /* that are compared with one */
     uint32_t each;  /* how often a turn does the counted work; 0 means the size */
     uint32_t (*run)(uint32_t size, uint32_t what, uint32_t turns);
-    uint32_t what;
+    uint32_t what; /* its second argument */
 } Line;
 
 static const Line LINES[] = {
