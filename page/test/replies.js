@@ -64,7 +64,7 @@ function tryScript(engine, command, script) {
   });
   if (command !== "chain") tryPlayer(engine, script, text);
   if (played.hosts) {
-    tryHosts(engine, script, played);
+    tryHosts(script, played);
     tryShown(script, played);
   } else if (played.own) tryOwn(script, played);
   return { steps, notes };
@@ -344,16 +344,16 @@ function tryWaiting(say, { state, sockets, output, pieces }, chainsOf) {
 
 // Each host's separate script has the same results as the program after each line, with the module and with the native
 // program.
-function tryHosts(engine, name, { steps, hosts }, isWhole = true) {
+function tryHosts(name, { steps, hosts }) {
   for (const host of hosts.values()) {
-    tryHost(engine, name, host);
+    tryHost(name, host);
     const lost = steps.findIndex(step => step.now.has(host.name) && !page.isFollowed(step, host));
-    if (isWhole && lost >= 0) fault(name, `what ${host.name} has in hand isn't known after line ${lost + 1}`);
+    if (lost >= 0) fault(name, `what ${host.name} has in hand isn't known after line ${lost + 1}`);
   }
   steps.flatMap(step => step.moved).forEach(it => tryMoved(name, it, hosts));
 }
 
-function tryHost(engine, name, host) {
+function tryHost(name, host) {
   if (!program) return;
   const words = Object.entries(host.options).map(([option, value]) => `--${option}=${value}`);
   const native = child.spawnSync(program, ["run", ...words], { input: textOf(host.lines), maxBuffer: 1 << 28 });
@@ -419,7 +419,7 @@ function tryRandomWires(engine) {
   const below = numbers(3);
   for (let i = 0; i < WIRES; i++) {
     const text = randomWire(below);
-    tryHosts(engine, `random wire ${i}`, page.traceHosts(engine, text));
+    tryHosts(`random wire ${i}`, page.traceHosts(engine, text));
     tryPlayer(engine, `random wire ${i}`, text);
   }
 }
