@@ -165,7 +165,8 @@ def licences() -> bytes:
 
 def documents(without: Iterable[str] = ()) -> Dict[str, File]:
     """Yields the documents for users, the examples, and the files for simulators, below DOCUMENTS."""
-    named = ["LICENSE", "SECURITY.md", "CHANGELOG.md", "CITATION.cff", *(it for it in files_below("docs") if not it.startswith(OF_THE_SOURCES))]
+    pages = (it for it in files_below("docs") if not it.startswith(OF_THE_SOURCES))
+    named = ["LICENSE", "SECURITY.md", "CHANGELOG.md", "CITATION.cff", *pages]
     named += [*files_below("examples"), *files_below("simulators")]
     files: Dict[str, File] = {f"{DOCUMENTS}/{name}": ((TOP / name).read_bytes(), False) for name in named}
     files[f"{DOCUMENTS}/LICENSES-LINKED"] = (licences(), False)
