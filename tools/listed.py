@@ -163,16 +163,16 @@ def places_of_counts() -> dict[str, list[tuple[str, str]]]:
 
 # ---- errors --------------------------------------------------------------------------------------------------------
 
-# The definitions whose text has the errors of a call, in order.
+# The definitions whose text has the errors of a call, in order. Those of both sends are under `send`.
 CALLS = {
     "socket": ["Opens"],
     "bind": ["Binds"],
     "connect": ["ConnectsTo"],
+    "send": ["Sends", "Leaves"],
     "recvfrom": ["Receives"],
     "setsockopt": ["SetsOption"],
     "close": ["Closes"],
 }
-SENDS = ["Sends", "Leaves"]
 # The calls in the order of the pages.
 ORDER = ["socket", "bind", "connect", "send", "sendto", "recvfrom", "setsockopt", "close"]
 
@@ -220,10 +220,9 @@ def errors_of(name: str, known: dict[str, str]) -> list[str]:
 
 
 def errors_by_call() -> dict[str, list[str]]:
-    """Returns the errors of each call on an open descriptor, in order. Those of both sends are under `send`."""
+    """Returns the errors of each call on an open descriptor, in order."""
     known = definitions(SPECS / "Machine/Calls.antt") | definitions(SPECS / "Machine/Send.antt")
-    calls = CALLS | {"send": SENDS}
-    return {call: [it for root in roots for it in errors_of(root, known)] for call, roots in calls.items()}
+    return {call: [it for root in roots for it in errors_of(root, known)] for call, roots in CALLS.items()}
 
 
 def calls_by_error() -> dict[str, list[str]]:

@@ -115,26 +115,22 @@ class Body:
         return [line]
 
 
-def members(kinds):
-    """Returns the members of a packed struct."""
-    return re.findall(r"\[\d+ x i8\]|i\d+|ptr|(?:.+)", kinds.replace(", ", "\n"))
-
-
 def constant(line):
     """Returns a constant with 4 bytes of 0 after each address in it."""
     head = rf"{NAME} = (?:private |internal |local_)?(?:unnamed_addr )?constant "
     if re.match(rf'{head}\[\d+ x i8\] (?:c"[^"]*"|zeroinitializer)(?:, align \d+)?$', line):
         return line
     it = re.match(rf"({head})<\{{ (.*?) \}}> <\{{ (.*) \}}>((?:, align \d+)?)$", line)
-    if not it or any(not re.fullmatch(r"\[\d+ x i8\]|i\d+|ptr", kind) for kind in members(it[2])):
+    kinds = it[2].split(", ") if it else []
+    if not it or any(not re.fullmatch(r"\[\d+ x i8\]|i\d+|ptr", kind) for kind in kinds):
         raise Stop("a global of a form that isn't known")
     value = rf'\[\d+ x i8\] (?:c"[^"]*"|zeroinitializer|undef|poison)|i\d+ -?\d+|ptr (?:{ADDRESS}|null)'
     if not re.fullmatch(rf"(?:{value})(?:, (?:{value}))*", it[3]):
         raise Stop("a constant of a form that isn't known")
     wide = re.sub(rf"(ptr (?:{ADDRESS}|null))(?=,|$)", r"\1, [4 x i8] zeroinitializer", it[3])
-    kinds = ", ".join("ptr, [4 x i8]" if kind == "ptr" else kind for kind in members(it[2]))
-    if wide.count("[4 x i8] zeroinitializer") - it[3].count("[4 x i8] zeroinitializer") != members(it[2]).count("ptr"):
+    if wide.count("[4 x i8] zeroinitializer") - it[3].count("[4 x i8] zeroinitializer") != kinds.count("ptr"):
         raise Stop("a constant whose addresses can't be counted")
+    kinds = ", ".join("ptr, [4 x i8]" if kind == "ptr" else kind for kind in kinds)
     return f"{it[1]}<{{ {kinds} }}> <{{ {wide} }}>{it[4]}"
 
 

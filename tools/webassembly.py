@@ -4,7 +4,6 @@ The toolchain proves a crate for WebAssembly, but can't compile one that allocat
 module for x86-64. clang compiles it, ld.lld links it with a heap in C, and binaryen's wasm-opt narrows its addresses to
 32 bits. None of this is proved."""
 import re
-import shutil
 
 from tools.command_line import Stop
 from tools.llvm import TOP, readable, run, with_target
@@ -82,9 +81,7 @@ def without_table(data):
 
 
 def lowered(module, kit, scratch, made):
-    """Returns the module with 32-bit addresses."""
-    if not shutil.which("wasm-opt"):
-        raise Stop("there is no wasm-opt: apt-get install binaryen")
+    """Returns the module with 32-bit addresses. The caller has looked for wasm-opt."""
     (scratch / "plain.wasm").write_bytes(without_table(compiled(module, kit, scratch, made).read_bytes()))
     features = [f"--enable-{it}" for it in FEATURES]
     run("wasm-opt", *features, "--memory64-lowering", *made[-1], scratch / "plain.wasm", "-o", scratch / "lowered.wasm")

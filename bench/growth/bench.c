@@ -81,9 +81,8 @@ static const Line LINES[] = {
 int main(int argc, char **argv)
 {
     if (argc == 2 && !strcmp(argv[1], "lines")) {
-        for (int at = 0; at < COUNT_OF(LINES); at++)
-            printf("%s\t%s\t%u\t%u\t%s\n", LINES[at].grows, LINES[at].counted, (unsigned)LINES[at].turns,
-                   (unsigned)LINES[at].each, LINES[at].sizes);
+        for (const Line *it = LINES; it < LINES + COUNT_OF(LINES); it++)
+            printf("%s\t%s\t%u\t%u\t%s\n", it->grows, it->counted, it->turns, it->each, it->sizes);
         return 0;
     }
     if (argc != 5 || strcmp(argv[1], "turns") || atoi(argv[2]) >= COUNT_OF(LINES))

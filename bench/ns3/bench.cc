@@ -113,7 +113,6 @@ void Compare(const char *name, uint64_t wanted, int rounds, const std::function<
         }
     }
     std::printf("| %s | %.0f | %.0f | %.2f |\n", name, least[1], least[0], least[1] / least[0]);
-    std::fflush(stdout);
 }
 
 /// The stacks of the nodes in a row, and the rows' names.
@@ -151,6 +150,7 @@ double Resident(uint32_t count, Kind kind)
 
 int main()
 {
+    std::setvbuf(stdout, nullptr, _IOLBF, BUFSIZ);
     const char *named = std::getenv("ROUNDS");
     const int rounds = named ? std::atoi(named) : 5;
     GlobalValue::Bind("ChecksumEnabled", BooleanValue(true));
@@ -166,7 +166,6 @@ int main()
         for (int i = 0; i < 2; i++)
             each[i] = (Resident(counts[i], kind) - Resident(counts[i], DEVICES)) / counts[i];
         std::printf("| %s | %.1f | %.1f |\n", NAMES[kind], each[0], each[1]);
-        std::fflush(stdout);
     }
 
     std::printf("\n| milliseconds of user time, the least | bsdudp | ns-3's own | ratio |\n|---|---:|---:|---:|\n");

@@ -28,8 +28,7 @@ def unshare():
 
 
 def quiet(interface):
-    with open(f"/proc/sys/net/ipv6/conf/{interface}/disable_ipv6", "w", encoding="ascii") as file:
-        file.write("1")
+    pathlib.Path(f"/proc/sys/net/ipv6/conf/{interface}/disable_ipv6").write_text("1", encoding="ascii")
 
 
 def other_end():
