@@ -198,7 +198,7 @@ impl Host {
     }
 
     /// Receives a whole datagram for this machine: stores it in the queue of the socket that matches it. If it takes
-    /// several mbufs or is a broadcast, `deliver` does that. `Err` is as for `process`.
+    /// several mbufs or is a broadcast, `receive_by_chain` does that. `Err` is as for `process`.
     #[inline(always)]
     fn receive_datagram(&mut self, space: Space, headed: Headed<'_>) -> Result<(), Why>
         requires can { CanStore self.old headed.packet.now }
@@ -210,13 +210,13 @@ impl Host {
             Space::InMbuf => false,
             Space::InCluster => true,
             Space::InMore => {
-                self.deliver(headed);
+                self.receive_by_chain(headed);
                 return Ok(());
             }
         };
         let head = headed.head();
         if self.socks.is_broadcast(head.dst) {
-            self.deliver(headed);
+            self.receive_by_chain(headed);
             return Ok(());
         }
         let datagram = read(headed)?;
@@ -228,7 +228,7 @@ impl Host {
     /// Receives a whole datagram for this machine that takes several mbufs or is a broadcast: its data are stored in a
     /// chain of their own. Its buffers must be free.
     #[inline(never)]
-    fn deliver(&mut self, headed: Headed<'_>)
+    fn receive_by_chain(&mut self, headed: Headed<'_>)
         requires can { CanStore self.old headed.packet.now }
         requires whole { IsWholeForUs self.old.socks.pcbs headed.packet.now }
         ensures { PacketArrives self.old headed.entry.packet.now self.new }

@@ -37,7 +37,7 @@ impl ReceiveQueues {
     }
 
     /// Appends a datagram of `len` bytes to a descriptor's queue. It must fit, and an mbuf must be free.
-    // Inlined, like `deliver`.
+    // Inlined, like `append`.
     #[inline(always)]
     fn append_at(&mut self, pool: &mut Pool, fd: u32, datagram: Datagram, len: u32)
         requires each { (k : ℕ) → IsSockBuf pool.old (queue_at (from_three self.old) k) }
@@ -74,7 +74,7 @@ impl Parts {
     /// or no mbuf is free, the datagram is freed and counted for this cause (volume 2, chapter 16).
     // Inlined, because most datagrams have one receiver.
     #[inline(always)]
-    fn deliver<R: Waiting>(
+    fn append<R: Waiting>(
         &mut self,
         pool: &mut Pool,
         waiting: &mut R,
@@ -141,7 +141,7 @@ impl Parts {
             sender: datagram.sender,
             chain: copy_whole(pool, &datagram.chain),
         };
-        self.deliver(pool, waiting, counters, fd, copy);
+        self.append(pool, waiting, counters, fd, copy);
     }
 
     /// Appends a datagram to the queues of all these sockets: a copy to each but the last, and the datagram itself to
@@ -175,6 +175,6 @@ impl Parts {
             self.deliver_copy(pool, waiting, counters, fds[i], &datagram);
             i += 1;
         }
-        self.deliver(pool, waiting, counters, fds[last], datagram);
+        self.append(pool, waiting, counters, fds[last], datagram);
     }
 }

@@ -27,13 +27,13 @@ deliver_copy-requires-clause-opened g c =
 pub deliver_copy-requires-clause-fit : goal.deliver_copy-requires-clause-fit
 deliver_copy-requires-clause-fit g c = keeps_fit c.receivers.invariant.way.parts c.requires.fit
 
-pub deliver-requires-clause-opened : goal.deliver-requires-clause-opened
-deliver-requires-clause-opened g c =
+pub append-requires-clause-opened : goal.append-requires-clause-opened
+append-requires-clause-opened g c =
     open_at c.args.fds.now (length c.args.fds.now - 1) c.requires.opened (omega (arith, c.requires.some))
     c.receivers.invariant.way.parts.pcbs
 
-pub deliver-requires-clause-fit : goal.deliver-requires-clause-fit
-deliver-requires-clause-fit g c = keeps_fit c.receivers.invariant.way.parts c.requires.fit
+pub append-requires-clause-fit : goal.append-requires-clause-fit
+append-requires-clause-fit g c = keeps_fit c.receivers.invariant.way.parts c.requires.fit
 
 pub receivers-preserved : goal.receivers-preserved
 receivers-preserved g c =
@@ -52,6 +52,6 @@ returns-clause-delivered g c =
     let last = length c.args.fds.now - 1 in
     let e : c.receivers.i ≡ last = omega (arith, c.receivers-test.false, c.receivers.invariant.within) in
     delivered_all _ _ _ _ c.receivers.i (slice_index_or c.args.fds.now last 0) _ _ c.receivers.invariant.way
-    c.deliver.ensures.appended (omega (arith, c.requires.some, e))
+    c.append.ensures.appended (omega (arith, c.requires.some, e))
     (ap (λ (k : ℕ). slice_index_or c.args.fds.now k 0) (sym e)) (open_at c.args.fds.now last c.requires.opened
     (omega (arith, c.requires.some)) c.receivers.invariant.way.parts.pcbs)

@@ -46,16 +46,16 @@ copied : (g : _) (c : After-copy_whole g) → CopyReady c.reserve.new.pool c.cop
     (socks_of c.args.self.now) (g.R.Reclaim.owned c.reserve.new.pool c.reserve.new.waiting) c.copy_whole.result
 copied g c = copy_ready c.requires.fit c.reserve.ensures.moves c.copy_whole.ensures.moves
 
-pub deliver-requires-clause-fit : goal.deliver-requires-clause-fit
-deliver-requires-clause-fit g c =
-    let k = copied g (goal.at.deliver-requires-clause-fit g c).After-copy_whole in
+pub append-requires-clause-fit : goal.append-requires-clause-fit
+append-requires-clause-fit g c =
+    let k = copied g (goal.at.append-requires-clause-fit g c).After-copy_whole in
     subst (λ (zs : List ℕ). SocksFit c.copy_whole.new.pool (socks_of c.args.self.now) (c.copy_whole.result ∷ zs))
     (sym (g.met.R.Reclaim.owned_same c.reserve.new.pool c.copy_whole.new.pool c.reserve.new.waiting k.same)) k.fit
 
-pub deliver-requires-clause-waits : goal.deliver-requires-clause-waits
-deliver-requires-clause-waits g c =
+pub append-requires-clause-waits : goal.append-requires-clause-waits
+append-requires-clause-waits g c =
     g.met.R.Reclaim.ready_same c.reserve.new.pool c.copy_whole.new.pool c.reserve.new.waiting
-    (copied g (goal.at.deliver-requires-clause-waits g c).After-copy_whole).same c.reserve.ensures.ready
+    (copied g (goal.at.append-requires-clause-waits g c).After-copy_whole).same c.reserve.ensures.ready
 
 pub returns-clause-offered : goal.returns-clause-offered
 returns-clause-offered g c =
@@ -71,4 +71,4 @@ returns-clause-offered g c =
     copy_offer c.args.fd c.copy_whole.result c.args.datagram.now.sender i c.mbufs-mbufs.ensures
     c.copy_whole.ensures.moves c.copy_whole.ensures.item
     (g.met.R.Waiting.unfinished_same q c.copy_whole.new.pool v same)
-    (g.met.R.Reclaim.owned_same q c.copy_whole.new.pool v same) c.deliver.ensures.appended
+    (g.met.R.Reclaim.owned_same q c.copy_whole.new.pool v same) c.append.ensures.appended

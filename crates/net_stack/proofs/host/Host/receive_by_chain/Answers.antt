@@ -4,7 +4,7 @@ use Rattle.sock_calls.specs.Whole.{DeliversWhole, HasWire}
 use Rattle.sock_calls.proofs.Laws.{refused}
 use Rattle.net_stack.proofs.Aside.{host_view}
 use Rattle.net_stack.proofs.InPlace.{came_delivered, ended, whole_ends}
-use Rattle.net_stack.proofs.host.Host.deliver.Goals as goal
+use Rattle.net_stack.proofs.host.Host.receive_by_chain.Goals as goal
 
 pub deliver-requires-clause-fit : goal.deliver-requires-clause-fit
 deliver-requires-clause-fit c = record { socks = c.requires.can.fit.socks; owned = c.requires.can.fit.owned }

@@ -8,8 +8,8 @@ use Rattle.sock_calls.specs.Sockets.{from_three, queues_of, queued_chains}
 use Rattle.sock_calls.specs.Inside.Parts.{socks_of}
 use Rattle.sock_calls.proofs.Delivered.{Tested, freed, tested, joined, full_end, lacking_end, fitting_end}
 use Rattle.sock_calls.proofs.Copies.{named_at, descriptor_of}
-use Rattle.sock_calls.proofs.parts.Parts.deliver.Goals as goal
-use Rattle.sock_calls.proofs.parts.Parts.deliver.Goals.{After-reserve}
+use Rattle.sock_calls.proofs.parts.Parts.append.Goals as goal
+use Rattle.sock_calls.proofs.parts.Parts.append.Goals.{After-reserve}
 
 pub fits_at-requires : goal.fits_at-requires
 fits_at-requires g c = descriptor_of c.args.self.now.pcbs c.args.fd c.requires.fit.socks.apart c.requires.opened
