@@ -79,7 +79,7 @@ fn is_plain(block: &[u8]) -> bool {
     !other
 }
 
-/// Returns how many of the first bytes are printed as they are, of the first line alone if that is wanted.
+/// Returns how many of the first bytes are printed as they are, only of the first line if that is wanted.
 fn plain_len(bytes: &[u8], colours: bool, one_line: bool) -> usize {
     let mut at = 0usize;
     for _ in 0..bytes.len() {

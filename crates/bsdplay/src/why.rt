@@ -470,7 +470,7 @@ fn look_ahead_in<S: Source + Drop>(
     found
 }
 
-/// Returns the host with its hardware address, by a source that is read once more, if it's judged as one on an
+/// Returns the host with its hardware address, by a source that is read again, if it's judged as one on an
 /// Ethernet. If no frame shows the address, returns the status.
 fn with_mac<S: Source + Drop>(
     rt: &HostRuntime,
@@ -504,7 +504,7 @@ fn with_mac<S: Source + Drop>(
     }))
 }
 
-/// Judges a file of any length, which is read twice, and once more for a hardware address.
+/// Judges a file of any length, which is read twice, and a third time for a hardware address.
 fn judge_file(rt: &HostRuntime, name: &str, choice: Choice) -> io::Result<u8> {
     let not_opened = Err(CaptureFault::NotOpened);
     let Ok(file) = fs::open(rt, name) else {

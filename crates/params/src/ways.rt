@@ -27,7 +27,8 @@ pub fn appends_fragments() -> bool {
     true
 }
 
-/// Whether it's tried first if bytes fit into one buffer or lie in one. Otherwise buffers are walked, one by one.
+/// Whether the case that all bytes are in one buffer, or fit into one, is tried first. Otherwise buffers are walked,
+/// one by one.
 #[inline(always)]
 pub fn tries_one_buffer() -> bool {
     true
