@@ -22,13 +22,30 @@ NAME = r'[%@](?:[\w.$-]+|"[^"]*")'
 ADDRESS = rf"(?:{NAME}|getelementptr (?:inbounds |nuw |nusw )*\(i8, ptr {NAME}, i64 -?\d+\))"
 MEMBER = r"(i8|i16|i32|i64|ptr)"
 NOTES = r"(?:, ![\w.]+ !(?:\d+|\{[^}]*\}))*"
+# The forms of lines that access memory, or reserve it for a variable. Each is compiled once: a module has 200,000 lines.
+AT_END = rf", align (\d+){NOTES}$"
+LOAD = re.compile(rf"  ({NAME}) = load ptr, ptr ({ADDRESS}){AT_END}")
+STORE = re.compile(rf"  store ptr ({ADDRESS}|null), ptr ({ADDRESS}){AT_END}")
+LOAD_PAIR = re.compile(rf"  ({NAME}) = load \{{ {MEMBER}, {MEMBER} \}}, ptr ({ADDRESS}){AT_END}")
+STORE_PAIR = re.compile(rf"  store \{{ {MEMBER}, {MEMBER} \}} ({NAME}), ptr ({ADDRESS}){AT_END}")
+ALLOCA = re.compile(rf"  ({NAME}) = alloca ptr{AT_END}")
+SAME = rf"  {NAME} = load {NUMBER}, ptr {ADDRESS}{AT_END}|  store {NUMBER} [^,]+, ptr {ADDRESS}{AT_END}"
+SAME += rf"|  store <\d+ x i\d+> <[^>]*>, ptr {ADDRESS}{AT_END}"
+SAME = re.compile(rf"{SAME}|  {NAME} = alloca (?:i\d+|\[\d+ x i\d+\]){AT_END}")
 # Beginnings of instructions that access no memory and convert no pointer to a number. The rest of the line is free.
 PLAIN = r"(?:add|sub|mul|udiv|urem|sdiv|srem|shl|lshr|ashr|and|or|xor|icmp|select|phi|zext|sext|trunc|freeze|bitcast"
-PLAIN += r"|extractvalue|insertvalue|extractelement|insertelement|shufflevector)\b"
-ENDS = r"(?:ret|br|switch|unreachable)\b"
-CALL = rf'(?:(?:tail|musttail|notail) )?call (?:[\w() ,]+ )?(?:\{{[^}}]*\}} |[\w<> ]+ )?@(?:[\w.$-]+|"[^"]*")\('
+PLAIN = re.compile(rf"  {NAME} = {PLAIN}|extractvalue|insertvalue|extractelement|insertelement|shufflevector)\b")
+CAST = re.compile(rf"  {NAME} = bitcast .*\bptr\b")
+DISTANCE = re.compile(rf"  ({NAME}) = ptrtoaddr ptr ({NAME}) to i64$")
+STEP = re.compile(rf"  {NAME} = getelementptr ")
+STEP_IN_BYTES = re.compile(rf"  {NAME} = getelementptr (?:inbounds |nuw |nusw )*i8, ptr {NAME}, i64 \S+$")
+CALL = rf"  (?:{NAME} = )?(?:(?:tail|musttail|notail) )?call "
+CALL = re.compile(rf'{CALL}(?:[\w() ,]+ )?(?:\{{[^}}]*\}} |[\w<> ]+ )?@(?:[\w.$-]+|"[^"]*")\(')
+# The end of a block, a row of a switch, a label, or an empty line.
+OTHER = r"  (?:ret|br|switch|unreachable)\b"
+OTHER = re.compile(rf"{OTHER}|    i\d+ -?\d+, label {NAME}$|  \]$|[\w.$-]+:|\"[^\"]*\":|$")
 # Attributes of a call or a head that depend on a struct's layout in memory.
-OF_LAYOUT = r"\b(?:byval|sret|byref|inalloca|preallocated|elementtype)\b"
+OF_LAYOUT = re.compile(r"\b(?:byval|sret|byref|inalloca|preallocated|elementtype)\b")
 
 
 class Body:
@@ -77,21 +94,21 @@ class Body:
 
     def memory(self, line):
         """Returns the lines that replace a load, a store or an alloca, or None if it has another form."""
-        notes = rf", align (\d+){NOTES}$"
-        if it := re.match(rf"  ({NAME}) = load ptr, ptr ({ADDRESS}){notes}", line):
-            return self.loaded(it[1], "ptr", it[2], it[3])
-        if it := re.match(rf"  store ptr ({ADDRESS}|null), ptr ({ADDRESS}){notes}", line):
-            return self.stored("ptr", it[1], it[2], it[3])
-        if it := re.match(rf"  ({NAME}) = load \{{ {MEMBER}, {MEMBER} \}}, ptr ({ADDRESS}){notes}", line):
-            return self.loaded_pair(*it.groups())
-        if it := re.match(rf"  store \{{ {MEMBER}, {MEMBER} \}} ({NAME}), ptr ({ADDRESS}){notes}", line):
-            return self.stored_pair(*it.groups())
-        if it := re.match(rf"  ({NAME}) = alloca ptr{notes}", line):
+        if " = load " in line:
+            if it := LOAD.match(line):
+                return self.loaded(it[1], "ptr", it[2], it[3])
+            if it := LOAD_PAIR.match(line):
+                return self.loaded_pair(*it.groups())
+        elif line.startswith("  store "):
+            if it := STORE.match(line):
+                return self.stored("ptr", it[1], it[2], it[3])
+            if it := STORE_PAIR.match(line):
+                return self.stored_pair(*it.groups())
+        elif " = alloca " not in line:
+            return None
+        elif it := ALLOCA.match(line):
             return [f"  {it[1]} = alloca i64, align {it[2]}"]
-        same = rf"  {NAME} = load {NUMBER}, ptr {ADDRESS}{notes}|  store {NUMBER} [^,]+, ptr {ADDRESS}{notes}"
-        same += rf"|  store <\d+ x i\d+> <[^>]*>, ptr {ADDRESS}{notes}"
-        same += rf"|  {NAME} = alloca (?:i\d+|\[\d+ x i\d+\]){notes}"
-        return [line] if re.match(same, line) else None
+        return [line] if SAME.match(line) else None
 
     def rewritten(self, line):
         """Returns the lines that replace a line."""
@@ -99,18 +116,18 @@ class Body:
             raise Stop("a name that's given here")
         if lines := self.memory(line):
             return lines
-        if it := re.match(rf"  ({NAME}) = ptrtoaddr ptr ({NAME}) to i64$", line):
-            return [f"  {it[1]} = ptrtoint ptr {it[2]} to i64"]
-        if re.match(rf"  {NAME} = {PLAIN}", line):
-            if re.match(rf"  {NAME} = bitcast .*\bptr\b", line) or " x ptr>" in line:
+        if PLAIN.match(line):
+            if CAST.match(line) or " x ptr>" in line:
                 raise Stop("a cast of a pointer, or pointers in a vector")
-        elif re.match(rf"  {NAME} = getelementptr ", line):
-            if not re.match(rf"  {NAME} = getelementptr (?:inbounds |nuw |nusw )*i8, ptr {NAME}, i64 \S+$", line):
+        elif it := DISTANCE.match(line):
+            return [f"  {it[1]} = ptrtoint ptr {it[2]} to i64"]
+        elif STEP.match(line):
+            if not STEP_IN_BYTES.match(line):
                 raise Stop("a step in an address that isn't in bytes")
-        elif re.match(rf"  (?:{NAME} = )?{CALL}", line):
-            if re.search(OF_LAYOUT, line):
+        elif CALL.match(line):
+            if OF_LAYOUT.search(line):
                 raise Stop("a struct that a call hands over in memory")
-        elif not re.match(rf"  {ENDS}|    i\d+ -?\d+, label {NAME}$|  \]$|[\w.$-]+:|\"[^\"]*\":|$", line):
+        elif not OTHER.match(line):
             raise Stop("a form that isn't known")
         return [line]
 
@@ -158,7 +175,7 @@ def outside(line):
         return ALLOC
     if re.match(r"declare [^@]*@rattle_realloc\(", line):
         return line  # it's neither called nor defined: if that changes, the linker reports it
-    if line.startswith("declare ") and re.search(rf"{OF_LAYOUT}|\{{.*@", line):
+    if line.startswith("declare ") and (OF_LAYOUT.search(line) or re.search(r"\{.*@", line)):
         raise Stop("a function of C that hands a struct over")
     if not re.match(r"declare |target |attributes |source_filename = |; |!|$", line):
         raise Stop("a form that isn't known")
@@ -168,7 +185,7 @@ def outside(line):
 def head(line):
     """Returns the head of a function. A function that C calls returns a number."""
     exported = not re.match(r"define (?:internal|private) ", line)
-    if re.search(OF_LAYOUT, line) or exported and re.match(r"define [^@]*[{\[<][^@]*@", line):
+    if OF_LAYOUT.search(line) or exported and re.match(r"define [^@]*[{\[<][^@]*@", line):
         raise Stop("a function that hands a struct over in memory")
     return line
 
