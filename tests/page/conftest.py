@@ -41,6 +41,13 @@ class Browser:
         service = webdriver.chrome.service.Service(shutil.which("chromedriver"))
         self.driver = webdriver.Chrome(service=service, options=options)
         self.driver.command_executor.set_timeout(END)
+
+    def new_tab(self) -> None:
+        """Replaces the open tab by an empty one. What pages have stored is removed."""
+        new = self.ask("Target.createTarget", url="about:blank")["targetId"]
+        self.driver.close()
+        self.driver.switch_to.window(new)
+        self.ask("Storage.clearDataForOrigin", origin="file://", storageTypes="all")
         self.ask("Accessibility.enable")
 
     def ask(self, method: str, **params: Any) -> dict[str, Any]:
@@ -96,16 +103,22 @@ def plays_captures(page: pathlib.Path) -> Callable[..., list[dict[str, Any]]]:  
     return play
 
 
-@pytest.fixture(scope="module")
-def chromium(page: pathlib.Path, tmp_path_factory: pytest.TempPathFactory) -> Iterator[Browser]:  # noqa: F811
-    """Headless Chromium with the page open. At the end of a module its console must be empty, and it may have asked no
-    network for anything."""
+@pytest.fixture(scope="session")
+def started(tmp_path_factory: pytest.TempPathFactory) -> Iterator[Browser]:
+    """Headless Chromium. It takes 6 processor seconds to start, so the modules of a worker share it."""
     browser = Browser(tmp_path_factory.mktemp("chromium"))
-    browser.open(page)
     yield browser
-    complaints = [*browser.complaints()]
     browser.driver.quit()
-    assert not complaints
+
+
+@pytest.fixture(scope="module")
+def chromium(page: pathlib.Path, started: Browser) -> Iterator[Browser]:  # noqa: F811
+    """A new tab with the page open, without anything of yours. At the end of a module its console must be empty, and it
+    may have asked no network for anything."""
+    started.new_tab()
+    started.open(page)
+    yield started
+    assert not [*started.complaints()]
 
 
 @pytest.fixture(name="at_width")
