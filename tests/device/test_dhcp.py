@@ -82,13 +82,13 @@ def option(frame, name: str):
 
 
 @pytest.fixture
-def start(request, tmp_path, flash) -> Iterator[Callable[..., Client]]:
+def start(on_linux, tmp_path, flash) -> Iterator[Callable[..., Client]]:
     """start(WORDS ..) starts a device that gets its address by DHCP, and enters its namespace."""
     (tmp_path / "flash").write_bytes(flash[:20000])
     with contextlib.ExitStack() as stack:
 
         def starts(*words: str) -> Client:
-            how = [request.getfixturevalue("on_linux"), "h0", tmp_path / "flash", int(1000 * TICK), "dhcp", *words]
+            how = [on_linux, "h0", tmp_path / "flash", int(1000 * TICK), "dhcp", *words]
             it = Client(tmp_path, how)
             stack.callback(ends, it)
             stack.enter_context(it.namespace.inside())
