@@ -94,19 +94,17 @@ class Body:
 
     def memory(self, line):
         """Returns the lines that replace a load, a store or an alloca, or None if it has another form."""
-        if " = load " in line:
-            if it := LOAD.match(line):
-                return self.loaded(it[1], "ptr", it[2], it[3])
-            if it := LOAD_PAIR.match(line):
-                return self.loaded_pair(*it.groups())
-        elif line.startswith("  store "):
-            if it := STORE.match(line):
-                return self.stored("ptr", it[1], it[2], it[3])
-            if it := STORE_PAIR.match(line):
-                return self.stored_pair(*it.groups())
-        elif " = alloca " not in line:
+        if ", align " not in line:  # most lines
             return None
-        elif it := ALLOCA.match(line):
+        if it := LOAD.match(line):
+            return self.loaded(it[1], "ptr", it[2], it[3])
+        if it := STORE.match(line):
+            return self.stored("ptr", it[1], it[2], it[3])
+        if it := LOAD_PAIR.match(line):
+            return self.loaded_pair(*it.groups())
+        if it := STORE_PAIR.match(line):
+            return self.stored_pair(*it.groups())
+        if it := ALLOCA.match(line):
             return [f"  {it[1]} = alloca i64, align {it[2]}"]
         return [line] if SAME.match(line) else None
 
