@@ -42,8 +42,7 @@ STEP_IN_BYTES = re.compile(rf"  {NAME} = getelementptr (?:inbounds |nuw |nusw )*
 CALL = rf"  (?:{NAME} = )?(?:(?:tail|musttail|notail) )?call "
 CALL = re.compile(rf'{CALL}(?:[\w() ,]+ )?(?:\{{[^}}]*\}} |[\w<> ]+ )?@(?:[\w.$-]+|"[^"]*")\(')
 # The end of a block, a row of a switch, a label, or an empty line.
-OTHER = r"  (?:ret|br|switch|unreachable)\b"
-OTHER = re.compile(rf"{OTHER}|    i\d+ -?\d+, label {NAME}$|  \]$|[\w.$-]+:|\"[^\"]*\":|$")
+REST = re.compile(rf'  (?:ret|br|switch|unreachable)\b|    i\d+ -?\d+, label {NAME}$|  \]$|[\w.$-]+:|"[^"]*":|$')
 # Attributes of a call or a head that depend on a struct's layout in memory.
 OF_LAYOUT = re.compile(r"\b(?:byval|sret|byref|inalloca|preallocated|elementtype)\b")
 
@@ -125,7 +124,7 @@ class Body:
         elif CALL.match(line):
             if OF_LAYOUT.search(line):
                 raise Stop("a struct that a call hands over in memory")
-        elif not OTHER.match(line):
+        elif not REST.match(line):
             raise Stop("a form that isn't known")
         return [line]
 
