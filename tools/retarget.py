@@ -22,7 +22,7 @@ NAME = r'[%@](?:[\w.$-]+|"[^"]*")'
 ADDRESS = rf"(?:{NAME}|getelementptr (?:inbounds |nuw |nusw )*\(i8, ptr {NAME}, i64 -?\d+\))"
 MEMBER = r"(i8|i16|i32|i64|ptr)"
 NOTES = r"(?:, ![\w.]+ !(?:\d+|\{[^}]*\}))*"
-# The forms of lines that access memory, or reserve it for a variable. Each is compiled once: a module has 200,000 lines.
+# The forms of lines that access memory, or reserve it for a variable, compiled once: a module has 200,000 lines.
 AT_END = rf", align (\d+){NOTES}$"
 LOAD = re.compile(rf"  ({NAME}) = load ptr, ptr ({ADDRESS}){AT_END}")
 STORE = re.compile(rf"  store ptr ({ADDRESS}|null), ptr ({ADDRESS}){AT_END}")
