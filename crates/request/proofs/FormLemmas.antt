@@ -1,6 +1,7 @@
 -- From the words of a line to its request.
 use Rattle.std.proofs.Common.{◌≡◌, ℕ, ◌≤◌, List, ◌∷◌, length, Option, Some, None, refl, sym, ap, ◌∙◌, arith, subst}
 use Rattle.std.specs.Prelude.{IfSome, MatchOption}
+use Rattle.flat_model.specs.declared.address.Addr.{Addr}
 use Rattle.flat_model.specs.Machine.Event.{Event, Send, Receive, Comes}
 use Rattle.flat_model.specs.Scripts.Grammar.{words, keyword, HasArguments}
 use Rattle.flat_model.specs.Scripts.Script.{Asks, all_events}
@@ -45,6 +46,14 @@ Asks-none text name args cut none event h =
     none event begins
 
 -- ---- each keyword has one form
+
+pub SendTo-only : (args : List (List ℕ))
+    → ((fd : ℕ) (to : Addr) (bytes : List ℕ) → HasArguments (Send fd (Some to) bytes) args → ⊥)
+    → (event : Event) → IsForm line.SendTo args event → ⊥
+SendTo-only args none (Send fd (Some to) bytes) h = none fd to bytes h.1
+SendTo-only args none (Send fd None bytes) h =
+    absurd (omega (arith, index-word (Send fd None bytes) line.SendTo h.0))
+SendTo-only args none event h = absurd (omega (arith, index-word event line.SendTo h.0))
 
 pub Send-only : (args : List (List ℕ)) → ((fd : ℕ) (bytes : List ℕ) → HasArguments (Send fd None bytes) args → ⊥)
     → (event : Event) → IsForm line.Send args event → ⊥

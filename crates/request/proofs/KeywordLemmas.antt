@@ -1,10 +1,11 @@
 -- Which keyword an event has.
-use Rattle.std.proofs.Common.{◌≡◌, ℕ, ◌+◌, if◌then◌else◌, List, codes, bytes_eq, Option, Some, None, refl, sym, ap, ◌∙◌}
+use Rattle.std.proofs.Common.{◌≡◌, ℕ, ◌+◌, ◌<◌, if◌then◌else◌, List, codes, bytes_eq, slice_index_or, Option, Some, None, refl, sym, ap, ◌∙◌, arith}
 use Rattle.flat_model.specs.declared.address.Addr.{Addr}
 use Rattle.flat_model.specs.Machine.Event.{Event, Open, Bind, Connect, Send, Receive, Close, Set_option, Comes, Transmit, Tick, Ask_counters, Ask_usage}
 use Rattle.flat_model.specs.Scripts.Grammar.{keyword}
 use Rattle.request.specs.declared.keyword.Keyword.{Keyword}
 use Rattle.request.specs.declared.keyword.Keyword.TheVariants as line
+use Rattle.request.specs.declared.keyword.TheConstants.{KEYWORDS}
 use Rattle.request.specs.Inside.{word_of}
 
 -- a number for each keyword
@@ -93,3 +94,26 @@ place-word line.MbStat = refl
 -- an event whose keyword is this word
 pub index-word : (event : Event) (word : Keyword) → keyword event ≡ word_of word → index event ≡ index_of word
 index-word event word same = sym (place-keyword event) ∙ ap place same ∙ place-word word
+
+-- the table has the keyword of each event
+listed : (event : Event) → (k : ℕ) × (k < 13) × (word_of (slice_index_or KEYWORDS k line.Socket) ≡ keyword event)
+listed Open = (6, omega arith, refl)
+listed (Bind fd address) = (7, omega arith, refl)
+listed (Connect fd address) = (8, omega arith, refl)
+listed (Send fd (Some to) bytes) = (3, omega arith, refl)
+listed (Send fd None bytes) = (4, omega arith, refl)
+listed (Receive fd most) = (2, omega arith, refl)
+listed (Close fd) = (9, omega arith, refl)
+listed (Set_option fd option on) = (10, omega arith, refl)
+listed (Comes packet) = (0, omega arith, refl)
+listed Transmit = (1, omega arith, refl)
+listed Tick = (5, omega arith, refl)
+listed Ask_counters = (11, omega arith, refl)
+listed Ask_usage = (12, omega arith, refl)
+
+pub keyword-none : (word : List ℕ)
+    → ((k : ℕ) → k < 13 → word_of (slice_index_or KEYWORDS k line.Socket) ≡ word → ⊥)
+    → (event : Event) → keyword event ≡ word → ⊥
+keyword-none word none event same =
+    let at = listed event in
+    none at.0 at.1 (at.2 ∙ same)

@@ -22,24 +22,54 @@ pub(crate) enum Keyword {
     MbStat,
 }
 
+/// The keywords, those of the most lines first.
+const KEYWORDS: [Keyword; 13] = [
+    Keyword::Rx,
+    Keyword::Tx,
+    Keyword::RecvFrom,
+    Keyword::SendTo,
+    Keyword::Send,
+    Keyword::Tick,
+    Keyword::Socket,
+    Keyword::Bind,
+    Keyword::Connect,
+    Keyword::Close,
+    Keyword::SetSockOpt,
+    Keyword::Stat,
+    Keyword::MbStat,
+];
+
+impl Keyword {
+    /// Returns its word.
+    fn word(self) -> &'static [u8]
+        ensures { result.now ≡ word_of self }
+    {
+        match self {
+            Keyword::Socket => b"socket",
+            Keyword::Bind => b"bind",
+            Keyword::Connect => b"connect",
+            Keyword::SendTo => b"sendto",
+            Keyword::Send => b"send",
+            Keyword::RecvFrom => b"recvfrom",
+            Keyword::Close => b"close",
+            Keyword::SetSockOpt => b"setsockopt",
+            Keyword::Rx => b"rx",
+            Keyword::Tx => b"tx",
+            Keyword::Tick => b"tick",
+            Keyword::Stat => b"stat",
+            Keyword::MbStat => b"mbstat",
+        }
+    }
+}
+
 /// Returns the keyword for this word.
 pub(crate) fn keyword_of(word: &[u8]) -> Option<Keyword>
     ensures { MatchOption result ((event : Event) → grammar.keyword event ≡ word.now → ⊥) (λ k. word.now ≡ word_of k) }
 {
-    match word {
-        b"rx" => Some(Keyword::Rx),
-        b"tx" => Some(Keyword::Tx),
-        b"recvfrom" => Some(Keyword::RecvFrom),
-        b"sendto" => Some(Keyword::SendTo),
-        b"send" => Some(Keyword::Send),
-        b"tick" => Some(Keyword::Tick),
-        b"socket" => Some(Keyword::Socket),
-        b"bind" => Some(Keyword::Bind),
-        b"connect" => Some(Keyword::Connect),
-        b"close" => Some(Keyword::Close),
-        b"setsockopt" => Some(Keyword::SetSockOpt),
-        b"stat" => Some(Keyword::Stat),
-        b"mbstat" => Some(Keyword::MbStat),
-        _ => None,
+    for keyword in &KEYWORDS {
+        if keyword.word() == word {
+            return Some(*keyword);
+        }
     }
+    None
 }

@@ -34,10 +34,12 @@ fn option_of(word: &[u8]) -> Option<Opt>
     ensures { MatchOption result ((option : Opt) → word.now ≡ option_name option → ⊥)
         (λ option. word.now ≡ option_name option) }
 {
-    match word {
-        b"broadcast" => Some(Opt::Broadcast),
-        b"reuseport" => Some(Opt::ReusePort),
-        _ => None,
+    if word == b"broadcast".as_slice() {
+        Some(Opt::Broadcast)
+    } else if word == b"reuseport".as_slice() {
+        Some(Opt::ReusePort)
+    } else {
+        None
     }
 }
 
