@@ -1,10 +1,12 @@
 -- From the words after a keyword to the request: each keyword has one form. `place` and `index` have the form of those
 -- in proofs/KeywordLemmas of request, but number other words and another type, so neither serves both.
-use Rattle.std.proofs.Common.{◌≡◌, ℕ, ◌≤◌, List, ◌∷◌, length, if◌then◌else◌, codes, bytes_eq, Option, Some, None, sym, ap, ◌∙◌, subst, arith}
+use Rattle.std.proofs.Common.{◌≡◌, ℕ, ◌≤◌, ◌<◌, List, ◌∷◌, length, if◌then◌else◌, codes, bytes_eq, slice_index_or, refl, Option, Some, None, sym, ap, ◌∙◌, subst, arith}
 use Rattle.std.specs.Prelude.{MatchOption, IfSome}
 use Rattle.flat_model.specs.Scripts.Grammar.{words}
 use Rattle.chain_script.specs.Lines.{Request, User, Wire, Copy, Prepend, Pull_up, Adjust, Split, Join, Write_over, Read_out, Show, Free, Ask_usage, chain_keyword, HasWords, IsRequest}
-use Rattle.chain_script.specs.Inside.Calls.{request_of, IsSlotCall, IsChainForm, ReadsChainForm}
+use Rattle.chain_script.specs.Inside.Calls.{request_of, word_of, IsSlotCall, IsChainForm, ReadsChainForm}
+use Rattle.chain_script.specs.declared.keyword.Keyword.TheVariants as word
+use Rattle.chain_script.specs.declared.keyword.TheConstants.{KEYWORDS}
 use Rattle.chain_script.specs.declared.line.Call.{Call}
 
 place : List ℕ → ℕ
@@ -80,6 +82,29 @@ unfolding place
 Write_over-only args none (Write_over slot off bytes) h = none slot off bytes h.1
 Write_over-only args none r h = absurd (let e : index r ≡ 8 = place-keyword r (codes "copyback") h.0 in omega arith)
 
+-- the table has the keyword of each request
+listed : (r : Request) → (k : ℕ) × (k < 13) × (word_of (slice_index_or KEYWORDS k word.User) ≡ chain_keyword r)
+listed (User slot bytes) = (0, omega arith, refl)
+listed (Wire slot bytes) = (1, omega arith, refl)
+listed (Copy to slot extent) = (2, omega arith, refl)
+listed (Prepend slot bytes) = (3, omega arith, refl)
+listed (Pull_up slot n) = (4, omega arith, refl)
+listed (Adjust slot n) = (5, omega arith, refl)
+listed (Split to slot at) = (6, omega arith, refl)
+listed (Join slot other) = (7, omega arith, refl)
+listed (Write_over slot off bytes) = (8, omega arith, refl)
+listed (Read_out slot off len) = (9, omega arith, refl)
+listed (Show slot) = (10, omega arith, refl)
+listed (Free slot) = (11, omega arith, refl)
+listed Ask_usage = (12, omega arith, refl)
+
+pub keyword-none : (name : List ℕ)
+    → ((k : ℕ) → k < 13 → word_of (slice_index_or KEYWORDS k word.User) ≡ name → ⊥)
+    → (r : Request) → chain_keyword r ≡ name → ⊥
+keyword-none name none r same =
+    let at = listed r in
+    none at.0 at.1 (at.2 ∙ same)
+
 -- ---- whole lines
 -- a form that begins with its keyword is the line's
 pub call_form : (line name kw : List ℕ) (args : List (List ℕ)) (room : List ℕ) (r : Option Call) → length line ≤ 131200
@@ -101,3 +126,10 @@ pub form_fits : (kw : List ℕ) (args : List (List ℕ)) (room : List ℕ) (r : 
     → IfSome r (λ call. IsSlotCall call)
 form_fits kw args room (Some call) form = form.1
 form_fits kw args room None form = tt
+
+-- a line that begins with no keyword makes no request
+pub call_none : (line name : List ℕ) (args : List (List ℕ)) → words line ≡ name ∷ args
+    → ((request : Request) → chain_keyword request ≡ name → ⊥) → (request : Request) → IsRequest line request → ⊥
+call_none line name args cut none request h =
+    let begins : chain_keyword request ≡ name = cc (sym h.words_are ∙ cut) in
+    none request begins

@@ -1,7 +1,7 @@
 //! Why a request isn't carried out.
 
 /// Why a request wasn't carried out. Nothing has changed then.
-#[derive(Clone, Copy, Debug, PartialEq, Eq)]
+#[derive(Clone, Copy)]
 pub(crate) enum Fault {
     /// A slot that must hold a chain is empty, a slot that must be empty isn't, or two slots are the same.
     Chain,

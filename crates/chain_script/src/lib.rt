@@ -5,6 +5,7 @@ mod caller;
 mod calls;
 mod draw;
 mod fault;
+mod keyword;
 mod laws;
 mod line;
 mod reply;

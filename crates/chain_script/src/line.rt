@@ -3,9 +3,10 @@ ghost use Rattle.std.specs.Prelude.{◌≡◌, ℕ, ℤ, List, length, codes, Ma
 ghost use Rattle.chain_ops.specs.declared.copym.Extent.{Extent};
 ghost use Rattle.script_loop.specs.Left.{left};
 ghost use Rattle.chain_script.specs.Lines.{Request, IsRequest, IsExtentWords, IsSigned};
-ghost use Rattle.chain_script.specs.Inside.Calls.{request_of, IsSlotCall, ReadsChainForm};
+ghost use Rattle.chain_script.specs.Inside.Calls.{request_of, word_of, IsSlotCall, ReadsChainForm};
 
 use crate::caller::SLOTS;
+use crate::keyword::{Keyword, keyword_of};
 use chain_ops::Extent;
 use params::{IP_MAX_PACKET, LONGEST_REQUEST};
 use script_loop::{bytes, first_word, is_end, number, one, three, two};
@@ -192,6 +193,28 @@ fn usage_of(rest: Option<&[u8]>) -> Option<Call>
     }
 }
 
+/// Parses the words after a keyword.
+fn form_of(word: Keyword, rest: Option<&[u8]>, buffer: &mut [u8]) -> Option<Call>
+    requires { length buffer.old ≡ IP_MAX_PACKET }
+    ensures { ReadsChainForm (word_of word) (left rest.entry) buffer.new result }
+{
+    match word {
+        Keyword::User => user_of(rest, buffer),
+        Keyword::Wire => wire_of(rest, buffer),
+        Keyword::CopyM => copy_of(rest),
+        Keyword::Prepend => prepend_of(rest, buffer),
+        Keyword::PullUp => pullup_of(rest),
+        Keyword::Adj => adj_of(rest),
+        Keyword::Split => split_of(rest),
+        Keyword::Cat => cat_of(rest),
+        Keyword::CopyBack => copyback_of(rest, buffer),
+        Keyword::CopyData => copydata_of(rest),
+        Keyword::Show => show_of(rest),
+        Keyword::Free => free_of(rest),
+        Keyword::MbStat => usage_of(rest),
+    }
+}
+
 /// Returns the request of the line, if the line is well-formed.
 pub(crate) fn call_of(line: &[u8], buffer: &mut [u8]) -> Option<Call>
     requires { length buffer.old ≡ IP_MAX_PACKET }
@@ -203,44 +226,6 @@ pub(crate) fn call_of(line: &[u8], buffer: &mut [u8]) -> Option<Call>
         return None;
     }
     let (name, rest) = first_word(line);
-    if name == b"user".as_slice() {
-        return user_of(rest, buffer);
-    }
-    if name == b"wire".as_slice() {
-        return wire_of(rest, buffer);
-    }
-    if name == b"copym".as_slice() {
-        return copy_of(rest);
-    }
-    if name == b"prepend".as_slice() {
-        return prepend_of(rest, buffer);
-    }
-    if name == b"pullup".as_slice() {
-        return pullup_of(rest);
-    }
-    if name == b"adj".as_slice() {
-        return adj_of(rest);
-    }
-    if name == b"split".as_slice() {
-        return split_of(rest);
-    }
-    if name == b"cat".as_slice() {
-        return cat_of(rest);
-    }
-    if name == b"copyback".as_slice() {
-        return copyback_of(rest, buffer);
-    }
-    if name == b"copydata".as_slice() {
-        return copydata_of(rest);
-    }
-    if name == b"show".as_slice() {
-        return show_of(rest);
-    }
-    if name == b"free".as_slice() {
-        return free_of(rest);
-    }
-    if name == b"mbstat".as_slice() {
-        return usage_of(rest);
-    }
-    None
+    let word = keyword_of(name)?;
+    form_of(word, rest, buffer)
 }

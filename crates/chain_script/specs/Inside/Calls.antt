@@ -1,8 +1,10 @@
 -- The request that a call describes. The bytes of a line are at the front of the separate buffer (this project's own).
-use Rattle.std.specs.Prelude.{◌≡◌, ℕ, ◌<◌, ◌≤◌, List, take, Option, Some, None}
+use Rattle.std.specs.Prelude.{◌≡◌, ℕ, ◌<◌, ◌≤◌, List, take, codes, Option, Some, None}
 use Rattle.params.specs.declared.TheConstants.{IP_MAX_PACKET}
 use Rattle.chain_script.specs.Lines as lines
 use Rattle.chain_script.specs.declared.caller.TheConstants.{SLOTS}
+use Rattle.chain_script.specs.declared.keyword.Keyword.{Keyword}
+use Rattle.chain_script.specs.declared.keyword.Keyword.TheVariants as word
 use Rattle.chain_script.specs.declared.line.Call.{Call}
 use Rattle.chain_script.specs.declared.line.Call.TheVariants.{User, Wire, Copy, Prepend, PullUp, Adjust, Split, Join, WriteOver, ReadOut, Show, Free, Usage}
 
@@ -36,6 +38,21 @@ IsSlotCall (ReadOut slot off len) = (slot < SLOTS) × (off ≤ IP_MAX_PACKET) ×
 IsSlotCall (Show slot) = slot < SLOTS
 IsSlotCall (Free slot) = slot < SLOTS
 IsSlotCall Usage = Unit {0}
+
+abbrev pub word_of : Keyword → List ℕ
+word_of word.User = codes "user"
+word_of word.Wire = codes "wire"
+word_of word.CopyM = codes "copym"
+word_of word.Prepend = codes "prepend"
+word_of word.PullUp = codes "pullup"
+word_of word.Adj = codes "adj"
+word_of word.Split = codes "split"
+word_of word.Cat = codes "cat"
+word_of word.CopyBack = codes "copyback"
+word_of word.CopyData = codes "copydata"
+word_of word.Show = codes "show"
+word_of word.Free = codes "free"
+word_of word.MbStat = codes "mbstat"
 
 -- the words after the keyword make up the request
 abbrev pub IsChainForm : List ℕ → List (List ℕ) → lines.Request → Type 0
