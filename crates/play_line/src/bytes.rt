@@ -1,5 +1,5 @@
 //! Tokens at the front of the rest of a line: texts, numbers, and other words.
-ghost use Rattle.std.specs.Prelude.{◌≡◌, ◌≤◌, ◌<◌, true, false, not, length, position, [], IfSome, IfOk};
+ghost use Rattle.std.specs.Prelude.{◌≡◌, ◌≤◌, ◌<◌, true, false, not, length, drop, position, [], IfSome, IfOk};
 ghost use Rattle.play_line.specs.Bytes as bytes;
 
 use crate::fault::{Fault, Misread, stop};
@@ -70,6 +70,16 @@ pub(crate) fn is_next(byte: u8, left: &[u8]) -> bool
     match left.first() {
         Some(first) => *first == byte,
         None => false,
+    }
+}
+
+/// Returns the bytes after the first one.
+pub(crate) fn after_first(left: &[u8]) -> &[u8]
+    ensures { result.now ≡ drop 1 left.now }
+{
+    match left {
+        [] => left,
+        [_, rest @ ..] => rest,
     }
 }
 

@@ -2,7 +2,7 @@
 ghost use Rattle.std.specs.Prelude.{◌≡◌, ◌≤◌, ◌<◌, ◌+◌, ◌*◌, true, length};
 ghost use Rattle.play_line.specs.Line as line_specs;
 
-use crate::bytes::{Class, front, is_next, skip};
+use crate::bytes::{Class, after_first, front, is_next, skip};
 use crate::fault::{Fault, Misread, SyntaxError, stop};
 use crate::part::{MOST_DIGITS, Part};
 use script_loop::Buffer;
@@ -69,7 +69,7 @@ fn word_len(at: &[u8]) -> usize
     ensures most { result ≤ length at.now }
 {
     if is_next(b'=', at) {
-        1 + front(Class::Word, &at[1..])
+        1 + front(Class::Word, after_first(at))
     } else {
         front(Class::Word, at)
     }
@@ -230,7 +230,7 @@ impl Reader {
             return if len == 0 {
                 stop(Fault::NoBytes, at)
             } else {
-                self.read_joined(skip(&at[1..]))
+                self.read_joined(skip(after_first(at)))
             };
         }
         if apart && LONGEST <= len {

@@ -2,7 +2,7 @@
 ghost use Rattle.std.specs.Prelude.{◌≡◌, ◌≤◌, length};
 ghost use Rattle.play_line.specs.Bytes as bytes;
 
-use crate::bytes::{Class, digits, front, is_in, is_next, read_count, read_text};
+use crate::bytes::{Class, after_first, digits, front, is_in, is_next, read_count, read_text};
 use crate::fault::{Fault, Misread, stop};
 use script_loop::Buffer;
 
@@ -68,7 +68,7 @@ fn read_piece<'a>(
     ensures { bytes.with_left piece.new result ≡ bytes.piece_read hex n left.now }
 {
     if is_next(b'"', left) {
-        read_text(piece, &left[1..])
+        read_text(piece, after_first(left))
     } else {
         read_word(piece, hex, n, left)
     }
@@ -106,7 +106,7 @@ impl Part {
         if !is_next(b'*', left) {
             return self.end(1, left);
         }
-        match read_count(&left[1..]) {
+        match read_count(after_first(left)) {
             Ok((count, rest)) => self.end(count, rest),
             Err(e) => Err(e),
         }
@@ -123,7 +123,7 @@ impl Part {
         ensures { bytes.with_left self.new result ≡ bytes.part_at hex n left.now }
     {
         if is_next(b'@', left) {
-            return match read_count(&left[1..]) {
+            return match read_count(after_first(left)) {
                 Ok((count, rest)) => {
                     put_pattern(&mut self.piece, count);
                     self.end(1, rest)

@@ -3,7 +3,7 @@ ghost use Rattle.std.specs.Prelude.{◌≡◌, ◌<◌, ◌≤◌, length, posit
 ghost use Rattle.play_line.specs.Bytes as bytes;
 ghost use Rattle.play_line.specs.Time as times;
 
-use crate::bytes::{Class, front, is_in, is_next, skip, value_of};
+use crate::bytes::{Class, after_first, front, is_in, is_next, skip, value_of};
 use crate::fault::{Fault, SyntaxError};
 use crate::line::{column_at, is_end};
 
@@ -108,7 +108,7 @@ pub fn read_time(line: &[u8]) -> Result<Timed<'_>, SyntaxError>
             part: line,
         });
     }
-    let left = &at[1..];
+    let left = after_first(at);
     let (word, rest) = left.split_at(word_end(left));
     let part = skip(rest);
     match ticks_in(word) {
