@@ -11,8 +11,9 @@ from __future__ import annotations
 
 import itertools
 import struct
+from collections import defaultdict
 from dataclasses import dataclass, field, replace
-from typing import Dict, FrozenSet, Iterator, List, NamedTuple, Optional, Sequence, Set, Tuple
+from typing import DefaultDict, Dict, FrozenSet, Iterator, List, Mapping, NamedTuple, Optional, Sequence, Set, Tuple
 
 from ._addresses import HOST, OURS, ZERO_BROADCAST, is_host, text_of
 from ._case import Case, Connect, Got, Hold, Open, Receive, Wait, user_sockets
@@ -192,14 +193,14 @@ class Seen:
         joined = in_sequence(headers)
         if joined is not None:
             return self.fits(joined, headers[0], got, omitted)
-        there: List[Set[int]] = [set() for _ in range(max(it.end for it in headers))]
+        there: DefaultDict[int, Set[int]] = defaultdict(set)  # each place to which a fragment gives bytes, and these
         for it in headers:
             for place, byte in enumerate(it.data, it.offset):
                 there[place].add(byte)
         ends = [it.end for it in headers if not it.more]
-        if END not in omitted and not any(end >= length and all(there[:end]) for end in ends):
+        if END not in omitted and not any(end >= length and all(map(there.__contains__, range(end))) for end in ends):
             return False
-        if not all(byte in there[place] for place, byte in enumerate(got.data, 8)):
+        if not all(byte in there.get(place, ()) for place, byte in enumerate(got.data, 8)):
             return False
         return any(self.fits(head + got.data, headers[0], got, omitted, True) for head in heads(there))
 
@@ -273,9 +274,9 @@ def in_sequence(headers: Sequence[Header]) -> Optional[bytes]:
     return data
 
 
-def heads(there: List[Set[int]]) -> Iterator[bytes]:
+def heads(there: Mapping[int, Set[int]]) -> Iterator[bytes]:
     """All UDP headers that fragments allow."""
-    return map(bytes, itertools.product(*there[:8]))
+    return map(bytes, itertools.product(*(there.get(place, set()) for place in range(8))))
 
 
 def plain(header: Header) -> bool:
