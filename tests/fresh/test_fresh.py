@@ -161,13 +161,19 @@ def test_make_lists_its_targets(command):
     assert status == 0 and not said and listed == [it for it in targets if it != "help"]
 
 
-STUB = '#!/bin/sh\necho "0 passed, 1 failed"\nexit 1\n'
+# Of tests/docs it plays one file, because the new user of `make test` has played the others with the same packages.
+PYTHON = """#!/bin/sh
+case "$*" in *" tests/docs") set -- "$@" -k test_unread ;; esac
+exec /usr/bin/python3 "$@"
+"""
+STUBS = {"rt": '#!/bin/sh\necho "0 passed, 1 failed"\nexit 1\n', "python": PYTHON}
 
 
 def test_the_gate_reaches_its_proofs():
     """With only README's packages, and with CI unset, .ci/run passes tests/docs and reaches `rt ci`, which is a stub
     here."""
-    stub = f"mkdir ~/stub && printf %s {shlex.quote(STUB)} > ~/stub/rt && chmod +x ~/stub/rt && PATH=~/stub:$PATH"
-    status, printed, said = machine("--with", packages(), f'git clone -q "$REPOSITORY" it && cd it && {stub} .ci/run')
+    stubs = "".join(f"printf %s {shlex.quote(text)} > ~/{name} && chmod +x ~/{name} && " for name, text in STUBS.items())
+    gate = f'git clone -q "$REPOSITORY" it && cd it && {stubs} PATH=~:$PATH PYTHON=~/python .ci/run'
+    status, printed, said = machine("--with", packages(), gate)
     assert status == 1 and printed.endswith("\n0 passed, 1 failed\n"), f"status {status}: {printed}\n{said}"
-    assert re.search(r"(?m)^\d+ passed, 0 failed, \d+ skipped$", printed), printed[-2000:]
+    assert re.search(r"(?m)^[1-9]\d* passed, 0 failed, \d+ skipped$", printed), printed[-2000:]
