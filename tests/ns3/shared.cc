@@ -1,5 +1,5 @@
 // Four nodes with ns-3's own stack on one channel, and one datagram: prints how many packets were sent, at most MOST.
-// setting.h is what docs/ns3.md says to set, or nothing.
+// With an argument it begins with setting.h, which has what docs/ns3.md says to set.
 #include "ns3/core-module.h"
 #include "ns3/internet-module.h"
 #include "ns3/network-module.h"
@@ -28,9 +28,12 @@ Sent(Ptr<const Packet>, Ptr<Ipv4>, uint32_t)
 } // namespace
 
 int
-main()
+main(int argc, char**)
 {
+    if (argc > 1)
+    {
 #include "setting.h"
+    }
     NodeContainer nodes;
     nodes.Create(4);
     SimpleNetDeviceHelper simple;

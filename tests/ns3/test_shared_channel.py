@@ -22,27 +22,28 @@ def setting():
 
 
 @pytest.fixture
-def packets(tmp_path, pytestconfig):
-    """Returns how many packets one datagram causes on a channel of four nodes, with these settings."""
+def packets(once, pytestconfig):
+    """Returns how many packets one datagram causes on a channel of four nodes, with the page's setting or without."""
     if not shutil.which("g++") or not pathlib.Path("/usr/include/ns3/internet-module.h").exists():
         left_out(pytestconfig, "no ns-3: apt-get install g++ libns3-dev")
 
-    def count(lines):
-        (tmp_path / "setting.h").write_text("\n".join(lines) + "\n", encoding="utf-8")
+    def make(folder):
+        (folder / "setting.h").write_text("\n".join(setting()) + "\n", encoding="utf-8")
         source = pathlib.Path(__file__).with_name("shared.cc")
-        words = ["g++", "-std=c++17", "-w", f"-I{tmp_path}", source, *LIBRARIES, "-o", tmp_path / "shared"]
+        words = ["g++", "-std=c++17", "-w", f"-I{folder}", source, *LIBRARIES, "-o", folder / "shared"]
         subprocess.run(words, check=True)
-        done = subprocess.run([tmp_path / "shared"], check=True, capture_output=True, text=True, timeout=100)
-        return int(done.stdout)
+
+    def count(*words):
+        program = once("ns3-shared-channel", make) / "shared"
+        return int(subprocess.run([program, *words], check=True, capture_output=True, text=True, timeout=100).stdout)
 
     return count
 
 
 def test_nodes_that_forward_flood_the_channel(packets):
-    assert packets([]) == MOST
+    assert packets() == MOST
 
 
 def test_by_the_setting_of_the_page_a_datagram_is_one_packet(packets):
-    lines = setting()
-    assert len(lines) == 1, "docs/ns3.md doesn't say what to set"
-    assert packets(lines) == 1
+    assert len(setting()) == 1, "docs/ns3.md doesn't say what to set"
+    assert packets("setting") == 1
