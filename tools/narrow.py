@@ -73,8 +73,10 @@ def function(text, checked):
         body = re.sub(rf"(?:{'|'.join(arguments)})\b(?!\.)", r"\g<0>.narrow", body)
     made = [head]
     for line in body.split("\n"):
-        distance = DISTANCE.match(line)
-        found = None if distance and distance[1] in addresses else result(line)
+        found = None
+        if "i64" in line:
+            distance = DISTANCE.match(line)
+            found = None if distance and distance[1] in addresses else result(line)
         if found:
             made += [f"  {found[0]}.wide = {found[1]}", *cut(f"{found[0]}.wide", found[0], checked)]
             continue
