@@ -90,6 +90,8 @@ fn sum_rest(bytes: &[u8]) -> u64
 }
 
 /// Sums the words in memory order, up to what the fold makes equal.
+// Inlined, so that a caller whose length is known to be below PART_LEN calls `sum_part` directly.
+#[inline(always)]
 fn sum_long(bytes: &[u8]) -> u64
     ensures folded { fold16 result ≡ fold16 (swapped_sum bytes.now) }
     ensures small { result < 2 ^ 52 }
