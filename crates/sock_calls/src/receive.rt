@@ -10,7 +10,7 @@ use crate::queues::ReceiveQueues;
 use chain_ops::m_copydata;
 use flat_model::{Addr, Errno};
 use mbuf_chain::Pool;
-use params::MAX_SOCKETS;
+use params::{MAX_SOCKETS, SOCKADDR_BYTES};
 use pcb_table::Pcbs;
 use sockbuf::SockBuf;
 
@@ -26,8 +26,11 @@ fn take_oldest(pool: &mut Pool, queue: &mut SockBuf, buffer: &mut [u8]) -> Optio
     ensures ready { IsSockBuf pool.new queue.new }
     ensures moves { Moves pool.old (chains_of pool.old queue.old) pool.new (chains_of pool.new queue.new) }
 {
+    // The chain has lost its packet header, so its own length would take a walk.
+    let before = queue.cc();
     let (sender, chain) = queue.take(pool)?;
-    let len = (pool.len(&chain) as usize).min(buffer.len());
+    let size = before - queue.cc() - SOCKADDR_BYTES;
+    let len = (size as usize).min(buffer.len());
     m_copydata(pool, &chain, 0, &mut buffer[..len]);
     pool.free_chain(chain);
     Some((sender, len))
