@@ -189,11 +189,7 @@ impl Host {
         if !is_fragment(&head) {
             return self.receive_datagram(space, headed);
         }
-        if can_store_data(&self.pool, space, &head, packet) {
-            self.store_fragment_data(packet, head);
-        } else {
-            self.store_fragment(headed);
-        }
+        self.receive_fragment(space, headed);
         Ok(())
     }
 
@@ -244,6 +240,25 @@ impl Host {
                 );
             }
             Err(why) => count_dropped(&mut self.net.counters, why),
+        }
+    }
+
+    /// Receives a fragment for this machine: without its header if `can_store_data`, otherwise in a new chain.
+    #[inline(never)]
+    // It reads the header again: if the header were passed on, every packet would store it in memory.
+    fn receive_fragment(&mut self, space: Space, headed: Headed<'_>)
+        requires can { CanStore self.old headed.packet.now }
+        requires space { HasSpace self.old.pool (length headed.packet.now) space }
+        requires fragment { flat.is_fragment (flat_head (head_in headed.packet.now)) ≡ true }
+        requires ours { is_ours_or_all self.old.socks.pcbs.addr self.old.socks.pcbs.bcast
+            (head_in headed.packet.now).dst ≡ true }
+        ensures { PacketArrives self.old headed.entry.packet.now self.new }
+    {
+        let head = headed.head();
+        if can_store_data(&self.pool, space, &head, headed.packet) {
+            self.store_fragment_data(headed.packet, head);
+        } else {
+            self.store_fragment(headed);
         }
     }
 

@@ -23,13 +23,13 @@ receive_datagram-requires-clause-whole c =
           ∙ sym c.is_fragment.ensures ∙ c.if-not-is_fragment.true;
     }
 
-pub store_fragment-requires-clause-fragment : goal.store_fragment-requires-clause-fragment
-store_fragment-requires-clause-fragment c =
+pub receive_fragment-requires-clause-fragment : goal.receive_fragment-requires-clause-fragment
+receive_fragment-requires-clause-fragment c =
     ap (λ (x : IpHead). is_fragment (flat_head x)) (sym c.head-head.ensures)
     ∙ sym c.is_fragment.ensures ∙ c.if-not-is_fragment.false
 
-pub store_fragment-requires-clause-ours : goal.store_fragment-requires-clause-ours
-store_fragment-requires-clause-ours c =
+pub receive_fragment-requires-clause-ours : goal.receive_fragment-requires-clause-ours
+receive_fragment-requires-clause-ours c =
     let t = c.args.self.now.socks.pcbs in
     ap (λ (x : IpHead). is_ours_or_all t.addr t.bcast x.dst) (sym c.head-head.ensures)
     ∙ sym c.is_for_us.ensures ∙ c.if-not-is_for_us.false
