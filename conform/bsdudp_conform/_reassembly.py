@@ -121,7 +121,7 @@ class Reassembly:
 
     def arrive(self, header: Header, now: int) -> Optional[bytes]:
         """Processes a fragment. Returns the datagram's data if it's whole now."""
-        begin, data = header.offset, header.data
+        key, begin, data = header.key, header.offset, header.data
         if data and begin + len(data) > MOST_DATA:
             return None
         if header.more and len(data) % 8:
@@ -130,19 +130,21 @@ class Reassembly:
                 return None
             if odd == "round down":
                 data = data[: len(data) // 8 * 8]
-        if not data and not self.takes_empty(header.key):
+        if not data and not self.takes_empty(key):
             return None
-        if not self.has_room(header.key):
+        if not self.has_room(key):
             return None
-        it = self.open.setdefault(header.key, Unfinished(now))
+        it = self.open.get(key)
+        if it is None:
+            it = self.open[key] = Unfinished(now)
         it.marks.add(header.tos & 3)
         piece = Piece(begin, begin + len(data), header.more)
         if self.disagrees(it, piece) and self.choose("ends") == "drop all":
-            del self.open[header.key]
+            del self.open[key]
             return None
-        if not self.keep(header.key, it, piece, data):
+        if not self.keep(key, it, piece, data):
             return None
-        return self.whole(header.key, it)
+        return self.whole(key, it)
 
     def takes_empty(self, key: Key) -> bool:
         empty = self.choose("empty")
@@ -202,7 +204,7 @@ class Reassembly:
         if piece.begin == piece.end:
             clash = any(old.begin <= piece.begin < max(old.end, old.begin + 1) for old in it.pieces)
         else:
-            clash = any(piece.begin <= old.begin < piece.end for old in it.empty)
+            clash = bool(it.empty) and any(piece.begin <= old.begin < piece.end for old in it.empty)
         return clash and self.choose("empty") == "hold the place"
 
     @staticmethod
