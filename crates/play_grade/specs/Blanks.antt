@@ -1,23 +1,25 @@
 -- A key's lines as they appear in an exercise (this project's own).
-use Rattle.std.specs.Prelude.{ℕ, ◌==◌, ◌&&◌, ◌≡◌, Bool, if◌then◌else◌, Option, Some, None}
+use Rattle.std.specs.Prelude.{ℕ, ◌==◌, ◌&&◌, ◌≡◌, Bool, true, false, if◌then◌else◌, Some}
 use Rattle.std.specs.Prelude.{List, [], ◌++◌, get_or, length, take, codes}
-use Rattle.play_script.specs.Lines.{Reading, Nothing, TooLong, Faulty, Asks}
+use Rattle.play_script.specs.Lines.{Reading, Asks}
 use Rattle.play_grade.specs.Asked.{is_question, asked_on}
 
 -- a private comment of the key begins with `##`
 abbrev pub is_private : List ℕ → Bool
 is_private line = (get_or line 0 0 == 35) && (get_or line 1 0 == 35)
 
-abbrev pub blank_asked : List ℕ → List ℕ → Option (List ℕ) → List ℕ
-blank_asked line shown None = line ++ codes "\n"
-blank_asked line shown (Some wanted) =
-    (if is_question line then codes "#? " else []) ++ shown ++ codes " => ?\n"
+-- what is before the request of a line
+abbrev pub front_of : List ℕ → List ℕ
+front_of line = if is_question line then codes "#? " else []
+
+-- a line in which `?` replaces an expectation or an answer, or any other line
+abbrev pub blank_if : Bool → List ℕ → List ℕ → List ℕ
+blank_if true line shown = front_of line ++ shown ++ codes " => ?\n"
+blank_if false line shown = line ++ codes "\n"
 
 abbrev pub blank_reading : List ℕ → Reading → List ℕ
-blank_reading line Nothing = line ++ codes "\n"
-blank_reading line TooLong = line ++ codes "\n"
-blank_reading line (Faulty error) = line ++ codes "\n"
-blank_reading line (Asks shown plain wanted) = blank_asked line shown wanted
+blank_reading line (Asks shown plain (Some wanted)) = blank_if true line shown
+blank_reading line _ = blank_if false line []
 
 -- a line without its answer; a private line of the key becomes empty
 abbrev pub blank_line : List ℕ → List ℕ

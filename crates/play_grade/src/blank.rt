@@ -1,5 +1,6 @@
 //! Making exercises from a key.
 ghost use Rattle.std.specs.Prelude.{◌≡◌, ◌++◌, IfOk, OnErr};
+ghost use Rattle.play_grade.specs.Asked.{asked_on};
 ghost use Rattle.play_grade.specs.Blanks as blanks;
 
 use crate::marker::Marker;
@@ -25,7 +26,25 @@ fn put(text: &mut Vec<u8>, front: &[u8], middle: &[u8], end: &[u8]) -> Result<()
     text.extend_from_slice(end)
 }
 
+/// Returns what is before the request of a line in an exercise.
+fn front_of(line: &[u8]) -> &'static [u8]
+    ensures { result.now ≡ blanks.front_of line.now }
+{
+    if is_question(line) { b"#? " } else { b"" }
+}
+
 impl Marker {
+    /// Reads a line, and returns whether `?` replaces its expectation or its answer.
+    fn has_blank(&mut self, line: &[u8]) -> bool
+        ensures { blanks.blank_reading line.now (asked_on line.now)
+            ≡ blanks.blank_if result line.now self.new.asked.line.shown }
+    {
+        match self.asked.read(line, &mut self.reader) {
+            Kind::Asks if self.asked.line.expects => true,
+            Kind::Asks | Kind::Nothing | Kind::TooLong | Kind::Faulty(_) => false,
+        }
+    }
+
     /// Appends a line of a key as it appears in an exercise. `?` replaces the expectation or the answer, and a comment
     /// that begins with `##` is left out. If memory runs out, only the beginning was appended.
     pub fn put_blank(&mut self, line: &[u8], text: &mut Vec<u8>) -> Result<(), AllocError>
@@ -36,9 +55,8 @@ impl Marker {
         if is_private(line) {
             return Ok(());
         }
-        let kind = self.asked.read(line, &mut self.reader);
-        if matches!(kind, Kind::Asks) && self.asked.line.expects {
-            let front: &[u8] = if is_question(line) { b"#? " } else { b"" };
+        if self.has_blank(line) {
+            let front = front_of(line);
             put(text, front, bytes_of(&self.asked.line.shown), b" => ?\n")
         } else {
             put(text, b"", line, b"\n")

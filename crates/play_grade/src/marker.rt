@@ -72,10 +72,19 @@ fn find<'h>(
 impl Marker {
     /// Allocates the memory.
     pub fn new(alloc: Global) -> Result<Marker, AllocError> {
+        let reader = LineReader::new(alloc)?;
+        let Ok(asked) = Asked::new(alloc) else {
+            drop(reader);
+            return Err(AllocError);
+        };
+        let Ok(given) = Asked::new(alloc) else {
+            drop((reader, asked));
+            return Err(AllocError);
+        };
         Ok(Marker {
-            reader: LineReader::new(alloc)?,
-            asked: Asked::new(alloc)?,
-            given: Asked::new(alloc)?,
+            reader,
+            asked,
+            given,
         })
     }
 
