@@ -56,16 +56,17 @@ impl<T: Sink, F: Folder> Player<T, F> {
         ensures { result ≡ self.captured.capture.trace }
     {
         let Player {
-            files: _files,
+            files,
             captured,
             config: _config,
             head: _head,
-            reader: _reader,
-            line: _line,
-            bytes: _bytes,
-            report: _report,
-            printer: _printer,
+            reader,
+            line,
+            bytes,
+            report,
+            printer,
         } = self;
+        drop((files, reader, line, bytes, report, printer));
         captured.end()
     }
 

@@ -57,14 +57,24 @@ impl Report {
     pub fn new(alloc: Global, quiet: bool) -> Result<Report, AllocError>
         ensures { IfOk result (λ r. (r.quiet ≡ quiet) × (r.reply_line ≡ []) × (r.below ≡ [])) }
     {
+        let (Ok(reply_line), Ok(below), Ok(drops), Ok(advice), Ok(shown), Ok(digits)) = (
+            Buffer::new(alloc),
+            Buffer::new(alloc),
+            Buffer::new(alloc),
+            Buffer::new(alloc),
+            Buffer::new(alloc),
+            zero_bytes(alloc, 2 * PACKET),
+        ) else {
+            return Err(AllocError);
+        };
         Ok(Report {
             quiet,
-            reply_line: Buffer::new(alloc)?,
-            below: Buffer::new(alloc)?,
-            drops: Buffer::new(alloc)?,
-            advice: Buffer::new(alloc)?,
-            shown: Buffer::new(alloc)?,
-            digits: zero_bytes(alloc, 2 * PACKET)?,
+            reply_line,
+            below,
+            drops,
+            advice,
+            shown,
+            digits,
         })
     }
 

@@ -73,13 +73,25 @@ fn parts_for(alloc: Global, style: Style<'_>) -> Result<Parts, AllocError>
         × (p.printer.name ≡ take NAME style.entry.name.now) × (p.printer.sound ≡ true) × (p.printer.texts ≡ false)
         × (vec_len p.buffer ≡ IP_MAX_PACKET) × (vec_len p.bytes ≡ IP_MAX_PACKET)) }
 {
+    let buffer = zero_bytes(alloc, PACKET)?;
+    let bytes = zero_bytes(alloc, PACKET)?;
+    let printer = Printer::new(alloc, style)?;
+    let line = Line::new(alloc)?;
+    let Ok(report) = Report::new(alloc, style.form.is_quiet()) else {
+        drop((buffer, bytes, printer, line));
+        return Err(AllocError);
+    };
+    let Ok(reader) = LineReader::new(alloc) else {
+        drop((buffer, bytes, printer, line, report));
+        return Err(AllocError);
+    };
     Ok(Parts {
-        buffer: zero_bytes(alloc, PACKET)?,
-        bytes: zero_bytes(alloc, PACKET)?,
-        printer: Printer::new(alloc, style)?,
-        line: Line::new(alloc)?,
-        report: Report::new(alloc, style.form.is_quiet())?,
-        reader: LineReader::new(alloc)?,
+        buffer,
+        bytes,
+        printer,
+        line,
+        report,
+        reader,
     })
 }
 

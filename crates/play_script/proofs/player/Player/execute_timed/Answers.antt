@@ -1,8 +1,8 @@
-use Rattle.std.proofs.Common.{[], ◌-◌, ◌++◌, ◌∙◌, ap, append-nil, codes, length, refl, sym}
+use Rattle.std.proofs.Common.{[], ◌++◌, ◌∙◌, ap, append-nil, refl, sym}
 use Rattle.play_line.specs.declared.fault.SyntaxError.{SyntaxError}
-use Rattle.play_text.specs.Texts.{fault_text, line_error_text}
+use Rattle.play_text.specs.Texts.{line_error_text}
 use Rattle.play_script.specs.Players.{play_now, printing}
-use Rattle.play_script.specs.Lines.{Asks, Faulty, Nothing, TooLong, reading_part, shifted}
+use Rattle.play_script.specs.Lines.{Asks}
 use Rattle.play_script.specs.Views.{expected_on, plain_line}
 use Rattle.play_script.specs.declared.line.Line.{Line}
 use Rattle.play_script.proofs.AnswerLemmas.{Reading-reports}
@@ -10,56 +10,39 @@ use Rattle.stack_call.specs.Moves.{StackSteps}
 use Rattle.play_script.proofs.player.Player.execute_timed.Goals as goal
 
 pub returns-in-Nothing : goal.returns-in-Nothing
-returns-in-Nothing g c =
-    let now = c.args.self.now in
-    let t = c.args.timed in (
-      [],
-      Reading-reports StackSteps g.F.Folder.may_have (printing now now.printer) (printing now now.printer) t.ticks
-          (length c.args.line.now - length t.part.now) (reading_part c.args.line.now t.part.now) Nothing []
-          c.in-Nothing.ensures (refl, refl),
-      sym (append-nil c.args.text.now),
-    )
+returns-in-Nothing g c = (
+  [],
+  Reading-reports StackSteps g.F.Folder.may_have _ _ _ _ _ _ _ c.in-Nothing.ensures (refl, refl),
+  sym (append-nil c.args.text.now),
+)
 
 pub returns-in-TooLong : goal.returns-in-TooLong
-returns-in-TooLong g c =
-    let now = c.args.self.now in
-    let t = c.args.timed in
-    let q = now.printer in
-    let text = fault_text q.form q.name q.number (codes "the line is too long") in (
-      text,
-      Reading-reports StackSteps g.F.Folder.may_have (printing now q) (printing now c.put_too_long.new.self) t.ticks
-          (length c.args.line.now - length t.part.now) (reading_part c.args.line.now t.part.now) TooLong text
-          c.in-TooLong.ensures (refl, ap (printing now) c.put_too_long.ensures.printer),
-      c.put_too_long.ensures.text,
-    )
+returns-in-TooLong g c = (
+  _,
+  Reading-reports StackSteps g.F.Folder.may_have _ _ _ _ _ _ _ c.in-TooLong.ensures
+      (refl, ap (printing c.args.self.now) c.put_too_long.ensures.printer),
+  c.put_too_long.ensures.text,
+)
 
 pub returns-in-Faulty : goal.returns-in-Faulty
 returns-in-Faulty g c =
-    let now = c.args.self.now in
-    let t = c.args.timed in
-    let q = now.printer in
-    let before = length c.args.line.now - length t.part.now in
-    let text = line_error_text q.form q.name q.number (shifted before c.in-Faulty.error) in (
-      text,
-      Reading-reports StackSteps g.F.Folder.may_have (printing now q) (printing now c.put_error.new.self) t.ticks
-          before (reading_part c.args.line.now t.part.now) (Faulty c.in-Faulty.error) text c.in-Faulty.ensures
-          (refl, ap (printing now) c.put_error.ensures.printer),
+    let q = c.args.self.now.printer in (
+      _,
+      Reading-reports StackSteps g.F.Folder.may_have _ _ _ _ _ _ _ c.in-Faulty.ensures
+          (refl, ap (printing c.args.self.now) c.put_error.ensures.printer),
       c.put_error.ensures.text
-          ∙ ap (λ (s : SyntaxError). c.args.text.now ++ line_error_text q.form q.name q.number s) c.shift_column.ensures,
+          ∙ ap (λ (s : SyntaxError). c.args.text.now ++ line_error_text q.form q.name q.number s)
+          c.shift_column.ensures,
     )
 
 pub returns-in-Asks : goal.returns-in-Asks
 returns-in-Asks g c =
-    let now = c.args.self.now in
-    let t = c.args.timed in
     let reported = c.ask.ensures in
     let mid = c.wait.new.self in (
       reported.0,
-      Reading-reports StackSteps g.F.Folder.may_have
-          (play_now now) _ t.ticks
-          (length c.args.line.now - length t.part.now) (reading_part c.args.line.now t.part.now)
-          (Asks mid.line.shown (plain_line mid.line) (expected_on mid.line)) reported.0
-          (c.in-Asks.ensures ∙ ap (λ (l : Line). Asks l.shown (plain_line l) (expected_on l)) (sym c.wait.ensures.line)) (
+      Reading-reports StackSteps g.F.Folder.may_have _ _ _ _ _
+          (Asks mid.line.shown (plain_line mid.line) (expected_on mid.line)) reported.0 (c.in-Asks.ensures
+          ∙ ap (λ (l : Line). Asks l.shown (plain_line l) (expected_on l)) (sym c.wait.ensures.line)) (
             play_now mid,
             c.wait.ensures.waited,
             reported.1,
