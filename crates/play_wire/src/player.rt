@@ -179,12 +179,13 @@ impl<T: Sink + Drop> Player<T> {
     pub(crate) fn end(self) -> bool {
         let Player {
             hosts,
-            reader: _reader,
-            target: _target,
-            line: _line,
-            report: _report,
-            printer: _printer,
+            reader,
+            target,
+            line,
+            report,
+            printer,
         } = self;
+        drop((reader, target, line, report, printer));
         hosts.end()
     }
 }

@@ -42,8 +42,14 @@ fn parts_for(alloc: Global, style: Style<'_>) -> Result<Parts, AllocError>
     let printer = Printer::new(alloc, style)?;
     let target = Target::new(alloc)?;
     let line = Line::new(alloc)?;
-    let report = Report::new(alloc, style.form.is_quiet())?;
-    let reader = LineReader::new(alloc)?;
+    let Ok(report) = Report::new(alloc, style.form.is_quiet()) else {
+        drop((printer, target, line));
+        return Err(AllocError);
+    };
+    let Ok(reader) = LineReader::new(alloc) else {
+        drop((printer, target, line, report));
+        return Err(AllocError);
+    };
     Ok(Parts {
         reader,
         target,
