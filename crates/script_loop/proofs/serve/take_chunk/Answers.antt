@@ -123,3 +123,24 @@ returns-else-fits-clause-taken g c = λ begin seen written h.
     kept.0 c.loop-at.text [] c.take_part-fits.new.line _ _ _
     taken.1 kept.2 (subst (λ (t : List ℕ). BreaksLimit (seen ++ taken.0) t) (append-nil rest) broken) kept.1
     c.in_ok-flush.ensures.sent
+
+pub returns-in_err-now-clause-empty : goal.returns-in_err-now-clause-empty
+returns-in_err-now-clause-empty g c = rw (err_from_is_err_and c.from_residual.result c.from_residual.ensures.1).1 tt
+
+pub returns-in_err-now-clause-within : goal.returns-in_err-now-clause-within
+returns-in_err-now-clause-within g c = rw (err_from_is_err_and c.from_residual.result c.from_residual.ensures.1).1 tt
+
+pub returns-in_err-now-clause-fewer : goal.returns-in_err-now-clause-fewer
+returns-in_err-now-clause-fewer g c = rw (err_from_is_err_and c.from_residual.result c.from_residual.ensures.1).1 tt
+
+pub returns-in_err-flush-clause-empty : goal.returns-in_err-flush-clause-empty
+returns-in_err-flush-clause-empty g c =
+    rw (err_from_is_err_and c.from_residual-in_err-flush.result c.from_residual-in_err-flush.ensures.1).1 tt
+
+pub returns-in_err-flush-clause-within : goal.returns-in_err-flush-clause-within
+returns-in_err-flush-clause-within g c =
+    rw (err_from_is_err_and c.from_residual-in_err-flush.result c.from_residual-in_err-flush.ensures.1).1 tt
+
+pub returns-in_err-flush-clause-fewer : goal.returns-in_err-flush-clause-fewer
+returns-in_err-flush-clause-fewer g c =
+    rw (err_from_is_err_and c.from_residual-in_err-flush.result c.from_residual-in_err-flush.ensures.1).1 tt

@@ -27,3 +27,30 @@ returns-in_ok-flush-in-None-clause-taken g c = λ begin seen written h.
     Takes-too_far g.A.Answers.may_answer begin _ seen c.take_end.new.line written c.args.text.now c.take_end.new.text
     c.flush.new.text c.take_end.new.line _ _ _ h.within
     (c.in-None.ensures.taken begin seen (written ++ c.args.text.now) h) c.in_ok-flush-in-None.ensures.sent
+
+pub returns-in_err-make_room-in-Some-clause-within : goal.returns-in_err-make_room-in-Some-clause-within
+returns-in_err-make_room-in-Some-clause-within g c =
+    rw (err_from_is_err_and c.from_residual.result c.from_residual.ensures.1).1 tt
+
+pub returns-in_err-make_room-in-Some-clause-room : goal.returns-in_err-make_room-in-Some-clause-room
+returns-in_err-make_room-in-Some-clause-room g c =
+    rw (err_from_is_err_and c.from_residual.result c.from_residual.ensures.1).1 tt
+
+pub returns-in_err-make_room-in-Some-clause-fewer : goal.returns-in_err-make_room-in-Some-clause-fewer
+returns-in_err-make_room-in-Some-clause-fewer g c =
+    rw (err_from_is_err_and c.from_residual.result c.from_residual.ensures.1).1 tt
+
+pub returns-in_err-flush-in-None-clause-within : goal.returns-in_err-flush-in-None-clause-within
+returns-in_err-flush-in-None-clause-within g c =
+    rw (err_from_is_err_and c.from_residual-in_err-flush-in-None.result
+    c.from_residual-in_err-flush-in-None.ensures.1).1 tt
+
+pub returns-in_err-flush-in-None-clause-room : goal.returns-in_err-flush-in-None-clause-room
+returns-in_err-flush-in-None-clause-room g c =
+    rw (err_from_is_err_and c.from_residual-in_err-flush-in-None.result
+    c.from_residual-in_err-flush-in-None.ensures.1).1 tt
+
+pub returns-in_err-flush-in-None-clause-fewer : goal.returns-in_err-flush-in-None-clause-fewer
+returns-in_err-flush-in-None-clause-fewer g c =
+    rw (err_from_is_err_and c.from_residual-in_err-flush-in-None.result
+    c.from_residual-in_err-flush-in-None.ensures.1).1 tt
