@@ -22,7 +22,7 @@ const SIMPLE_PACKET: u32 = 3;
 const ENHANCED_PACKET: u32 = 6;
 
 /// A packet, and the place of its bytes in a record or a block.
-#[derive(Clone, Copy, Debug)]
+#[derive(Clone, Copy)]
 pub(crate) struct Found {
     pub(crate) time: Option<u64>,
     pub(crate) original_len: u32,

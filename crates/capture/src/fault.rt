@@ -46,7 +46,7 @@ pub struct Fault {
 }
 
 /// What is wrong with a record or a block, and its offset in it.
-#[derive(Clone, Copy, Debug, PartialEq, Eq)]
+#[derive(Clone, Copy)]
 pub(crate) struct FaultAt {
     pub(crate) why: Why,
     pub(crate) at: usize,

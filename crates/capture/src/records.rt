@@ -33,7 +33,7 @@ pub struct Record {
 }
 
 /// The kind of a file, by its first bytes.
-#[derive(Clone, Copy, Debug, PartialEq, Eq)]
+#[derive(Clone, Copy)]
 pub(crate) enum Kind {
     Gzip,
     Pcapng,
@@ -41,7 +41,7 @@ pub(crate) enum Kind {
 }
 
 /// The format of a file, as far as it was determined.
-#[derive(Clone, Copy, Debug, PartialEq, Eq)]
+#[derive(Clone, Copy)]
 pub(crate) enum Format {
     /// Nothing was read so far.
     Unread,

@@ -14,7 +14,7 @@ use script_loop::Source;
 pub(crate) const EMPTY_BLOCK: usize = 12;
 
 /// The result of one block.
-#[derive(Clone, Copy, Debug)]
+#[derive(Clone, Copy)]
 pub(crate) enum Step {
     /// The file has ended.
     Ended,
