@@ -1,5 +1,6 @@
 use Rattle.std.proofs.Common.{◌≡◌, ℕ, ◌+◌, ◌-◌, ◌≤◌, ◌++◌, List, length, drop, replicate, arith, ap, sym, ◌∙◌, append-nil}
 use Rattle.std.proofs.lemmas.List.{length-append, length-drop, length-replicate}
+use Rattle.std.proofs.lemmas.Result.{err_from_is_err_and}
 use Rattle.mbuf_chain.specs.Chain.{Entry, ChainView, PoolView, chain_of, flat_bytes}
 use Rattle.mbuf_chain.proofs.Laws.Owners.{shown_with, kept_with}
 use Rattle.mbuf_chain.proofs.Laws.Steps.{live_shown}
@@ -121,3 +122,12 @@ returns-clause-ok c =
 pub returns-clause-string : goal.returns-clause-string
 returns-clause-string c =
     ap flat_bytes (returns-clause-ok c).entries ∙ copied_back_bytes _ c.args.off c.args.bytes.now
+
+pub returns-in_err-tail-clause-ok : goal.returns-in_err-tail-clause-ok
+returns-in_err-tail-clause-ok c = rw (err_from_is_err_and c.from_residual.result c.from_residual.ensures.1).1 tt
+
+pub returns-in_err-tail-clause-string : goal.returns-in_err-tail-clause-string
+returns-in_err-tail-clause-string c = rw (err_from_is_err_and c.from_residual.result c.from_residual.ensures.1).1 tt
+
+pub returns-in_err-tail-clause-enough : goal.returns-in_err-tail-clause-enough
+returns-in_err-tail-clause-enough c = rw (err_from_is_err_and c.from_residual.result c.from_residual.ensures.1).1 tt

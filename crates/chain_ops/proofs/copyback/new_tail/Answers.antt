@@ -1,5 +1,6 @@
 use Rattle.std.proofs.Common.{◌≡◌, ℕ, ◌+◌, ◌-◌, ◌<◌, ◌++◌, Result, Ok, Err, OnErr, List, [], ◌∷◌, length, take, drop, replicate, None, arith, ap, sym, refl, ◌∙◌, append_assoc, append-nil}
 use Rattle.std.proofs.lemmas.List.{length-append, length-take, length-replicate, length-drop}
+use Rattle.std.proofs.lemmas.Result.{err_from_is_err_and}
 use Rattle.mbuf_chain.specs.Chain.{Entry, ChainView, PoolView, chain_of, without}
 use Rattle.mbuf_chain.proofs.Laws.Owners.{live_adds}
 use Rattle.mbuf_chain.proofs.Laws.Steps.{live_beside, live_shown, place_beside, linked_new}
@@ -170,3 +171,9 @@ pub returns-clause-enough : goal.returns-clause-enough
 returns-clause-enough c =
     let m = returns-clause-ok c in
     omega (arith, makes_held m, makes_mbufs m, c.laws.ensures.few)
+
+pub returns-in_err-chain-clause-ok : goal.returns-in_err-chain-clause-ok
+returns-in_err-chain-clause-ok c = rw (err_from_is_err_and c.from_residual.result c.from_residual.ensures.1).1 tt
+
+pub returns-in_err-chain-clause-enough : goal.returns-in_err-chain-clause-enough
+returns-in_err-chain-clause-enough c = rw (err_from_is_err_and c.from_residual.result c.from_residual.ensures.1).1 tt

@@ -1,5 +1,6 @@
 use Rattle.std.proofs.Common.{◌+◌, ◌++◌, Bool, List, [], ◌∷◌, length, drop, arith, ap, sym, refl, ◌∙◌, append-nil}
 use Rattle.std.proofs.lemmas.List.{length-append}
+use Rattle.std.proofs.lemmas.Result.{err_from_is_err_and}
 use Rattle.mbuf_chain.specs.declared.place.Segment.{Segment}
 use Rattle.mbuf_chain.specs.Chain.{Entry, ChainView, PoolView, chain_of, entry_of, alone, without}
 use Rattle.mbuf_chain.proofs.Laws.Owners.{live_adds}
@@ -109,3 +110,9 @@ pub returns-clause-enough : goal.returns-clause-enough
 returns-clause-enough c =
     let m = returns-clause-ok c in
     omega (arith, makes_held m, makes_mbufs m, c.laws.ensures.few)
+
+pub returns-in_err-copy-clause-ok : goal.returns-in_err-copy-clause-ok
+returns-in_err-copy-clause-ok c = rw (err_from_is_err_and c.from_residual.result c.from_residual.ensures.1).1 tt
+
+pub returns-in_err-copy-clause-enough : goal.returns-in_err-copy-clause-enough
+returns-in_err-copy-clause-enough c = rw (err_from_is_err_and c.from_residual.result c.from_residual.ensures.1).1 tt

@@ -2,6 +2,7 @@ use Rattle.std.proofs.Common.{◌≡◌, ℕ, ◌+◌, ◌++◌, ◌∷◌, [], 
 use Rattle.std.specs.Prelude.{slice_set, is_none, not}
 use Rattle.std.proofs.lemmas.Bool.{true≢false}
 use Rattle.std.proofs.lemmas.List.{take_all, take_more, drop-set-lt, length-set}
+use Rattle.std.proofs.lemmas.Result.{err_from_is_err_and}
 use Rattle.mbuf_chain.specs.declared.place.Segment.{Segment}
 use Rattle.mbuf_chain.specs.Chain.{Entry, Front, ChainView, PoolView, no_entry, alone, chain_of, entry_of, with_chain, without, flat_bytes, string}
 use Rattle.mbuf_chain.specs.Steps.{narrowed, first_part}
@@ -322,3 +323,15 @@ returns-clause-front c = front_bytes c.args.at (returns-clause-ok c)
 
 pub returns-clause-back : goal.returns-clause-back
 returns-clause-back c = back_bytes c.args.at (returns-clause-ok c)
+
+pub returns-in_err-head-clause-ok : goal.returns-in_err-head-clause-ok
+returns-in_err-head-clause-ok c = rw (err_from_is_err_and c.from_residual.result c.from_residual.ensures.1).1 tt
+
+pub returns-in_err-head-clause-front : goal.returns-in_err-head-clause-front
+returns-in_err-head-clause-front c = rw (err_from_is_err_and c.from_residual.result c.from_residual.ensures.1).1 tt
+
+pub returns-in_err-head-clause-back : goal.returns-in_err-head-clause-back
+returns-in_err-head-clause-back c = rw (err_from_is_err_and c.from_residual.result c.from_residual.ensures.1).1 tt
+
+pub returns-in_err-head-clause-enough : goal.returns-in_err-head-clause-enough
+returns-in_err-head-clause-enough c = rw (err_from_is_err_and c.from_residual.result c.from_residual.ensures.1).1 tt

@@ -2,6 +2,7 @@ use Rattle.std.proofs.Common.{◌≡◌, ◌==◌, ℕ, ◌+◌, ◌-◌, ◌<�
 use Rattle.std.specs.Prelude.{option_to_list}
 use Rattle.std.proofs.lemmas.List.{length-append}
 use Rattle.std.proofs.lemmas.Bool.{eqb-true, false≢true}
+use Rattle.std.proofs.lemmas.Result.{err_from_is_err_and}
 use Rattle.mbuf_chain.specs.Steps.{one_mbuf, joined}
 use Rattle.mbuf_chain.specs.Chain.{Entry, ChainView, PoolView, chain_of, references, references_of, without}
 use Rattle.mbuf_chain.specs.Owners.{times_among}
@@ -230,3 +231,9 @@ returns-clause-enough c =
       ),
       omega (arith, inv.count, inv.frees, ap (count_by is_cluster) none),
     )
+
+pub returns-in_err-chain-clause-ok : goal.returns-in_err-chain-clause-ok
+returns-in_err-chain-clause-ok c = rw (err_from_is_err_and c.from_residual.result c.from_residual.ensures.1).1 tt
+
+pub returns-in_err-chain-clause-enough : goal.returns-in_err-chain-clause-enough
+returns-in_err-chain-clause-enough c = rw (err_from_is_err_and c.from_residual.result c.from_residual.ensures.1).1 tt

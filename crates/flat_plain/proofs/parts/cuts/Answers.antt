@@ -1,5 +1,6 @@
 use Rattle.std.proofs.Common.{arith, sym, ◌∙◌, ap, ◌+◌, map, ◌-◌, ◌*◌, ◌/◌}
 use Rattle.std.specs.List.{range_with_len}
+use Rattle.std.proofs.lemmas.Result.{err_from_is_err_and}
 use Rattle.flat_model.specs.Fragments.Cuts as Cuts
 use Rattle.flat_plain.specs.Parts.{part_of}
 use Rattle.flat_plain.proofs.Cutting.{cut_short, cut_long, cut_step}
@@ -22,3 +23,17 @@ returns-clause-parts c =
     c.loop-i.invariant.0
     ∙ ap (λ k. map (Cuts.part c.args.n ((c.args.mtu - 20) / 8 * 8)) (range_with_len 0 k)) (omega arith)
     ∙ sym (cut_long c.args.n c.args.mtu (omega arith))
+
+pub returns-in_err-push-clause-parts : goal.returns-in_err-push-clause-parts
+returns-in_err-push-clause-parts c = rw (err_from_is_err_and c.from_residual.result c.from_residual.ensures.1).1 tt
+
+pub returns-in_err-push-clause-len : goal.returns-in_err-push-clause-len
+returns-in_err-push-clause-len c = rw (err_from_is_err_and c.from_residual.result c.from_residual.ensures.1).1 tt
+
+pub returns-in_err-push-2-clause-parts : goal.returns-in_err-push-2-clause-parts
+returns-in_err-push-2-clause-parts c =
+    rw (err_from_is_err_and c.from_residual-in_err-push-2.result c.from_residual-in_err-push-2.ensures.1).1 tt
+
+pub returns-in_err-push-2-clause-len : goal.returns-in_err-push-2-clause-len
+returns-in_err-push-2-clause-len c =
+    rw (err_from_is_err_and c.from_residual-in_err-push-2.result c.from_residual-in_err-push-2.ensures.1).1 tt
