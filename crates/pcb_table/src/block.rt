@@ -27,7 +27,7 @@ pub struct Block {
 }
 
 /// The two ends of a block whose four values are all set.
-#[derive(Clone, Copy, Debug, PartialEq, Eq)]
+#[derive(Clone, Copy)]
 pub(crate) struct Connection {
     pub(crate) fd: u32,
     pub(crate) local: Addr,

@@ -9,7 +9,7 @@ use flat_model::Addr;
 use params::{FIRST_MULTICAST, LIMITED_BROADCAST, LOOPBACK};
 
 /// The one interface of a machine.
-#[derive(Clone, Copy, Debug, PartialEq, Eq)]
+#[derive(Clone, Copy)]
 pub(crate) struct Interface {
     pub(crate) addr: u32,
     pub(crate) bcast: u32,

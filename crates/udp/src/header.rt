@@ -16,7 +16,7 @@ use params::{PROTOCOL_UDP, UDP_HEADER, tries_one_buffer};
 pub(crate) const HEADER: usize = UDP_HEADER as usize;
 
 /// A header as numbers (RFC 768).
-#[derive(Clone, Copy, Debug, PartialEq, Eq)]
+#[derive(Clone, Copy)]
 pub(crate) struct Header {
     pub(crate) source: u16,
     pub(crate) destination: u16,
