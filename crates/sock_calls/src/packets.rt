@@ -21,7 +21,7 @@ use pcb_table::Pcbs;
 use udp::header_for;
 
 /// The header fields of a send.
-#[derive(Clone, Copy, Debug, PartialEq, Eq)]
+#[derive(Clone, Copy)]
 pub(crate) struct Heading {
     /// The identification.
     pub(crate) id: u16,
@@ -34,7 +34,7 @@ pub(crate) struct Heading {
 }
 
 /// The route of a send.
-#[derive(Clone, Copy, Debug, PartialEq, Eq)]
+#[derive(Clone, Copy)]
 pub(crate) struct Route {
     /// The destination.
     pub(crate) to: Addr,
