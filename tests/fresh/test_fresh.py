@@ -172,8 +172,8 @@ STUBS = {"rt": '#!/bin/sh\necho "0 passed, 1 failed"\nexit 1\n', "python": PYTHO
 def test_the_gate_reaches_its_proofs():
     """With only README's packages, and with CI unset, .ci/run passes tests/docs and reaches `rt ci`, which is a stub
     here."""
-    stubs = "".join(f"printf %s {shlex.quote(text)} > ~/{name} && chmod +x ~/{name} && " for name, text in STUBS.items())
-    gate = f'git clone -q "$REPOSITORY" it && cd it && {stubs} PATH=~:$PATH PYTHON=~/python .ci/run'
+    stubs = "".join(f"printf %s {shlex.quote(text)} > ~/{name}; chmod +x ~/{name}; " for name, text in STUBS.items())
+    gate = f'{stubs}git clone -q "$REPOSITORY" it && cd it && PATH=~:$PATH PYTHON=~/python .ci/run'
     status, printed, said = machine("--with", packages(), gate)
     assert status == 1 and printed.endswith("\n0 passed, 1 failed\n"), f"status {status}: {printed}\n{said}"
     assert re.search(r"(?m)^[1-9]\d* passed, 0 failed, \d+ skipped$", printed), printed[-2000:]
