@@ -85,10 +85,12 @@ fn task_of(name: &str, found: &ArgMatches<'_>) -> Option<Task>
     ensures { MatchOption result ((t : Task) → NamesTask defaults name.now (first_value (found_of found.now)) t → ⊥)
         (NamesTask defaults name.now (first_value (found_of found.now))) }
 {
-    match name.as_bytes() {
-        b"run" => Some(Task::Run(config_of(found)?)),
-        b"chain" => Some(Task::Chain(sizes_of(found)?)),
-        _ => None,
+    if name == "run" {
+        Some(Task::Run(config_of(found)?))
+    } else if name == "chain" {
+        Some(Task::Chain(sizes_of(found)?))
+    } else {
+        None
     }
 }
 
