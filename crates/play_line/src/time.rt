@@ -1,5 +1,5 @@
 //! The time that passes before a line.
-ghost use Rattle.std.specs.Prelude.{◌≡◌, ◌<◌, ◌≤◌, length, position, IfOk, IfSome};
+ghost use Rattle.std.specs.Prelude.{◌≡◌, ◌<◌, ◌≤◌, Err, length, position, IfOk, IfSome};
 ghost use Rattle.play_line.specs.Bytes as bytes;
 ghost use Rattle.play_line.specs.Time as times;
 
@@ -88,6 +88,16 @@ fn word_end(left: &[u8]) -> usize
     }
 }
 
+/// Returns the error for a line whose time begins here.
+fn no_time(line: &[u8], at: &[u8]) -> SyntaxError
+    ensures { Err result ≡ times.no_time line.now at.now }
+{
+    SyntaxError {
+        fault: Fault::NoTime,
+        column: column_at(line, at.len()),
+    }
+}
+
 /// Returns the time at the beginning of a line, and the line after it. A time is `+`, whole seconds of 0 to 32,767, and
 /// `s`, `.0s` or `.5s`. It has at most eight bytes after the `+`, and a tick is half a second. A line that doesn't
 /// begin with `+` has no time.
@@ -112,10 +122,13 @@ pub fn read_time(line: &[u8]) -> Result<Timed<'_>, SyntaxError>
     let (word, rest) = left.split_at(word_end(left));
     let part = skip(rest);
     match ticks_in(word) {
-        Some(ticks) if !is_end(part) => Ok(Timed { ticks, part }),
-        _ => Err(SyntaxError {
-            fault: Fault::NoTime,
-            column: column_at(line, at.len()),
-        }),
+        Some(ticks) => {
+            if is_end(part) {
+                Err(no_time(line, at))
+            } else {
+                Ok(Timed { ticks, part })
+            }
+        }
+        None => Err(no_time(line, at)),
     }
 }
