@@ -59,10 +59,7 @@ fn is_count(word: &[u8]) -> bool
 fn is_option(word: &[u8]) -> bool
     ensures { MatchBool result (Takes argument.Option word.now) (¬ Takes argument.Option word.now) }
 {
-    match word {
-        b"broadcast" | b"reuseport" => true,
-        _ => false,
-    }
+    word == b"broadcast".as_slice() || word == b"reuseport".as_slice()
 }
 
 /// Returns whether a word sets an option or clears it.
