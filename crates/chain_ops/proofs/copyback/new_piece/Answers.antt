@@ -1,5 +1,6 @@
 use Rattle.std.proofs.Common.{◌≡◌, ℕ, ◌++◌, false, None, List, length, take, replicate, arith, ap, sym, ◌∙◌, subst}
 use Rattle.std.proofs.lemmas.List.{length-take, length-replicate}
+use Rattle.std.proofs.lemmas.Result.{err_from_is_err_and}
 use Rattle.mbuf_chain.specs.Chain.{Entry, PoolView, HasTrailingSpace, chain_of, entry_in, with_chain, entry_of, Adds}
 use Rattle.mbuf_chain.specs.Steps.{one_mbuf, with_back, with_entry, empty_entry}
 use Rattle.mbuf_chain.proofs.Laws.Owners.{live_adds}
@@ -95,3 +96,6 @@ returns-clause-ok c =
     (zeroed_entry at)
     ∙ ap (λ (zs : List ℕ). let e : Entry = record { bytes = zs; start = 20; cluster = None } in
     with_chain q d (with_entry (chain_of q d) i e)) all)
+
+pub returns-in_err-chain-clause-ok : goal.returns-in_err-chain-clause-ok
+returns-in_err-chain-clause-ok c = rw (err_from_is_err_and c.from_residual.result c.from_residual.ensures.1).1 tt

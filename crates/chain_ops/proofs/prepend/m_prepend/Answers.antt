@@ -1,4 +1,5 @@
 use Rattle.std.proofs.Common.{◌<◌, ℕ, length, arith, ap, sym, ◌∙◌, subst}
+use Rattle.std.proofs.lemmas.Result.{err_from_is_err_and}
 use Rattle.mbuf_chain.specs.Chain.{ChainView, PoolView, IsLive, IsPlace, chain_of, leading_space, flat_bytes}
 use Rattle.mbuf_chain.proofs.Laws.Owners.{live_adds, shown_adds}
 use Rattle.mbuf_chain.proofs.Laws.Steps.{live_beside}
@@ -102,3 +103,12 @@ pub returns-clause-string : goal.returns-clause-string
 returns-clause-string c =
     ap flat_bytes (returns-clause-ok c).entries
     ∙ prepended_bytes (chain_of c.args.pool.now c.args.chain.now) c.args.bytes.now
+
+pub returns-in_err-new-clause-ok : goal.returns-in_err-new-clause-ok
+returns-in_err-new-clause-ok c = rw (err_from_is_err_and c.from_residual.result c.from_residual.ensures.1).1 tt
+
+pub returns-in_err-new-clause-string : goal.returns-in_err-new-clause-string
+returns-in_err-new-clause-string c = rw (err_from_is_err_and c.from_residual.result c.from_residual.ensures.1).1 tt
+
+pub returns-in_err-new-clause-enough : goal.returns-in_err-new-clause-enough
+returns-in_err-new-clause-enough c = rw (err_from_is_err_and c.from_residual.result c.from_residual.ensures.1).1 tt

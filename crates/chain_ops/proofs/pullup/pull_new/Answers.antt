@@ -1,4 +1,5 @@
 use Rattle.std.proofs.Common.{ℕ, ◌++◌, Bool, None, length, take, arith, ap, sym, ◌∙◌, subst}
+use Rattle.std.proofs.lemmas.Result.{err_from_is_err_and}
 use Rattle.mbuf_chain.specs.Chain.{Entry, ChainView, PoolView, IsLive, HasTrailingSpace, chain_of, entry_of, without, alone, flat_bytes}
 use Rattle.mbuf_chain.specs.Steps.{empty_entry}
 use Rattle.mbuf_chain.proofs.Laws.Owners.{live_adds, shown_adds}
@@ -85,3 +86,9 @@ returns-clause-enough c =
       held-adds c.in_ok-new.ensures.ok,
       ap (λ (s : PoolView). s.mbufs) c.in_ok-new.ensures.ok.pool,
     )
+
+pub returns-in_err-new-clause-ok : goal.returns-in_err-new-clause-ok
+returns-in_err-new-clause-ok c = rw (err_from_is_err_and c.from_residual.result c.from_residual.ensures.1).1 tt
+
+pub returns-in_err-new-clause-enough : goal.returns-in_err-new-clause-enough
+returns-in_err-new-clause-enough c = rw (err_from_is_err_and c.from_residual.result c.from_residual.ensures.1).1 tt

@@ -1,4 +1,5 @@
 use Rattle.std.proofs.Common.{Some, None, ◌∙◌, sym, arith}
+use Rattle.std.proofs.lemmas.Result.{err_from_is_err_and}
 use Rattle.chain_script.proofs.SlotLemmas.{slot_is, live_slot}
 use Rattle.chain_script.proofs.Drawn.{collected_held, collected_none}
 use Rattle.chain_script.proofs.draw.collect_slots.Goals as goal
@@ -36,3 +37,6 @@ slots-preserved c = elim c.match-chains-slot.branch [
         w.seen-is,
       )
 ]
+
+pub returns-in_err-collect_chain : goal.returns-in_err-collect_chain
+returns-in_err-collect_chain c = rw (err_from_is_err_and c.from_residual.result c.from_residual.ensures.1).1 tt
