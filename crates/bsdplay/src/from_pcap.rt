@@ -3,6 +3,7 @@ ghost use Rattle.std.specs.Prelude.{IfOk};
 ghost use Rattle.play_pcap.specs.Events.{IsOrdered};
 
 use crate::formats::{Unread, load_capture};
+use crate::messages::{fail, fail_on};
 use crate::{UNREAD, USAGE};
 use capture::{Fault, Why};
 use clap::ArgMatches;
@@ -11,6 +12,7 @@ use play_pcap::{
 };
 use play_script::Silent;
 use script_loop::{Buffer, LineBuffers};
+use std::alloc::AllocError;
 use std::{io, str};
 
 /// The status if the file isn't a capture, or has fewer records than the range requests.
@@ -35,11 +37,16 @@ pub(crate) fn report(
     }
 }
 
-/// Prints what is wrong with a pcapng file or a gzip file, and returns the status.
-fn report_fault(rt: &HostRuntime, name: &str, fault: Fault) -> io::Result<u8> {
+/// Prints what is wrong with a capture that `command` reads, and returns the status.
+pub(crate) fn report_fault(
+    rt: &HostRuntime,
+    name: &str,
+    fault: Fault,
+    command: &str,
+) -> io::Result<u8> {
     if fault.why == Why::Gzip {
         eprintln!(rt;
-            "bsdplay: {name}: {}: zcat FILE | bsdplay --from-pcap - reads it",
+            "bsdplay: {name}: {}: zcat FILE | bsdplay {command} - reads it",
             fault.why
         )?;
     } else {
@@ -62,23 +69,30 @@ pub(crate) fn records_in(word: Option<&str>) -> Result<Option<Range>, &'static s
 }
 
 /// Prints a capture as a script, on standard output.
+fn print_lines(rt: &HostRuntime, name: &str, file: &[u8], details: Details) -> io::Result<u8>
+    requires { IsOrdered details.range }
+{
+    let (Ok(line), Ok(buffers)) = (Buffer::new(rt.alloc()), LineBuffers::new(rt.alloc())) else {
+        return Err(AllocError.into());
+    };
+    let mut lines = Lines::begin(Silent(rt.stdout()), line, buffers);
+    let outcome = play_file(rt.alloc(), &mut lines, file, details);
+    let (_writer, whole) = lines.end();
+    if !whole {
+        return fail_on(rt, name, "write failed", UNREAD);
+    }
+    report(rt, name, outcome)
+}
+
+/// Prints the capture of this name as a script.
 fn print_file(rt: &HostRuntime, name: &str, details: Details) -> io::Result<u8>
     requires { IsOrdered details.range }
 {
-    let file = match load_capture(rt, name) {
-        Ok(file) => file,
-        Err(Unread::Whole(fault)) => return report(rt, name, Err(fault)),
-        Err(Unread::Bad(fault)) => return report_fault(rt, name, fault),
-    };
-    let (line, buffers) = (Buffer::new(rt.alloc())?, LineBuffers::new(rt.alloc())?);
-    let mut lines = Lines::begin(Silent(rt.stdout()), line, buffers);
-    let outcome = play_file(rt.alloc(), &mut lines, file.as_slice(), details);
-    let (_writer, whole) = lines.end();
-    if !whole {
-        eprintln!(rt; "bsdplay: {name}: write failed")?;
-        return Ok(UNREAD);
+    match load_capture(rt, name) {
+        Ok(file) => print_lines(rt, name, file.as_slice(), details),
+        Err(Unread::Whole(fault)) => report(rt, name, Err(fault)),
+        Err(Unread::Bad(fault)) => report_fault(rt, name, fault, "--from-pcap"),
     }
-    report(rt, name, outcome)
 }
 
 /// Prints the capture that the command line names as a script, with the records and the ticks that the options request.
@@ -90,9 +104,6 @@ pub(crate) fn print_capture(
     let ticks = found.get_flag("ticks");
     match records_in(found.get_str("N-M")) {
         Ok(range) => print_file(rt, name, Details { range, ticks }),
-        Err(text) => {
-            eprintln!(rt; "bsdplay: {text}")?;
-            Ok(USAGE)
-        }
+        Err(text) => fail(rt, text, USAGE),
     }
 }

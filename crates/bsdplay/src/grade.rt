@@ -1,6 +1,7 @@
 //! Hand-ins that are graded, by a key or by what they expect themselves.
 use crate::difference::put_difference;
 use crate::hand_in::{REFUSED, load, play_quietly, unmarked};
+use crate::messages::{fail, fail_on};
 use crate::sweep::first_fault;
 use crate::watched::{NO_MEMORY, is_lack};
 use crate::{UNREAD, USAGE};
@@ -55,6 +56,11 @@ fn print_line(out: &mut impl Write, report: &Report<'_>) -> io::Result<()> {
     writeln!(out)
 }
 
+/// The names of the fields.
+const HEAD: [&[u8]; 7] = [
+    b"file", b"verdict", b"right", b"wrong", b"missing", b"first", b"note",
+];
+
 /// Writes a number as a field; an empty field for `None`.
 fn write_number<W: Write + Drop>(
     table: &mut Writer<W>,
@@ -67,6 +73,19 @@ fn write_number<W: Write + Drop>(
     }
 }
 
+/// Returns the numbers of a record.
+fn numbers_of(marks: Option<Marks>) -> [Option<u64>; 4] {
+    match marks {
+        Some(marks) => [
+            Some(marks.right),
+            Some(marks.wrong),
+            Some(marks.missing),
+            marks.first,
+        ],
+        None => [None; 4],
+    }
+}
+
 /// Writes a report as a record.
 fn write_record<W: Write + Drop>(
     table: &mut Writer<W>,
@@ -74,22 +93,10 @@ fn write_record<W: Write + Drop>(
 ) -> Result<(), csv::Error> {
     table.write_field(report.name.as_bytes())?;
     table.write_field(report.word.as_bytes())?;
-    let marks = report.marks;
-    write_number(table, marks.map(|marks| marks.right))?;
-    write_number(table, marks.map(|marks| marks.wrong))?;
-    write_number(table, marks.map(|marks| marks.missing))?;
-    write_number(table, marks.and_then(|marks| marks.first))?;
-    table.write_field(report.note)?;
-    table.end_record()
-}
-
-/// Returns the names of the fields, as the first record.
-fn write_head<W: Write + Drop>(table: &mut Writer<W>) -> Result<(), csv::Error> {
-    for name in [
-        "file", "verdict", "right", "wrong", "missing", "first", "note",
-    ] {
-        table.write_field(name.as_bytes())?;
+    for number in numbers_of(report.marks) {
+        write_number(table, number)?;
     }
+    table.write_field(report.note)?;
     table.end_record()
 }
 
@@ -145,26 +152,26 @@ impl Grader {
     }
 }
 
-/// Says on standard error why a key can't be graded by.
-fn refuse_key(rt: &HostRuntime, name: &str, verdict: &Verdict, written: &[u8]) -> io::Result<()> {
-    let mut out = rt.stderr();
+/// Writes why a key doesn't pass.
+fn put_key_fault(
+    out: &mut impl Write,
+    name: &str,
+    verdict: &Verdict,
+    written: &[u8],
+) -> io::Result<()> {
     if let Err(fault) = verdict.played.outcome {
-        writeln!(out, "bsdplay: {name}: {fault}")?;
+        writeln!(out, "bsdplay: {name}: {fault}")
     } else if !verdict.played.sound {
         out.write_all(first_fault(written, name.as_bytes()))?;
-        writeln!(out)?;
+        writeln!(out)
     } else if let Some(first) = verdict.marks.first {
         writeln!(
             out,
             "{name}:{first}: nothing is expected of this line, or it's a question without an answer"
-        )?;
+        )
     } else {
-        writeln!(out, "{name}: nothing is expected in it")?;
+        writeln!(out, "{name}: nothing is expected in it")
     }
-    writeln!(
-        out,
-        "bsdplay: {name}: no hand-in is graded, since the key itself doesn't pass"
-    )
 }
 
 /// Whether host memory was refused while a script was played: to the player, or to a machine of its settings. Then its
@@ -188,23 +195,24 @@ fn refused_key(
         &verdict,
         first_fault(grader.written.as_slice(), name.as_bytes()),
     ) {
-        eprintln!(rt; "bsdplay: {name}: no memory: no hand-in is graded")?;
-        return Ok(Some(NO_MEMORY));
+        let status = fail_on(rt, name, "no memory: no hand-in is graded", NO_MEMORY)?;
+        return Ok(Some(status));
     }
-    refuse_key(rt, name, &verdict, grader.written.as_slice())?;
-    Ok(Some(FAILED))
+    put_key_fault(&mut rt.stderr(), name, &verdict, grader.written.as_slice())?;
+    let text = "no hand-in is graded, since the key itself doesn't pass";
+    let status = fail_on(rt, name, text, FAILED)?;
+    Ok(Some(status))
 }
 
 /// Says that a report can't be written, and returns the status.
 fn report_unwritten(rt: &HostRuntime) -> io::Result<u8> {
-    eprintln!(rt; "bsdplay: write failed: not all grades are printed")?;
-    Ok(UNREAD)
+    fail(rt, "write failed: not all grades are printed", UNREAD)
 }
 
 /// Says that a hand-in isn't graded, and returns the status.
 fn report_refused(rt: &HostRuntime, name: &str) -> io::Result<Option<u8>> {
-    eprintln!(rt; "bsdplay: {name}: no memory: it isn't graded")?;
-    Ok(Some(NO_MEMORY))
+    let status = fail_on(rt, name, "no memory: it isn't graded", NO_MEMORY)?;
+    Ok(Some(status))
 }
 
 /// Returns why the first answer that isn't right is wrong although each expected reply comes: it's one to a question,
@@ -292,8 +300,7 @@ fn grade_all<W: Write + Drop>(
     found: &ArgMatches<'_>,
 ) -> io::Result<u8> {
     let Some(names) = found.get_strs("FILE") else {
-        eprintln!(rt; "bsdplay: --grade wants the files of the hand-ins")?;
-        return Ok(USAGE);
+        return fail(rt, "--grade wants the files of the hand-ins", USAGE);
     };
     let (mut worst, mut all, mut passed) = (0, 0u64, 0u64);
     for name in names {
@@ -332,7 +339,7 @@ fn grade_with(
         return grade_all(rt, grader, key, &mut reports, found);
     }
     let mut table = Writer::from_writer(rt.stdout());
-    if write_head(&mut table).is_err() {
+    if table.write_fields(&HEAD).is_err() {
         return report_unwritten(rt);
     }
     grade_all(rt, grader, key, &mut Reports::Table(table), found)

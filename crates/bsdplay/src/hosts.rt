@@ -1,4 +1,5 @@
 //! Scripts of many machines, with a capture of their wire or without one.
+use crate::messages::fail;
 use play_script::{Silent, Sink, Source, Style};
 use play_wire::{Nowhere, PlayedHosts, Start, play_hosts};
 use std::{fs, io};
@@ -45,6 +46,6 @@ pub(crate) fn status_of(rt: &HostRuntime, status: u8, kept: bool) -> io::Result<
     if kept {
         return Ok(status);
     }
-    eprintln!(rt; "bsdplay: the capture isn't whole, since a write failed")?;
-    Ok(UNWRITTEN)
+    let text = "the capture isn't whole, since a write failed";
+    fail(rt, text, UNWRITTEN)
 }

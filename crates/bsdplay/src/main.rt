@@ -16,6 +16,7 @@ mod help;
 mod hosts;
 mod kinds;
 mod link_names;
+mod messages;
 mod one;
 mod options;
 mod records;
@@ -36,12 +37,13 @@ use grade::grade;
 use hand_in::unmarked;
 use help::lines;
 use hosts::{play_captured, play_uncaptured, status_of};
+use messages::{fail, fail_on};
 use one::play_one;
 use options::{OPTIONS, with_options};
 use play_script::{Form, Played, RunFault, Style};
 use screen::Screen;
 use std::alloc::{AllocError, Global};
-use std::io::{IsTerminal, Read};
+use std::io::{IsTerminal, Read, Stdout};
 use std::process::ExitCode;
 use std::{env, fs, io};
 use strict::{print_blank, print_lacks};
@@ -138,21 +140,59 @@ fn play_seeds<R: Read + Drop>(
     seeds: Seeds,
 ) -> io::Result<u8> {
     if !reader.has_hosts() {
-        eprintln!(rt; "bsdplay: {name}: it has no hosts, so it has no seeds")?;
-        return Ok(USAGE);
+        return fail_on(rt, name, "it has no hosts, so it has no seeds", USAGE);
     }
     if manner.capture.is_some() {
-        eprintln!(rt; "bsdplay: a capture is of one seed: --pcap goes with --seed")?;
-        return Ok(USAGE);
+        return fail(
+            rt,
+            "a capture is of one seed: --pcap goes with --seed",
+            USAGE,
+        );
     }
     if matches!(manner.form, Form::Json) {
-        eprintln!(rt; "bsdplay: seeds are listed for people: --json goes with --seed")?;
-        return Ok(USAGE);
+        return fail(
+            rt,
+            "seeds are listed for people: --json goes with --seed",
+            USAGE,
+        );
     }
     let mut script = Vec::new(rt.alloc());
     reader.read_to_end(&mut script)?;
     let progress = manner.progress || rt.stderr().is_terminal();
     sweep(rt, script.as_slice(), name, seeds, progress)
+}
+
+/// Says that there is no memory to play a script, and returns the status.
+pub(crate) fn report_no_memory(rt: &HostRuntime, name: &str) -> io::Result<u8> {
+    let played = Played {
+        outcome: Err(RunFault::Memory),
+        sound: true,
+    };
+    report(rt, name, &played)?;
+    Ok(played.status())
+}
+
+/// Plays a script of many machines to a screen.
+fn play_wired_to<R: Read + Drop>(
+    rt: &HostRuntime,
+    reader: &mut Ahead<R>,
+    name: &str,
+    manner: Manner<'_>,
+    writer: &mut Watched<Screen<Stdout>>,
+) -> io::Result<u8> {
+    let style = Style {
+        form: manner.form,
+        name: name.as_bytes(),
+    };
+    let done = match manner.capture {
+        None => play_uncaptured(rt, style, manner.seed, reader, writer),
+        Some(path) => match play_captured(rt, style, (manner.seed, path), reader, writer) {
+            Some(done) => done,
+            None => return fail_on(rt, path, "it can't be written", UNREAD),
+        },
+    };
+    report(rt, name, &done.played)?;
+    status_of(rt, writer.status_of(&done.played), done.kept)
 }
 
 /// Plays a script of many machines.
@@ -166,31 +206,10 @@ fn play_wired<R: Read + Drop>(
         reader.ask_for_summary();
     }
     let screen = Screen::over(rt.stdout(), manner.form, manner.typed);
-    let Ok(writer) = Watched::over(rt.alloc(), screen) else {
-        let played = Played {
-            outcome: Err(RunFault::Memory),
-            sound: true,
-        };
-        report(rt, name, &played)?;
-        return Ok(played.status());
-    };
-    let mut writer = writer;
-    let style = Style {
-        form: manner.form,
-        name: name.as_bytes(),
-    };
-    let done = match manner.capture {
-        None => play_uncaptured(rt, style, manner.seed, reader, &mut writer),
-        Some(path) => match play_captured(rt, style, (manner.seed, path), reader, &mut writer) {
-            Some(done) => done,
-            None => {
-                eprintln!(rt; "bsdplay: {path}: it can't be written")?;
-                return Ok(UNREAD);
-            }
-        },
-    };
-    report(rt, name, &done.played)?;
-    status_of(rt, writer.status_of(&done.played), done.kept)
+    match Watched::over(rt.alloc(), screen) {
+        Ok(mut writer) => play_wired_to(rt, reader, name, manner, &mut writer),
+        Err(_) => report_no_memory(rt, name),
+    }
 }
 
 /// Plays a script like [`play_source`], after it was read completely, and then prints the lines without an expectation.
@@ -314,8 +333,7 @@ fn play_file(rt: &HostRuntime, name: &str, manner: Manner<'_>) -> io::Result<u8>
         return play_stdin(rt, manner);
     }
     let Ok(file) = fs::open(rt, name) else {
-        eprintln!(rt; "bsdplay: {name}: it can't be opened")?;
-        return Ok(UNREAD);
+        return fail_on(rt, name, "it can't be opened", UNREAD);
     };
     play_input(rt, file, name, manner)
 }
@@ -324,14 +342,11 @@ fn play_file(rt: &HostRuntime, name: &str, manner: Manner<'_>) -> io::Result<u8>
 fn play_all(rt: &HostRuntime, found: &ArgMatches<'_>) -> io::Result<u8> {
     let form = match form_of(rt, found) {
         Ok(form) => form,
-        Err(text) => {
-            eprintln!(rt; "bsdplay: {text}")?;
-            return Ok(USAGE);
-        }
+        Err(text) => return fail(rt, text, USAGE),
     };
     let Some(manner) = manner_of(found, form) else {
-        eprintln!(rt; "bsdplay: --seed takes a number, and --seeds takes two, such as 1-1000")?;
-        return Ok(USAGE);
+        let text = "--seed takes a number, and --seeds takes two, such as 1-1000";
+        return fail(rt, text, USAGE);
     };
     let Some(names) = found.get_strs("FILE") else {
         return play_stdin(rt, manner);
@@ -340,8 +355,8 @@ fn play_all(rt: &HostRuntime, found: &ArgMatches<'_>) -> io::Result<u8> {
     let mut worst = 0;
     for name in names {
         if captured {
-            eprintln!(rt; "bsdplay: {name}: it isn't played, since a capture is of one script")?;
-            return Ok(USAGE);
+            let text = "it isn't played, since a capture is of one script";
+            return fail_on(rt, name, text, USAGE);
         }
         captured = manner.capture.is_some();
         let status = play_file(rt, name, manner)?;
@@ -370,8 +385,7 @@ fn misfit(found: &ArgMatches<'_>) -> Option<&'static str> {
 /// Does what the options request.
 fn serve_found(rt: &HostRuntime, found: &ArgMatches<'_>) -> io::Result<u8> {
     if let Some(what) = misfit(found) {
-        eprintln!(rt; "bsdplay: {what}")?;
-        return Ok(USAGE);
+        return fail(rt, what, USAGE);
     }
     if let Some(name) = found.get_str("CAPTURE") {
         return print_capture(rt, name, found);
@@ -391,27 +405,32 @@ fn words(rt: &HostRuntime) -> io::Result<Vec<String>> {
     Ok(env::args(rt)?.collect(rt.alloc())?)
 }
 
-/// Does what the command line requests, and returns the status.
-fn serve(rt: &HostRuntime) -> io::Result<u8> {
-    let words = match words(rt) {
-        Ok(words) => words,
-        Err(error) if error.kind() == io::ErrorKind::OutOfMemory => return Err(error),
-        Err(_) => {
-            eprintln!(rt; "bsdplay: the command line can't be read")?;
-            return Ok(USAGE);
-        }
-    };
-    let lines = lines(rt.alloc())?;
-    match command(rt.alloc(), lines.as_str())?.try_get_matches_from(words.as_slice()) {
+/// Prints the help, or what is wrong with the command line, and returns the status.
+fn report_usage(rt: &HostRuntime, error: &clap::Error) -> io::Result<u8> {
+    if error.kind() == ErrorKind::OutOfMemory {
+        return Err(AllocError.into());
+    }
+    error.print(rt)?;
+    Ok(error.exit_code() as u8)
+}
+
+/// Does what the words of the command line request.
+fn serve_words(rt: &HostRuntime, words: &[String], lines: &str) -> io::Result<u8> {
+    match command(rt.alloc(), lines)?.try_get_matches_from(words) {
         Ok(found) => match found.subcommand() {
             Some((_, chosen)) => print_why(rt, chosen),
             None => serve_found(rt, &found),
         },
-        Err(error) if error.kind() == ErrorKind::OutOfMemory => Err(AllocError.into()),
-        Err(error) => {
-            error.print(rt)?;
-            Ok(error.exit_code() as u8)
-        }
+        Err(error) => report_usage(rt, &error),
+    }
+}
+
+/// Does what the command line requests, and returns the status.
+fn serve(rt: &HostRuntime) -> io::Result<u8> {
+    match words(rt) {
+        Ok(words) => serve_words(rt, words.as_slice(), lines(rt.alloc())?.as_str()),
+        Err(error) if error.kind() == io::ErrorKind::OutOfMemory => Err(error),
+        Err(_) => fail(rt, "the command line can't be read", USAGE),
     }
 }
 

@@ -2,13 +2,12 @@
 use crate::choice::Ahead;
 use crate::folder::HostFolder;
 use crate::hosts::{UNWRITTEN, status_of};
+use crate::messages::fail_on;
 use crate::screen::Screen;
 use crate::watched::Watched;
-use crate::{Manner, report};
+use crate::{Manner, report, report_no_memory};
 use play_pcap::Nowhere;
-use play_script::{
-    Captured, DEFAULTS, Played, RunFault, Silent, Sink, Source, Start, Style, Trace, play_captured,
-};
+use play_script::{Captured, DEFAULTS, Silent, Sink, Source, Start, Style, Trace, play_captured};
 use script_loop::Buffer;
 use std::fs;
 use std::io::{self, Read};
@@ -22,12 +21,7 @@ fn play_to<R: Source, S: Sink + Drop>(
 ) -> io::Result<u8> {
     let screen = Screen::over(rt.stdout(), manner.form, manner.typed);
     let (Ok(room), Ok(writer)) = (Buffer::new(rt.alloc()), Watched::over(rt.alloc(), screen)) else {
-        let played = Played {
-            outcome: Err(RunFault::Memory),
-            sound: true,
-        };
-        report(rt, name, &played)?;
-        return Ok(played.status());
+        return report_no_memory(rt, name);
     };
     let start = Start {
         config: DEFAULTS,
@@ -40,10 +34,12 @@ fn play_to<R: Source, S: Sink + Drop>(
     };
     let mut writer = writer;
     let Captured { played, trace } = play_captured(rt.alloc(), start, style, reader, &mut writer);
+    let status = writer.status_of(&played);
+    drop(writer);
     let kept = trace.is_whole();
-    let _sink = trace.end();
+    drop(trace.end());
     report(rt, name, &played)?;
-    status_of(rt, writer.status_of(&played), kept)
+    status_of(rt, status, kept)
 }
 
 /// Plays a script on one machine, and writes a capture to a new file if it's wanted.
@@ -57,8 +53,7 @@ pub(crate) fn play_one<R: Read + Drop>(
         return play_to(rt, manner, (name, Nowhere), reader);
     };
     let Ok(file) = fs::create(rt, path) else {
-        eprintln!(rt; "bsdplay: {path}: it can't be written")?;
-        return Ok(UNWRITTEN);
+        return fail_on(rt, path, "it can't be written", UNWRITTEN);
     };
     play_to(rt, manner, (name, Silent(file)), reader)
 }

@@ -128,7 +128,7 @@ pub(crate) struct Counts {
 }
 
 /// Why the records of a capture weren't all printed.
-#[derive(Drop)]
+#[derive(Clone, Copy)]
 pub(crate) enum End {
     Fault(Fault),
     Memory,
@@ -138,6 +138,7 @@ pub(crate) enum End {
 /// The machine that judges: a stack, and a host on an Ethernet if frames are judged. It must be consumed by `end`.
 pub(crate) struct Machine {
     pub(crate) judge: Judge,
+    /// The host on an Ethernet, if one judges.
     pub(crate) link: Option<EtherEnd>,
 }
 
@@ -152,13 +153,12 @@ impl Machine {
     }
 }
 
-/// The machine to which the packets go. It must be consumed by `end`.
-pub(crate) struct Play {
-    choice: Choice,
+/// The records, played on a machine.
+#[derive(Drop)]
+pub(crate) struct Play<'a> {
+    pub(crate) choice: Choice,
     ours: u32,
-    judge: Judge,
-    /// The host on an Ethernet, if one judges.
-    link: Option<EtherEnd>,
+    machine: &'a mut Machine,
     link_text: Buffer<LINK_TEXT>,
     refusals: Refusals,
     /// Whether the refusals were read ahead.
@@ -243,25 +243,23 @@ fn is_unclaimed(verdict: &Verdict) -> bool {
     found
 }
 
-impl Play {
-    /// A machine that has just started, with the refusals that were read ahead if there are any. On error the machine
-    /// is returned.
-    pub(crate) fn begin(
+impl<'a> Play<'a> {
+    /// No record was played on the machine, which has just started. `refusals`: those that were read ahead, if the
+    /// capture was.
+    pub(crate) fn over(
         alloc: Global,
         choice: Choice,
         ours: u32,
-        machine: Machine,
+        machine: &'a mut Machine,
         refusals: Option<Refusals>,
-    ) -> Result<Play, Machine> {
+    ) -> Result<Play<'a>, AllocError> {
         let (Ok(card), Ok(link_text)) = (Card::new(alloc), Buffer::new(alloc)) else {
-            return Err(machine);
+            return Err(AllocError);
         };
-        let Machine { judge, link } = machine;
         Ok(Play {
             choice,
             ours,
-            judge,
-            link,
+            machine,
             link_text,
             ahead: refusals.is_some(),
             refusals: match refusals {
@@ -280,38 +278,21 @@ impl Play {
         })
     }
 
-    /// Ends the judge, and returns what was counted.
-    pub(crate) fn end(self) -> Counts {
-        let Play {
-            choice: _choice,
-            ours: _ours,
-            judge,
-            link,
-            link_text: _link_text,
-            refusals: _refusals,
-            ahead: _ahead,
-            card: _card,
-            counts,
-        } = self;
-        Machine { judge, link }.end();
-        counts
-    }
-
     /// Prints the datagrams that were dropped unfinished, if one of their records is selected.
     fn put_lost<W: Write>(&mut self, out: &mut W) -> Result<(), End> {
         for _ in 0..u64::MAX {
-            match self.judge.report_lost() {
+            match self.machine.judge.report_lost() {
                 Ok(Some(_)) => {}
                 Ok(None) => break,
                 Err(_) => return Err(End::Memory),
             }
             self.counts.fails = self.counts.fails || self.choice.fail_on.unfinished;
             let mut wanted = false;
-            for number in self.judge.records() {
+            for number in self.machine.judge.records() {
                 wanted = wanted || is_in(self.choice.range, *number);
             }
             if wanted {
-                put(out, self.judge.text())?;
+                put(out, self.machine.judge.text())?;
             }
         }
         Ok(())
@@ -319,10 +300,10 @@ impl Play {
 
     /// Lets time pass up to a record, and prints the datagrams that expired.
     fn pass<W: Write>(&mut self, time: u64, out: &mut W) -> Result<(), End> {
-        if self.judge.pass(time).is_err() {
+        if self.machine.judge.pass(time).is_err() {
             return Err(End::Memory);
         }
-        if let Some(link) = &mut self.link {
+        if let Some(link) = &mut self.machine.link {
             link.pass(time);
         }
         self.put_lost(out)
@@ -349,7 +330,7 @@ impl Play {
     ) -> Result<(), End> {
         self.note(verdict);
         if is_wanted(self.choice, verdict) {
-            put(out, self.judge.text())?;
+            put(out, self.machine.judge.text())?;
             if reported && is_unclaimed(verdict) && matches!(self.choice.layout, Layout::Lines) {
                 put(out, REPORTED)?;
             }
@@ -368,13 +349,13 @@ impl Play {
         requires { length arrival.now.packet.now ≤ 65535 }
     {
         let judged = if self.choice.offload && self.card.fill(arrival.packet) {
-            self.judge.receive(&Arrival {
+            self.machine.judge.receive(&Arrival {
                 packet: self.card.packet(),
                 filled: true,
                 ..*arrival
             })
         } else {
-            self.judge.receive(arrival)
+            self.machine.judge.receive(arrival)
         };
         match judged {
             Ok(verdict) => self.put_verdict(&verdict, reported, out),
@@ -440,10 +421,10 @@ impl Play {
     fn link_of(&mut self, record: Record, bytes: &[u8]) -> Linked {
         let packet = packet_in(record, bytes);
         let is_ours = match packet {
-            Some(packet) => self.judge.is_ours(packet),
+            Some(packet) => self.machine.judge.is_ours(packet),
             None => false,
         };
-        let linked = match (&mut self.link, record.link) {
+        let linked = match (&mut self.machine.link, record.link) {
             (Some(link), Some(LinkType::Ethernet)) => link.take(bytes, is_ours),
             _ if is_ours => Linked::Packet { reported: false },
             _ => Linked::Elsewhere,
@@ -533,8 +514,8 @@ impl Play {
     /// Prints the datagrams that are unfinished at the end.
     fn put_unfinished<W: Write>(&mut self, out: &mut W) -> Result<(), End> {
         for i in 0..u32::MAX {
-            match self.judge.report_unfinished(i) {
-                Ok(true) => put(out, self.judge.text())?,
+            match self.machine.judge.report_unfinished(i) {
+                Ok(true) => put(out, self.machine.judge.text())?,
                 Ok(false) => break,
                 Err(_) => return Err(End::Memory),
             }
@@ -546,17 +527,17 @@ impl Play {
 
     /// Prints what happened to all packets.
     fn put_totals<W: Write>(&mut self, out: &mut W) -> Result<(), End> {
-        self.judge.report_totals(play_why::Others {
+        self.machine.judge.report_totals(play_why::Others {
             elsewhere: self.counts.elsewhere,
             without: self.counts.without,
             unfinished: self.counts.unfinished,
         });
-        put(out, self.judge.text())
+        put(out, self.machine.judge.text())
     }
 
     /// Prints what the link of a host on an Ethernet did, if one judges.
     fn put_link<W: Write>(&mut self, out: &mut W) -> Result<(), End> {
-        let mac = match &self.link {
+        let mac = match &self.machine.link {
             Some(link) => link.mac,
             None => return Ok(()),
         };

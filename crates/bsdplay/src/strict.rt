@@ -1,6 +1,7 @@
 //! Scripts in which each line with a request must have an expectation, and exercises that are made from keys.
 use crate::UNREAD;
 use crate::hand_in::{load, unmarked};
+use crate::messages::fail_on;
 use play_grade::{Marker, first_line};
 use play_script::{OUTPUT, Printer, Style};
 use script_loop::Buffer;
@@ -74,14 +75,12 @@ fn blank(alloc: Global, key: &[u8]) -> Result<Vec<u8>, AllocError> {
 
 /// Prints the exercise that belongs to a key.
 pub(crate) fn print_blank(rt: &HostRuntime, name: &str) -> io::Result<u8> {
-    let file = match load(rt, name) {
-        Ok(file) => file,
-        Err(why) => {
-            eprintln!(rt; "bsdplay: {name}: {why}")?;
-            return Ok(UNREAD);
+    match load(rt, name) {
+        Ok(file) => {
+            let exercise = blank(rt.alloc(), unmarked(file.as_slice()))?;
+            rt.stdout().write_all(exercise.as_slice())?;
+            Ok(0)
         }
-    };
-    rt.stdout()
-        .write_all(blank(rt.alloc(), unmarked(file.as_slice()))?.as_slice())?;
-    Ok(0)
+        Err(why) => fail_on(rt, name, why, UNREAD),
+    }
 }

@@ -1,6 +1,7 @@
 //! One script of many machines, played for each seed of a range.
 use crate::hosts::play_uncaptured;
 use crate::screen::Screen;
+use memchr::memchr;
 use play_script::{Form, Played, Style};
 use std::io::{self, Write};
 
@@ -34,7 +35,7 @@ pub(crate) fn seeds_in(word: &str) -> Option<Seeds> {
 pub(crate) fn first_fault<'a>(written: &'a [u8], name: &[u8]) -> &'a [u8] {
     let mut rest = written;
     for _ in 0..written.len() {
-        let Some(at) = rest.iter().position(|byte| *byte == b'\n') else {
+        let Some(at) = memchr(b'\n', rest) else {
             break;
         };
         let line = rest.get(..at).unwrap_or_default();

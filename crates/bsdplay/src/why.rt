@@ -1,7 +1,8 @@
 //! Why the packets of a capture were dropped: the subcommand, its options, and the capture that it opens.
 use crate::ether::{EtherEnd, mac_of};
-use crate::from_pcap::{BAD, records_in, report};
+use crate::from_pcap::{BAD, records_in, report, report_fault};
 use crate::link_names::name_of;
+use crate::messages::{fail, fail_on};
 use crate::options::{WHY_OPTIONS, with_options};
 use crate::records::{Ahead, Counts, End, Machine, Play, find_mac, read_ahead};
 use crate::{UNREAD, USAGE};
@@ -175,44 +176,27 @@ fn choice_of(found: &ArgMatches<'_>) -> Result<Choice, &'static str> {
 
 /// Prints what is wrong with a capture, and returns the status.
 fn print_fault(rt: &HostRuntime, name: &str, fault: Fault) -> io::Result<u8> {
-    match fault.why {
-        Why::Gzip => {
-            eprintln!(rt;
-                "bsdplay: {name}: {}: zcat FILE | bsdplay why - reads it",
-                fault.why
-            )?;
-            Ok(BAD)
-        }
-        Why::NotRead => {
-            eprintln!(rt; "bsdplay: {name}: {fault}")?;
-            Ok(UNREAD)
-        }
-        Why::Classic(ClassicWhy::BadLinkType(number)) => {
-            let what = name_of(number).unwrap_or("not one that bsdplay knows");
-            eprintln!(rt;
-                "bsdplay: {name}: {fault}: {what}; docs/captures.md lists the link types that are read"
-            )?;
-            Ok(BAD)
-        }
-        _ => {
-            eprintln!(rt; "bsdplay: {name}: {fault}")?;
-            Ok(BAD)
-        }
+    if let Why::Classic(ClassicWhy::BadLinkType(number)) = fault.why {
+        let what = name_of(number).unwrap_or("not one that bsdplay knows");
+        eprintln!(rt;
+            "bsdplay: {name}: {fault}: {what}; docs/captures.md lists the link types that are read"
+        )?;
+        return Ok(BAD);
     }
+    let status = report_fault(rt, name, fault, "why")?;
+    Ok(if fault.why == Why::NotRead {
+        UNREAD
+    } else {
+        status
+    })
 }
 
 /// Prints why not all records were printed, and returns the status.
 fn print_end(rt: &HostRuntime, name: &str, end: End) -> io::Result<u8> {
     match end {
         End::Fault(fault) => print_fault(rt, name, fault),
-        End::Memory => {
-            eprintln!(rt; "bsdplay: {name}: no memory")?;
-            Ok(UNREAD)
-        }
-        End::Unwritten => {
-            eprintln!(rt; "bsdplay: {name}: write failed")?;
-            Ok(UNREAD)
-        }
+        End::Memory => fail_on(rt, name, "no memory", UNREAD),
+        End::Unwritten => fail_on(rt, name, "write failed", UNREAD),
     }
 }
 
@@ -229,13 +213,12 @@ fn print_others(rt: &HostRuntime, counts: Counts) -> io::Result<()> {
     Ok(())
 }
 
-/// Plays the records and prints what happened to them, and returns the status without that of `--fail-on`.
+/// Plays the records and prints what happened to them, and returns the status.
 fn play_all<S: Source>(
     rt: &HostRuntime,
     name: &str,
     records: &mut Records<S>,
-    play: &mut Play,
-    layout: Layout,
+    play: &mut Play<'_>,
 ) -> io::Result<u8> {
     let mut out = rt.stdout();
     let played = play.play_records(records, &mut out);
@@ -245,10 +228,10 @@ fn play_all<S: Source>(
     }
     match played {
         Ok(()) => {
-            if matches!(layout, Layout::Lines) {
+            if matches!(play.choice.layout, Layout::Lines) {
                 print_others(rt, play.counts)?;
             }
-            Ok(0)
+            Ok(if play.counts.fails { BAD } else { 0 })
         }
         Err(end) => print_end(rt, name, end),
     }
@@ -351,27 +334,16 @@ fn judge_records<S: Source>(
     if print_judge(rt, choice).is_err() {
         return print_end(rt, name, End::Unwritten);
     }
-    let machine = match boot_machine(rt, name, choice, ours, mac)? {
+    let mut machine = match boot_machine(rt, name, choice, ours, mac)? {
         Ok(machine) => machine,
         Err(status) => return Ok(status),
     };
-    match Play::begin(rt.alloc(), choice, ours, machine, refusals) {
-        Ok(play) => {
-            let mut play = play;
-            let status = play_all(rt, name, records, &mut play, choice.layout);
-            let counts = play.end();
-            let status = status?;
-            Ok(if status == 0 && counts.fails {
-                BAD
-            } else {
-                status
-            })
-        }
-        Err(machine) => {
-            machine.end();
-            print_end(rt, name, End::Memory)
-        }
-    }
+    let status = match Play::over(rt.alloc(), choice, ours, &mut machine, refusals) {
+        Ok(mut play) => play_all(rt, name, records, &mut play),
+        Err(_) => print_end(rt, name, End::Memory),
+    };
+    machine.end();
+    status
 }
 
 /// The host whose packets are judged.
@@ -470,38 +442,29 @@ fn look_ahead_in<S: Source + Drop>(
     found
 }
 
-/// Returns the host with its hardware address, by a source that is read again, if it's judged as one on an
-/// Ethernet. If no frame shows the address, returns the status.
-fn with_mac<S: Source + Drop>(
+/// Returns the hardware address of a host if it's judged as one on an Ethernet: the one in `choice`, or that which a
+/// source shows, which is read again. If no frame shows it, returns the status.
+fn mac_for<S: Source + Drop>(
     rt: &HostRuntime,
     name: &str,
     source: S,
     choice: Choice,
-    host: Host,
-) -> io::Result<Result<Host, u8>> {
-    if !choice.ether || host.mac.is_some() {
-        return Ok(Ok(host));
+    ours: u32,
+) -> io::Result<Result<Option<Mac>, u8>> {
+    if !choice.ether || choice.mac.is_some() {
+        return Ok(Ok(choice.mac));
     }
     let mut records = Records::new(source, Buffer::new(rt.alloc())?);
-    let mac = find_mac(&mut records, host.ours);
+    let mac = find_mac(&mut records, ours);
     let (_source, _room) = records.end();
     if mac.is_none() {
-        let address = Ipv4Addr::from_bits(host.ours);
+        let address = Ipv4Addr::from_bits(ours);
         eprintln!(rt;
             "bsdplay: {name}: no frame of an Ethernet is from {address} or for it: --mac names its hardware address"
         )?;
         return Ok(Err(USAGE));
     }
-    let Host {
-        ours,
-        mac: _mac,
-        refusals,
-    } = host;
-    Ok(Ok(Host {
-        ours,
-        mac,
-        refusals,
-    }))
+    Ok(Ok(mac))
 }
 
 /// Judges a file of any length, which is read twice, and a third time for a hardware address.
@@ -510,17 +473,17 @@ fn judge_file(rt: &HostRuntime, name: &str, choice: Choice) -> io::Result<u8> {
     let Ok(file) = fs::open(rt, name) else {
         return report(rt, name, not_opened);
     };
-    let host = match look_ahead_in(rt, name, Silent(file), choice)? {
+    let mut host = match look_ahead_in(rt, name, Silent(file), choice)? {
         Ok(host) => host,
         Err(status) => return Ok(status),
     };
     let Ok(file) = fs::open(rt, name) else {
         return report(rt, name, not_opened);
     };
-    let host = match with_mac(rt, name, Silent(file), choice, host)? {
-        Ok(host) => host,
+    match mac_for(rt, name, Silent(file), choice, host.ours)? {
+        Ok(mac) => host.mac = mac,
         Err(status) => return Ok(status),
-    };
+    }
     let Ok(file) = fs::open(rt, name) else {
         return report(rt, name, not_opened);
     };
@@ -532,10 +495,8 @@ fn judge_input(rt: &HostRuntime, choice: Choice) -> io::Result<u8> {
     let name = "-";
     if let Some(ours) = choice.address {
         if choice.ether && choice.mac.is_none() {
-            eprintln!(rt;
-                "bsdplay: -: --ether needs --mac here, because the records are judged as they come"
-            )?;
-            return Ok(USAGE);
+            let text = "--ether needs --mac here, because the records are judged as they come";
+            return fail_on(rt, name, text, USAGE);
         }
         let host = Host {
             ours,
@@ -547,35 +508,31 @@ fn judge_input(rt: &HostRuntime, choice: Choice) -> io::Result<u8> {
     let file = match read_whole(rt.alloc(), &mut Silent(rt.stdin())) {
         Ok(file) => file,
         Err(CaptureFault::TooLong) => {
-            eprintln!(rt;
-                "bsdplay: -: longer than 16777216 bytes: --addr says for whom packets are judged as they come"
-            )?;
-            return Ok(USAGE);
+            let text =
+                "longer than 16777216 bytes: --addr says for whom packets are judged as they come";
+            return fail_on(rt, name, text, USAGE);
         }
         Err(fault) => return report(rt, name, Err(fault)),
     };
-    let host = match look_ahead_in(rt, name, file.as_slice(), choice)? {
+    let mut host = match look_ahead_in(rt, name, file.as_slice(), choice)? {
         Ok(host) => host,
         Err(status) => return Ok(status),
     };
-    match with_mac(rt, name, file.as_slice(), choice, host)? {
-        Ok(host) => judge_source(rt, name, file.as_slice(), choice, host),
-        Err(status) => Ok(status),
+    match mac_for(rt, name, file.as_slice(), choice, host.ours)? {
+        Ok(mac) => host.mac = mac,
+        Err(status) => return Ok(status),
     }
+    judge_source(rt, name, file.as_slice(), choice, host)
 }
 
 /// Prints why packets of the capture named after `why` were dropped, and returns the status.
 pub(crate) fn print_why(rt: &HostRuntime, found: &ArgMatches<'_>) -> io::Result<u8> {
     let choice = match choice_of(found) {
         Ok(choice) => choice,
-        Err(text) => {
-            eprintln!(rt; "bsdplay: {text}")?;
-            return Ok(USAGE);
-        }
+        Err(text) => return fail(rt, text, USAGE),
     };
     let Some(name) = found.get_str("CAPTURE") else {
-        eprintln!(rt; "bsdplay: why takes a capture")?;
-        return Ok(USAGE);
+        return fail(rt, "why takes a capture", USAGE);
     };
     if name == "-" {
         judge_input(rt, choice)
