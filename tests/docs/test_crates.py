@@ -117,11 +117,13 @@ def test_mutants_apply(crate):
 
 
 def test_each_crate_has_a_mutant():
-    """The gate tries a mutant of each crate, and those without one have a reason in DECISIONS.md."""
+    """The gate tries a mutant of each crate, except those that DECISIONS.md names."""
     without = {name for name in crates.uses() if not edits.edits_of(TOP / "crates" / name, edits.FOLDER)}
     programs = {path.parts[-3] for path in TOP.glob("crates/*/src/main.rt")}
-    slowest = {"capture", "page", "play_script", "play_text", "play_why", "play_wire", "segment"}
-    assert without == programs | slowest | {"flat_tests", "protocols_tests", "bench_packets", "bench_stack"}
+    tests = {"flat_tests", "protocols_tests", "bench_packets", "bench_stack"}
+    in_tables = {name for name in crates.uses() if name.startswith("play_")}
+    in_tables |= {"flat_plain", "segment", "capture", "page", "libbsdudp"}
+    assert without == programs | tests | in_tables
 
 
 def test_wrong_definitions_apply_to_the_joined_crate(tmp_path):
