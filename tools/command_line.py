@@ -1,18 +1,17 @@
 """The arguments of a script, read by argparse: `--help` prints its docstring, and a wrong argument ends it with a usage
 line and status 2. A script whose reader has ended, as in `SCRIPT | head -1`, ends without a message. These end it with
-one line and status 1: Stop, a program that failed, and a file that the command line names and that can't be used."""
+one line and status 1: Stop, a program that failed, a full disk, and a file of the command line that can't be used."""
 from __future__ import annotations
 
 import argparse
 import atexit
+import errno
 import os
 import pathlib
 import select
 import subprocess
 import sys
 from types import TracebackType
-
-TOP = pathlib.Path(__file__).resolve().parent.parent
 
 
 class Stop(Exception):
@@ -21,8 +20,8 @@ class Stop(Exception):
 
 def script() -> str:
     """Returns the running script's path in the repository."""
-    path = pathlib.Path(sys.argv[0]).resolve()
-    return str(path.relative_to(TOP)) if path.is_relative_to(TOP) else path.name
+    path, top = pathlib.Path(sys.argv[0]).resolve(), pathlib.Path(__file__).resolve().parent.parent
+    return str(path.relative_to(top)) if path.is_relative_to(top) else path.name
 
 
 def parser(about: str | None) -> argparse.ArgumentParser:
@@ -40,8 +39,8 @@ def report(kind: type[BaseException], fault: BaseException, trace: TracebackType
         return
     if isinstance(fault, (Stop, subprocess.CalledProcessError)):
         print(f"{script()}: {fault}", file=sys.stderr)
-    elif isinstance(fault, OSError) and fault.filename and is_named(fault.filename):
-        print(f"{script()}: {fault.filename}: {fault.strerror}", file=sys.stderr)
+    elif isinstance(fault, OSError) and (fault.errno == errno.ENOSPC or fault.filename and is_named(fault.filename)):
+        print(": ".join(filter(None, (script(), fault.filename, fault.strerror))), file=sys.stderr)
     else:
         sys.__excepthook__(kind, fault, trace)
 

@@ -17,6 +17,8 @@ command_line.parser('A list.').parse_args()
 # A list that fits in the buffer, so that it's written at the end, and one that doesn't fit.
 SHORT, LONG = (f"{HEAD}for it in range({count}):\n    print(it)\n" for count in (3, 100_000))
 OTHER = f"{HEAD}out, into = os.pipe()\nos.close(out)\nos.write(into, b'for a program that ended')\n"
+# Nothing can be written to /dev/full.
+FULL = f"{HEAD}with open('/dev/full', 'wb', buffering=0) as full:\n    full.write(b'for a disk')\n"
 # These use no other module, and print no list.
 EXAMPLES = ("examples/", "simulators/ns3/examples/")
 
@@ -82,3 +84,8 @@ def test_a_file_that_is_named_has_one_line(words, reason, tmp_path):
 def test_a_file_that_nobody_named_is_a_fault():
     done = subprocess.run([sys.executable, "-c", f"{HEAD}open('/none')"], capture_output=True, text=True, check=False)
     assert done.returncode == 1 and done.stderr.startswith("Traceback")
+
+
+def test_a_full_disk_has_one_line():
+    done = subprocess.run([sys.executable, "-c", FULL], capture_output=True, text=True, check=False)
+    assert (done.returncode, done.stderr) == (1, "-c: No space left on device\n")
