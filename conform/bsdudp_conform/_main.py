@@ -7,7 +7,6 @@ import os
 import pathlib
 import re
 import shlex
-import shutil
 import sys
 from typing import TYPE_CHECKING, Any, Dict, List, Optional, Sequence, Set, Tuple
 
@@ -63,7 +62,7 @@ def run_parser(commands: Any) -> argparse.ArgumentParser:
         action="append",
         default=[],
         metavar="COMMAND",
-        help="a stack's adapter with its words; may be repeated",
+        help="a stack's adapter with its words; may be repeated. Stacks of one name are numbered in this order",
     )
     run.add_argument(
         "--jobs",
@@ -173,10 +172,15 @@ def command(argv: Optional[Sequence[str]]) -> int:
 
 
 def template(folder: pathlib.Path) -> int:
+    """Writes the kit and the templates. If one of them is there and was changed, nothing is written."""
     folder.mkdir(parents=True, exist_ok=True)
-    for path in sorted(it for it in TEMPLATES.iterdir() if it.is_file()):
-        shutil.copyfile(path, folder / path.name)
-        print(folder / path.name)
+    files = {folder / it.name: it.read_bytes() for it in sorted(TEMPLATES.iterdir()) if it.is_file()}
+    for path, content in files.items():
+        if path.exists() and path.read_bytes() != content:
+            return fault_line(f"{path} exists, with other contents: name another folder", USAGE)
+    for path, content in files.items():
+        path.write_bytes(content)
+        print(path)
     return OK
 
 
@@ -214,6 +218,7 @@ def run(words: argparse.Namespace) -> int:
                     "a packet socket needs CAP_NET_RAW: run it as root, or with that capability", NO_ADAPTER
                 )
             judged.append(judge(command, chosen, 1 if words.what == "wire" else words.jobs, words.timeout))
+            judged[-1].name = own_name(judged[-1].name, {it.name for it in judged[:-1]})
             if every > len(chosen):
                 judged[-1].left_out["one device"] = every - len(chosen)
             if judged[-1].why_not.startswith("stopped"):
@@ -226,6 +231,15 @@ def run(words: argparse.Namespace) -> int:
         return fault_line(f"{shlex.join(command)}: {fault}", NO_ADAPTER)
     _output.write(judged, known, words)
     return OK if not any(it.not_run or _output.new(it, known) for it in judged) else DEVIATES
+
+
+def own_name(name: str, taken: Set[str]) -> str:
+    """The name of a stack in the report: with a number if an earlier stack has the same, as two builds of one have."""
+    number, own = 1, name
+    while own in taken:
+        number += 1
+        own = f"{name} ({number})"
+    return own
 
 
 def made_cases(words: argparse.Namespace) -> "List[Case]":

@@ -112,3 +112,34 @@ def test_a_file_that_cannot_be_used_is_named_in_one_line(words, said, conform, t
     status, printed = conform(sys.executable, "-m", "bsdudp_conform", *(it.replace("FILE", str(file)) for it in words))
     last = printed.splitlines()[-1]
     assert (status, last) == (2, f"bsdudp-conform: {file}{said}") and "Traceback" not in printed
+
+
+# Two builds of one stack: the first delivers each packet, the second none.
+TWIN = """import sys
+from bsdudp_conform.kit import Adapter, serve
+
+
+class Twin(Adapter):
+    name = "twin 1.0"
+
+    def rx(self, packet):
+        if sys.argv[1] == "takes":
+            self.got("10.0.0.2", 5000, packet[28:])
+
+
+serve(Twin)
+"""
+
+
+def test_stacks_of_one_name_are_kept_apart(conform, tmp_path):
+    """Each has its own column, choices and captures."""
+    (tmp_path / "twin.py").write_text(TWIN, encoding="utf-8")
+    stacks = [word for it in ("takes", "drops") for word in ("--stack", f"{sys.executable} {tmp_path}/twin.py {it}")]
+    only = ["--only", "ip.flags.reserved", "--only", "udp.data:1", "--only", "udp.short:1"]
+    words = ["run", "--jobs", "1", *only, "--report", tmp_path / "out", *stacks]
+    status, said = conform(sys.executable, "-m", "bsdudp_conform", *words)
+    assert status == 1 and re.search(r"(?m)^rule +cases +twin 1\.0 +twin 1\.0 \(2\)$", said), said
+    choices = re.findall(r"(?m)^(twin .*): policy.*\n(?:  .*\n)*?  the reserved flag: (\w+)", said)
+    assert choices == [("twin 1.0", "taken"), ("twin 1.0 (2)", "dropped")]
+    captures = {it.parent.name for it in (tmp_path / "out").glob("*/*.pcap")}
+    assert captures == {"twin-1.0", "twin-1.0-2"}

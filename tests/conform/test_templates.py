@@ -33,3 +33,17 @@ def test_template(words, conform, judged, tmp_path):
         adapter = [folder / "adapter"]
     status, said = judged("--only", "udp.data", "--", *adapter)
     assert status == 1 and TOLD.search(said), said[-1500:]
+
+
+def test_a_changed_template_is_kept(conform, tmp_path):
+    """A second `template` writes nothing if one of the files was changed, and the same files otherwise."""
+    folder = tmp_path / "mine"
+    command = (sys.executable, "-m", "bsdudp_conform", "template", folder)
+    assert [conform(*command)[0] for _ in range(2)] == [0, 0]
+    filled_in = folder / "template.c"
+    filled_in.write_text("int main(void) { return 0; }\n", encoding="utf-8")
+    (folder / "kit.h").unlink()
+    status, said = conform(*command)
+    assert (status, said) == (2, f"bsdudp-conform: {filled_in} exists, with other contents: name another folder\n")
+    assert filled_in.read_text(encoding="utf-8") == "int main(void) { return 0; }\n"
+    assert sorted(it.name for it in folder.iterdir()) == ["template.c", "template.py"]
