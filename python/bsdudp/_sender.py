@@ -50,7 +50,11 @@ class Sender(Uncopied):
     @loss.setter
     def loss(self, value: Loss) -> None:
         self._rule: Optional[LossRule] = value if callable(value) else None
-        self._lost = 0 if callable(value) else limit_of("loss", value)
+        try:
+            self._lost = 0 if callable(value) else limit_of("loss", value)
+        except TypeError:
+            kinds = "a number of 0 to 1, or a function of a Sent, such as bsdudp.Nth(3)"
+            raise TypeError(f"loss is {kinds}, and not {type(value).__name__}") from None
         self._loss = value
 
     @property
@@ -75,15 +79,15 @@ class Sender(Uncopied):
 
     @property
     def delay(self) -> Delay:
-        """The least and the greatest number of carries for which a packet is in flight."""
+        """The smallest and the greatest number of carries for which a packet is in flight."""
         return self._delay
 
     @delay.setter
     def delay(self, value: Delay) -> None:
         if not isinstance(value, tuple) or len(value) != 2:
-            raise TypeError("delay is a tuple of the least and the greatest number of carries, as (0, 3)")
-        least = in_range("the least delay", value[0], 0, LONGEST_DELAY)
-        most = in_range("the most delay", value[1], least, LONGEST_DELAY)
+            raise TypeError("delay is a tuple of the smallest and the greatest number of carries, as (0, 3)")
+        least = in_range("the shortest delay", value[0], 0, LONGEST_DELAY)
+        most = in_range("the longest delay", value[1], least, LONGEST_DELAY)
         self._waits = least, most - least + 1
         self._delay = value
 

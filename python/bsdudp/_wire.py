@@ -65,7 +65,7 @@ class Wire(Uncopied):
              as `Nth` or `Bursts`
     repeat   the probability that it is delivered twice: 0 to 1
     reorder  the probability that a packet that is due is swapped with the one after it: 0 to 1
-    delay    the least and the greatest number of carries for which a packet is in flight; `advance` carries once in a
+    delay    the smallest and the greatest number of carries for which a packet is in flight; `advance` carries once in a
              millisecond
     seed     determines the choices: the same seed gives the same choices
     pcap     a new file to which each delivered packet is written at the end of its carry; None: no capture
@@ -214,7 +214,7 @@ class Wire(Uncopied):
 
     @property
     def delay(self) -> Delay:
-        """The least and the greatest number of carries for which a packet is in flight."""
+        """The smallest and the greatest number of carries for which a packet is in flight."""
         return self._same("delay", [it.delay for it in self._senders])
 
     @delay.setter

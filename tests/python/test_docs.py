@@ -3,6 +3,7 @@ comment shows."""
 import ast
 import contextlib
 import doctest
+import inspect
 import io
 import re
 import socket
@@ -44,6 +45,17 @@ def test_counters():
     assert "behaviour.md#counters" in PAGE
     section = (TOP / "docs/behaviour.md").read_text(encoding="utf-8").split("## Counters")[1].split("\n## ")[0]
     assert re.findall(r"^\| `([a-z.]+)` \|", section, re.M) == list(bsdudp.Stack().counters)
+
+
+@pytest.mark.parametrize("name", ["Stack", "Host", "Wire"])
+def test_signatures(name):
+    """The page shows each parameter of a constructor, with its default."""
+    (shown,) = re.findall(rf"^`({name}\([^`]*\))`", PAGE, re.M)
+    call = ast.parse(shown, mode="eval").body
+    wanted = {each.arg: ast.literal_eval(each.value) for each in call.keywords}
+    wanted = {each.id: inspect.Parameter.empty for each in call.args} | wanted
+    found = inspect.signature(getattr(bsdudp, name)).parameters
+    assert [(each.name, each.default) for each in found.values()] == list(wanted.items())
 
 
 def test_socket_methods():

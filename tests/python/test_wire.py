@@ -66,6 +66,16 @@ def test_arguments():
                 bsdudp.Wire([stack], **wrong)
         with pytest.raises(ValueError):
             bsdudp.Wire([stack, other])
+        wire = bsdudp.Wire([stack])
+        for name, wrong, kind, message in [
+            ("loss", [3], TypeError, "loss is a number of 0 to 1, or a function of a Sent, .*, and not list"),
+            ("delay", (-1, 3), ValueError, "the shortest delay is 0 to 1000000, and not -1"),
+            ("delay", (5, 1), ValueError, "the longest delay is 5 to 1000000, and not 1"),
+        ]:
+            with pytest.raises(kind, match=message):
+                setattr(wire, name, wrong)
+            with pytest.raises(kind, match=message):
+                setattr(wire.sender(stack), name, wrong)
 
 
 def test_tick():
