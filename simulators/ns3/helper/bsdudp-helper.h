@@ -89,7 +89,7 @@ class BsdudpHelper
 
     /**
      * \brief Sets an attribute of the stacks that are installed from now on.
-     * \param name Mbufs, Clusters, FirstId or Tick
+     * \param name Mbufs, Clusters, FirstId, Gateway or Tick
      * \param value its value
      */
     void SetAttribute(const std::string& name, const AttributeValue& value);
