@@ -30,6 +30,7 @@ ROWS = {
     "cd bsdudp": Row("fresh", 'blocks("commands")'),
     "cc -Icapi/include capi/examples/first.c out/libbsdudp.a && ./a.out": Row("fresh", "test_readme_without_a_proof"),
     "PYTHONPATH=out/python python3 python/examples/first.py": Row("fresh", "test_readme_without_a_proof"),
+    "export PATH=$PWD/out/unproved:$PATH": Row("play", "export PATH=$PWD/out/unproved:$PATH"),
     # what is installed
     "dist/deb FOLDER": Row("deb", "dist/deb"),
     "dist/deb --judge FOLDER": Row("judge", '"--judge"'),
