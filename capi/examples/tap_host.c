@@ -93,7 +93,7 @@ int main(int argc, char **argv)
     if ((device = open_device(argv[1])) < 0)
         return perror(argv[1]), 1;
     if ((answer = bsdudp_ether_boot_in(&host, &config, &link, memory, sizeof memory)) < 0)
-        return fprintf(stderr, "boot: %s\n", bsdudp_strerror(answer)), 1;
+        return fprintf(stderr, "boot: %s\n", bsdudp_boot_strerror(answer, &config, &link)), 1;
     if (bsdudp_socket(&host) != FD || bsdudp_bind(&host, FD, &echo) < 0 ||
         bsdudp_setsockopt(&host, FD, BSDUDP_SO_BROADCAST, 1) < 0)
         return 1;

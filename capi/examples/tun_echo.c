@@ -77,7 +77,7 @@ int main(int argc, char **argv)
     if ((device = open_device(argv[1])) < 0)
         return perror("tun"), 1;
     if ((answer = bsdudp_boot(&stack, &config)) < 0)
-        return fprintf(stderr, "boot: %s\n", bsdudp_strerror(answer)), 1;
+        return fprintf(stderr, "boot: %s\n", bsdudp_boot_strerror(answer, &config, NULL)), 1;
     if (bsdudp_socket(&stack) != FD || bsdudp_bind(&stack, FD, &any) < 0 ||
         bsdudp_setsockopt(&stack, FD, BSDUDP_SO_BROADCAST, 1) < 0)
         return 1;
