@@ -28,7 +28,8 @@ REFUSED = {
     "later": "was given ns-3's own, too",
     "address": "10.0.0.1 with the broadcast address 10.0.0.1",
     "count": "there are 1 nodes and 2 devices",
-    "bulk": "has no TCP",
+    "bulk": "has no TCP, which BulkSendApplication needs",
+    "ping": "has no raw sockets, which V4Ping needs",
 }
 NEAR = 0.06  # shares within this distance may differ only by the packets that were lost
 WRONG = "ip.checksum.status != 1 || (udp && udp.checksum.status != 1) || _ws.malformed"

@@ -49,8 +49,8 @@ BsdudpNoTcp::CreateSocket()
 {
     NS_FATAL_ERROR("bsdudp: the stack of node "
                    << GetObject<Node>()->GetId()
-                   << " has no TCP. BulkSendApplication wants it; OnOffApplication and the "
-                      "applications of UDP go by ns3::UdpSocketFactory");
+                   << " has no TCP, which BulkSendApplication needs. Use OnOffApplication or "
+                      "another application over ns3::UdpSocketFactory");
     return nullptr;
 }
 
@@ -67,8 +67,10 @@ BsdudpNoRaw::GetTypeId()
 Ptr<Socket>
 BsdudpNoRaw::CreateSocket()
 {
-    NS_FATAL_ERROR("bsdudp: the stack of node " << GetObject<Node>()->GetId()
-                                                << " has no raw sockets and no ICMP");
+    NS_FATAL_ERROR("bsdudp: the stack of node "
+                   << GetObject<Node>()->GetId()
+                   << " has no raw sockets, which V4Ping needs. Install V4Ping on a node with "
+                      "ns-3's own stack");
     return nullptr;
 }
 

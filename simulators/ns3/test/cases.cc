@@ -12,6 +12,7 @@
 
 #include "ns3/applications-module.h"
 #include "ns3/csma-module.h"
+#include "ns3/internet-apps-module.h"
 
 using namespace ns3;
 
@@ -72,6 +73,12 @@ Refuse(const std::string& name)
         BulkSendHelper("ns3::TcpSocketFactory", At("10.0.0.2", 9)).Install(nodes.Get(0));
         Simulator::Run();
     }
+    else if (name == "ping")
+    {
+        BsdudpHelper().Install(nodes, devices, addresses);
+        V4PingHelper("10.0.0.2").Install(nodes.Get(0));
+        Simulator::Run();
+    }
 }
 
 } // namespace
@@ -82,7 +89,7 @@ main(int argc, char* argv[])
     std::string refuse;
     CommandLine cmd(__FILE__);
     cmd.AddValue("refuse",
-                 "frame, gateway, mtu, device, stack, later, address, count, bulk",
+                 "frame, gateway, mtu, device, stack, later, address, count, bulk, ping",
                  refuse);
     cmd.Parse(argc, argv);
     GlobalValue::Bind("ChecksumEnabled", BooleanValue(true)); // for the runs without bsdudp
