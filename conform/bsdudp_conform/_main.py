@@ -205,7 +205,8 @@ def run(words: argparse.Namespace) -> int:
     if words.list or not chosen:
         for it in chosen:
             print(f"{it.name:24} {it.title}")
-        return OK if chosen else fault_line(f"there is no case of {' '.join(words.only)}", USAGE)
+        none = f"there is no case of {' '.join(words.only)}: bsdudp-conform run --list has all"
+        return OK if chosen else fault_line(none, USAGE)
     if words.report:  # now, because a folder that can't be made would lose the run's captures
         pathlib.Path(words.report).mkdir(parents=True, exist_ok=True)
     judged = []

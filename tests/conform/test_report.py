@@ -143,3 +143,8 @@ def test_stacks_of_one_name_are_kept_apart(conform, tmp_path):
     assert choices == [("twin 1.0", "taken"), ("twin 1.0 (2)", "dropped")]
     captures = {it.parent.name for it in (tmp_path / "out").glob("*/*.pcap")}
     assert captures == {"twin-1.0", "twin-1.0-2"}
+
+
+def test_an_unknown_rule_names_the_list(conform):
+    status, said = conform(sys.executable, "-m", "bsdudp_conform", "run", "--only", "frag.kye", "--", "./none")
+    assert (status, said) == (2, "bsdudp-conform: there is no case of frag.kye: bsdudp-conform run --list has all\n")
