@@ -59,7 +59,7 @@ def test_readme_without_a_proof():
     status, printed, said = machine("--with", installed, f"set -e\n{clone}{second}{TRIAL}")
     assert status == 0, f"status {status}:\n{printed[-2000:]}\n{said[-2000:]}"
     number = re.search(r"version (\d+\.\d+\.\d+)", README)[1]
-    assert [it for it in printed.splitlines() if not it.startswith("made: ")] == [
+    assert [it for it in printed.splitlines() if not it.startswith(("made: ", "export "))] == [
         "2 bytes, from port 7",
         "(b'hi', ('10.0.0.1', 1024)) Counters(ip.total=1)",
         f"{number}, unproved build",
