@@ -28,6 +28,8 @@ RULES = {
     "ns3": ("ip.", "icmp.", "udp.len", "udp.checksum", "frag.udp", "socket.", "send.checksum"),
     "passt": ("ip.", "udp.", "frag.hole", "frag.key", "frag.udp"),
 }
+# ns-3 reads the type of an ICMP message of 0 bytes from what lies behind it, which is a request's type in few runs.
+VARIES = {"ns3": ["FAULT icmp.silent:11"]}
 
 
 @pytest.fixture
@@ -40,6 +42,7 @@ def deviates(judged, tmp_path, pytestconfig):
         status, said = judged("--timeout", 120, "--write-baseline", new, *rules, *adapter, **environment)
         assert new.exists(), f"{name} couldn't be judged: status {status}: {said[-1500:]}"
         wanted, came = ((it / f"{name}.txt").read_text(encoding="utf-8").splitlines() for it in (KNOWN, tmp_path))
+        came = [it for it in came if it not in VARIES.get(name, [])]
         if wanted[0] != came[0]:
             left_out(pytestconfig, f"another version than in conform/known/{name}.txt: {came[0].partition(' of ')[2]}")
         gone, new = set(wanted) - set(came), set(came) - set(wanted)
