@@ -38,7 +38,7 @@ extern "C" {
 #endif
 
 /* The version of this header. */
-#define BSDUDP_VERSION "0.4.0"
+#define BSDUDP_VERSION "0.5.0"
 
 /* A handle: it holds a stack or none. Its members are private. Those of the core have the same offsets on every CPU. */
 struct bsdudp_core {

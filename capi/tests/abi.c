@@ -57,6 +57,7 @@ static int sizes(void)
     NUMBER(BSDUDP_EHOSTUNREACH), NUMBER(BSDUDP_EQUEUE), NUMBER(BSDUDP_SO_BROADCAST), NUMBER(BSDUDP_SO_REUSEPORT);
     NUMBER(BSDUDP_FIRST_FD), NUMBER(BSDUDP_SOCKETS), NUMBER(BSDUDP_TX_ROOM), NUMBER(BSDUDP_DATAGRAM);
     NUMBER(BSDUDP_PACKET), NUMBER(BSDUDP_ALIGNMENT), NUMBER(BSDUDP_ETHER_ROOM), NUMBER(BSDUDP_ETHER_FRAME);
+    NUMBER(BSDUDP_TICK);
     return 0;
 }
 
@@ -96,8 +97,12 @@ static int sockets(struct bsdudp *s)
     WANT(bsdudp_sendto(s, fd, &own, "hi", 2), 2);
     if (queries(s, fd))
         return 1;
+    WANT(bsdudp_peek(s, fd, bytes, sizeof bytes, &from.it), 2);
     WANT(bsdudp_recvfrom(s, fd, bytes, sizeof bytes, &from.it), 2);
     WANT(UNTOUCHED(from) && from.it.port == 7 && memcmp(bytes, "hi", 2) == 0, 1);
+    WANT(bsdudp_sendto(s, fd, &own, "long", 4), 4);
+    WANT(bsdudp_recvfrom_trunc(s, fd, bytes, 2, &from.it), 4);
+    WANT(UNTOUCHED(from) && memcmp(bytes, "lo", 2) == 0 && bytes[2] == 0, 1);
     WANT(bsdudp_connect(s, fd, &other), 0);
     WANT(bsdudp_send(s, fd, "hi", 2), 2);
     WANT(bsdudp_output_len(s), 1);
@@ -113,17 +118,23 @@ static int stack(void)
     BETWEEN(bsdudp_unfinished, unfinished);
     BETWEEN(bsdudp_range, range);
     const struct bsdudp none = BSDUDP_NONE;
+    uint64_t due[3] = {7, 0, 7};
     s.it = none;
     memset(memory, MARK, sizeof memory);
+    WANT(strlen(bsdudp_boot_strerror(-BSDUDP_EINVAL, &c, NULL)) > 0, 1);
     WANT(bsdudp_boot_in(&s.it, &c, memory + MARKED, len), 0);
     if (sockets(&s.it))
         return 1;
     WANT(bsdudp_tx(&s.it, packet, sizeof packet), 30);
+    WANT(bsdudp_mark(packet, 30, 1, 0), 0);
     WANT(bsdudp_rx(&s.it, packet, 30), 0);
     WANT(bsdudp_tick(&s.it), 0);
+    WANT(bsdudp_tick_until(&s.it, 1000, &due[1]), BSDUDP_TICK);
+    WANT(due[0] == 7 && due[1] == 1000 + BSDUDP_TICK && due[2] == 7, 1);
     WANT(bsdudp_unfinished_len(&s.it), 0);
     WANT(bsdudp_unfinished(&s.it, 0, &unfinished.it), -BSDUDP_EINVAL);
     WANT(bsdudp_unfinished_range(&s.it, 0, 0, &range.it), -BSDUDP_EINVAL);
+    WANT(bsdudp_disconnect(&s.it, BSDUDP_FIRST_FD), 0);
     WANT(bsdudp_close(&s.it, BSDUDP_FIRST_FD), 0);
     WANT(bsdudp_end(&s.it), 0);
     WANT(UNTOUCHED(s) && UNTOUCHED(unfinished) && UNTOUCHED(range) && is_kept(len), 1);
@@ -142,6 +153,7 @@ static int host(void)
     BETWEEN(bsdudp_tallies, tallies);
     BETWEEN(bsdudp_neighbour, neighbour);
     const struct bsdudp none = BSDUDP_NONE;
+    uint64_t noproto[3] = {7, 0, 7};
     s.it = none;
     memset(memory, MARK, sizeof memory);
     WANT(bsdudp_ether_boot_in(&s.it, &c, &link, memory + MARKED, len), 0);
@@ -154,7 +166,10 @@ static int host(void)
     WANT(bsdudp_ether_address(&s.it), 1);
     WANT(bsdudp_ether_tallies(&s.it, &tallies.it), 0);
     WANT(bsdudp_ether_neighbour(&s.it, 0, &neighbour.it), 0);
+    WANT(bsdudp_ether_noproto(&s.it, &noproto[1]), 0);
+    WANT(noproto[0] == 7 && noproto[1] == 0 && noproto[2] == 7, 1);
     WANT(bsdudp_tick(&s.it), 0);
+    WANT(bsdudp_ether_rehost(&s.it, &c, &link, memory + MARKED, len), 0);
     WANT(bsdudp_end(&s.it), 0);
     WANT(UNTOUCHED(s) && UNTOUCHED(tallies) && UNTOUCHED(neighbour) && is_kept(len), 1);
     WANT(bsdudp_ether_boot(&s.it, &c, &link), 0);

@@ -26,7 +26,7 @@ from ._sweep import sweep
 from ._unfinished import HeldRange, UnfinishedDatagram
 from ._wire import Carried, UnderWay, Wire
 
-__version__ = "0.4.0"
+__version__ = "0.5.0"
 
 __all__ = [
     "Bursts",

@@ -1,4 +1,4 @@
-/* The header of the last release, 0.3.0, without its comments: capi/tests/abi.c is compiled with it. */
+/* The header of the last release, 0.4.0, without its comments: capi/tests/abi.c is compiled with it. */
 #ifndef BSDUDP_H
 #define BSDUDP_H 
 #include <stddef.h>
@@ -6,7 +6,7 @@
 #ifdef __cplusplus
 extern "C" {
 #endif
-#define BSDUDP_VERSION "0.3.0"
+#define BSDUDP_VERSION "0.4.0"
 struct bsdudp_core {
     uint32_t live, none;
     uint64_t at;
@@ -124,6 +124,7 @@ enum {
     BSDUDP_DATAGRAM = 9216,
     BSDUDP_PACKET = 65535,
     BSDUDP_ALIGNMENT = 16,
+    BSDUDP_TICK = 500,
     BSDUDP_ETHER_ROOM = 1514,
     BSDUDP_ETHER_FRAME = 65549,
     BSDUDP_NEIGHBOURS = 32,
@@ -133,26 +134,35 @@ enum {
 size_t bsdudp_memory(const struct bsdudp_config *config);
 int bsdudp_boot_in(struct bsdudp *stack, const struct bsdudp_config *config, void *memory, size_t len);
 int bsdudp_boot(struct bsdudp *stack, const struct bsdudp_config *config);
+const char *bsdudp_boot_strerror(int result, const struct bsdudp_config *config, const struct bsdudp_link *link);
 int bsdudp_end(struct bsdudp *stack);
 int bsdudp_rx(struct bsdudp *stack, const void *packet, size_t len);
 int bsdudp_tx(struct bsdudp *stack, void *buffer, size_t len);
+int bsdudp_mark(void *packet, size_t len, uint8_t ttl, uint8_t tos);
 int bsdudp_tick(struct bsdudp *stack);
+int bsdudp_tick_until(struct bsdudp *stack, uint64_t now, uint64_t *due);
 #define BSDUDP_ETHER_MEMORY(mbufs,clusters) (BSDUDP_MEMORY(mbufs, clusters) + 14784)
 int bsdudp_ether_boot_in(struct bsdudp *stack, const struct bsdudp_config *config, const struct bsdudp_link *link,
                          void *memory, size_t len);
 int bsdudp_ether_boot(struct bsdudp *stack, const struct bsdudp_config *config, const struct bsdudp_link *link);
+int bsdudp_ether_rehost(struct bsdudp *host, const struct bsdudp_config *config, const struct bsdudp_link *link,
+                        void *memory, size_t len);
 int bsdudp_ether_receive(struct bsdudp *stack, const void *frame, size_t len);
 int bsdudp_ether_transmit(struct bsdudp *stack, void *buffer, size_t len);
 int bsdudp_ether_last_error(struct bsdudp *stack, uint32_t fd);
 int bsdudp_ether_address(struct bsdudp *stack);
 int bsdudp_ether_tallies(struct bsdudp *stack, struct bsdudp_tallies *tallies);
+int bsdudp_ether_noproto(struct bsdudp *stack, uint64_t *value);
 int bsdudp_ether_neighbour(struct bsdudp *stack, uint32_t i, struct bsdudp_neighbour *neighbour);
 int bsdudp_socket(struct bsdudp *stack);
 int bsdudp_bind(struct bsdudp *stack, uint32_t fd, const struct bsdudp_addr *local);
 int bsdudp_connect(struct bsdudp *stack, uint32_t fd, const struct bsdudp_addr *to);
+int bsdudp_disconnect(struct bsdudp *stack, uint32_t fd);
 int bsdudp_sendto(struct bsdudp *stack, uint32_t fd, const struct bsdudp_addr *to, const void *bytes, size_t len);
 int bsdudp_send(struct bsdudp *stack, uint32_t fd, const void *bytes, size_t len);
 int bsdudp_recvfrom(struct bsdudp *stack, uint32_t fd, void *buffer, size_t len, struct bsdudp_addr *from);
+int bsdudp_peek(struct bsdudp *stack, uint32_t fd, void *buffer, size_t len, struct bsdudp_addr *from);
+int bsdudp_recvfrom_trunc(struct bsdudp *stack, uint32_t fd, void *buffer, size_t len, struct bsdudp_addr *from);
 int bsdudp_close(struct bsdudp *stack, uint32_t fd);
 int bsdudp_setsockopt(struct bsdudp *stack, uint32_t fd, int option, int on);
 int bsdudp_getsockname(struct bsdudp *stack, uint32_t fd, struct bsdudp_name *name);

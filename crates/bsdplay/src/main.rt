@@ -65,7 +65,7 @@ const UNREAD: u8 = 4;
 /// Returns the command line.
 fn command<'a>(alloc: Global, lines: &'a str) -> Result<Command<'a>, AllocError> {
     let command = Command::new(alloc, "bsdplay")
-        .version("0.4.0")
+        .version("0.5.0")
         .about("Plays scripts of socket calls, packets and ticks, and prints what each line does")
         .after_help(lines)
         .arg(

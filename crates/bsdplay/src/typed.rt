@@ -6,7 +6,7 @@ use std::io::{self, IsTerminal, Read, Stdin, Write};
 pub(crate) const TYPED: &str = "line";
 
 const GREETING: &[u8] =
-    b"bsdplay 0.4.0 plays each line that you type. `help` lists the lines, `quit` ends.\n";
+    b"bsdplay 0.5.0 plays each line that you type. `help` lists the lines, `quit` ends.\n";
 
 const PROMPT: &[u8] = b"> ";
 
