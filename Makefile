@@ -14,12 +14,12 @@ python = $(call need,python3,apt-get install python3)
 cc = $(call need,$(or $(CC),cc),apt-get install gcc)
 
 help:
-	@echo "make run [SCRIPT=FILE]       play a script by bsdudp and show each line with its reply: a minute, no proof"
+	@echo "make run [SCRIPT=FILE]       play a script by bsdudp and show each line with its reply; compiled in a minute or two, unproved"
 	@echo "make play SCRIPT=FILE        play a script by bsdplay, which says what happens to each packet"
 	@echo "make why [CAPTURE=FILE]      read a capture by bsdplay why, which says why its packets were dropped"
 	@echo "make test [K=WORD]           run the tests that need no proof: 3 minutes; with K those with WORD in their name"
-	@echo "make prove                   run the gate: prove everything and run every test: about an hour on four idle cores"
-	@echo "make lib [FOLDER=out]        prove the C library and build it in FOLDER; with TRIAL=1 in a minute, without a proof"
+	@echo "make prove                   run the gate: prove everything and run every test: about 80 minutes on four processors"
+	@echo "make lib [FOLDER=out]        prove the C library and build it in FOLDER; with TRIAL=1 in a minute or two, without a proof"
 	@echo "make python [FOLDER=out]     the same with the Python package, in FOLDER/python"
 	@echo "make install [PREFIX=..]     prove the C library and install it below PREFIX; with TRIAL=1 without a proof"
 	@echo "make packages [FOLDER=out]   make the Debian packages of what make prove has built"

@@ -101,7 +101,8 @@ const MbufFigure = (() => {
         holder(`chain ${it.slot}`, "chain", it.first, ["bytes", count(it.len)], ["first", name(it.first)]));
     }
     return [...sockets.map(it => holder(`socket ${it.fd}: so_rcv`, "so_rcv", it.first, ["sb_cc", count(it.cc)],
-      ["sb_hiwat", "41,600"], ["sb_mbcnt", count(it.mbcnt)], ["sb_mbmax", "83,200"], ["sb_mb", name(it.first)])),
+      ["sb_hiwat", count(it.limit || 41600)], ["sb_mbcnt", count(it.mbcnt)],
+      ["sb_mbmax", count(2 * (it.limit || 41600))], ["sb_mb", name(it.first)])),
       holder("if_snd", "if_snd", output.first, ["ifq_tail", name(output.last)], ["ifq_len", `${output.len}`],
         ["ifq_maxlen", "50"], ["ifq_head", name(output.first)]),
       ...unfinished.map(it => holder(`ipq ${it.id}, ${it.source}`, "ipq", it.first,

@@ -47,7 +47,7 @@ function showTitle() {
 function openNext() {
   const next = following();
   if (next) open(next.mode, { name: next.name });
-  byId("rows").querySelector("button").focus();
+  focusRow();
 }
 
 // ---- predict, then reveal

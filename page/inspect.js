@@ -74,7 +74,7 @@ const CAPTIONS = {
   so_rcv: "so_rcv is a socket's receive queue (chapter 16). An mbuf before each datagram holds the sender's "
     + "address. In 4.4BSD it has type MT_SONAME and no packet header; here it has the datagram's packet header.",
   if_snd: "if_snd is the interface's output queue (chapter 3).",
-  ipq: "An ipq is a datagram of which fragments are missing (chapter 10). In 4.4BSD a struct ipq fills an mbuf; here "
+  ipq: "An ipq is a datagram of which fragments are missing (chapter 10). In 4.4BSD a struct ipq is in an mbuf; here "
     + "that mbuf is allocated too, and stays empty. A fragment's rcvif is its offset × 2, plus 1 if more fragments "
     + "follow; its IP header is removed.",
 };

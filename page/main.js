@@ -90,7 +90,7 @@ function rowOf(step, i) {
       badgesOf(step), markOf(step), h("span", { class: "delta" }, delta))];
   const alone = [isExercise() && note && h("span", { class: "row-note" }, note), askedLine(step),
     h("span", { class: "after" }, h("span", { class: "answer" }, isAsked ? askedReply() : "hidden"))];
-  return h("li", {}, h("button", { class: "row", type: "button", onclick: () => chooseRow(i) },
+  return h("li", {}, h("button", { class: "row", type: "button", tabindex: -1, onclick: () => chooseRow(i) },
     h("span", { class: "number" }, String(page.notes.places[i] + 1)),
     isHidden ? h("span", { class: "sign", "aria-hidden": "true" }, "?") : signOf(step),
     h("span", { class: "what" }, isHidden ? alone : told)));
@@ -161,6 +161,7 @@ let stopFigures = [];
 function select(i) {
   if (!page.steps.length) return;
   page.at = Math.max(0, Math.min(page.steps.length - 1, i));
+  if (isEmbedded) leadToWhole();
   const step = page.steps[page.at], question = questionOf(page.at);
   showRow();
   byId("curve").replaceChildren(...curve(page.steps, page.at, stepTo, page.firstQuestion ?? page.steps.length));
@@ -175,17 +176,38 @@ function select(i) {
   byId("gutter").children[page.notes.places[page.at]].classList.add("here");
 }
 
-// Steps to a line. The card at the beginning has been read by then.
+const IS_LOW = matchMedia("(max-width: 899px) and (max-height: 599px)");
+
+// Steps to a line. The card at the beginning has been read by then. In a low window with one column, the head is scrolled
+// away, so that the figure is on the screen.
 function stepTo(i) {
   showStart(false);
   select(i);
+  const { top } = byId("right").getBoundingClientRect();
+  if (top > 0 && IS_LOW.matches && document.body.hasAttribute("data-folded")) scrollBy(0, top);
 }
 
-// Chooses a row. If it's chosen already and asks a question, the focus moves there.
+// Chooses a row. If it's chosen already and asks a question, the focus moves there. Where the lines can be folded, they
+// are, so that the chosen line is on the screen.
 function chooseRow(i) {
-  const isAgain = i === page.at && questionOf(i);
+  const isAgain = i === page.at && questionOf(i), canFold = byId("fold").getClientRects().length > 0;
+  if (canFold) fold(true);
   stepTo(i);
   if (isAgain) byId("look").querySelector(".predict input").focus();
+  else if (canFold) byId("forth").focus();
+}
+
+// In one column, the lines and the buttons of a script are folded.
+function fold(isFolded) {
+  document.body.toggleAttribute("data-folded", isFolded);
+  byId("fold").setAttribute("aria-expanded", String(!isFolded));
+  if (!isFolded && page.steps.length) showRow();
+}
+
+// Moves the focus to the selected row, or to the steps if the rows are folded.
+function focusRow() {
+  byId("rows").querySelector("[aria-current]")?.focus();
+  if (!document.activeElement.matches(".row")) byId("forth").focus();
 }
 
 // Steps to the next line. After the last line of an exercise are its questions: returns whether the focus moved there.
@@ -193,16 +215,21 @@ function goOn() {
   const fields = page.at === page.steps.length - 1 ? [...byId("rows").querySelectorAll(".ask input")] : [];
   if (!fields.length) return stepTo(page.at + 1);
   showStart(false);
+  fold(false);
   (fields.find(it => !it.value) || fields[0]).focus();
   return true;
 }
 
-// Marks the row of the selected line, and scrolls it into view.
+// Marks the row of the selected line, and scrolls it into view. The Tab key reaches this row alone.
 function showRow() {
   const list = byId("rows");
-  list.querySelectorAll("[aria-current]").forEach(row => row.removeAttribute("aria-current"));
+  for (const row of list.querySelectorAll("[aria-current]")) {
+    row.removeAttribute("aria-current");
+    row.tabIndex = -1;
+  }
   const row = list.children[page.at].firstChild, top = row.offsetTop;
   row.setAttribute("aria-current", "step");
+  row.tabIndex = 0;
   if (top < list.scrollTop || top + row.offsetHeight > list.scrollTop + list.clientHeight) list.scrollTop = top - 60;
 }
 
@@ -311,6 +338,7 @@ const openFirst = mode => open(mode, { name: LISTS.lessons.find(it => it.mode ==
 // The script is read line by line, or edited.
 function showLeft(how) {
   document.body.dataset.left = how;
+  if (how === "edit") fold(false);
   for (const name of ["read", "edit"]) byId(name).setAttribute("aria-pressed", String(name === how));
 }
 
@@ -320,7 +348,7 @@ function keepText() {
   if (mine) Object.assign(page, { mine: keepBeside(mine, stored, { mode, text, options }), stored: text });
   else if (isExercise() && text !== unsolved(known.text)) keep(`text.${known.name}`, text);
   if (page.mine !== mine) showTitle();
-  keep("last", { mode, name: known ? known.name : "", mine: page.mine });
+  if (!isEmbedded) keep("last", { mode, name: known ? known.name : "", mine: page.mine });
   showUnstored();
 }
 
@@ -415,17 +443,29 @@ function putLine(line, focus) {
 
 // ---- links and files
 
-// A link contains the script, its machine, and the selected line.
-function link() {
+// What a link contains: the script, its machine, and the selected line.
+function addressOf() {
   const changed = usedOptions().filter(name => page.options[name] !== DEFAULTS[name])
     .map(name => [name, page.options[name]]);
-  const asked = new URLSearchParams([["mode", page.mode], ...changed, ["line", page.at + 1],
+  return new URLSearchParams([["mode", page.mode], ...changed, ["line", page.at + 1],
     ["script", byId("script").value]]);
-  history.replaceState(null, "", `#${asked}`);
+}
+
+function link() {
+  history.replaceState(null, "", `#${addressOf()}`);
   if (navigator.clipboard) navigator.clipboard.writeText(location.href).catch(() => {});
   byId("said").textContent = "The address of this page holds the script now.";
   byId("link").textContent = "Link copied";
   setTimeout(() => (byId("link").textContent = "Link"), 1500);
+}
+
+// With `?embed` in its address the page is part of another one: it has no head, and a link to the whole page with the
+// script that is open.
+const isEmbedded = new URLSearchParams(location.search).has("embed");
+
+function leadToWhole() {
+  const { mode, known } = page, own = known && [["mode", mode], ["name", known.name], ["line", page.at + 1]];
+  byId("whole").href = `${location.href.split(/[?#]/)[0]}#${own ? new URLSearchParams(own) : addressOf()}`;
 }
 
 function openLink() {
@@ -445,7 +485,7 @@ function openLast() {
   if (scriptNamed(mode, name)) open(mode, { name });
   else if (last && lastOwn()) openOwn(ownScript(mine) ? mine : lastOwn());
   else openNamed(LISTS.lessons[0]);
-  showStart(!last);
+  showStart(!last && !isEmbedded);
 }
 
 const openNamed = ({ mode, name }) => open(mode, { name });
@@ -475,6 +515,13 @@ function setTheme(theme) {
   byId("theme").textContent = theme === "dark" ? "Light" : "Dark";
 }
 
+// Larger texts and figures, for a projector. This browser keeps the choice.
+function setSize(size) {
+  document.documentElement.dataset.size = size;
+  byId("size").setAttribute("aria-pressed", String(size === "large"));
+  keep("size", size === "large" ? size : null);
+}
+
 // ---- start
 
 function listen() {
@@ -489,6 +536,8 @@ function listen() {
     else open(mode, { name });
   });
   on("next-lesson", "click", openNext);
+  on("skip", "click", () => byId("forth").focus());
+  on("fold", "click", () => fold(byId("fold").getAttribute("aria-expanded") === "true"));
   on("read", "click", () => showLeft("read"));
   on("edit", "click", () => showLeft("edit"));
   on("help", "click", () => showStart(byId("start").hidden));
@@ -519,6 +568,7 @@ function listen() {
   on("save", "click", save);
   on("load", "change", load);
   on("theme", "click", () => setTheme(document.documentElement.dataset.theme === "dark" ? "light" : "dark"));
+  on("size", "click", () => setSize(document.documentElement.dataset.size === "large" ? "normal" : "large"));
   for (const tab of document.querySelectorAll("[data-tab]")) tab.addEventListener("click",
     () => openFirst(tab.dataset.tab));
   listenForFiles();
@@ -526,10 +576,12 @@ function listen() {
   addEventListener("keydown", stepByKey);
 }
 
-// Arrow keys step, except in fields, in elements that they scroll, and in dialogs. Digits choose an answer. In the list of
-// scripts, which has the focus after a choice, up and down choose another script, and left and right step through it.
+// Arrow keys step, except in fields, in elements that they scroll, and in dialogs. Digits choose an answer. In the list
+// of scripts, which has the focus after a choice, up and down choose another script, left and right step through this
+// one, and a digit that is no answer does nothing. Otherwise the browser would choose the lesson with this number.
 function stepByKey(event) {
   if (event.altKey || event.ctrlKey || event.metaKey) return;
+  if (event.target.id === "choice" && /^\d$/.test(event.key)) event.preventDefault();
   if (/^[1-9]$/.test(event.key)) return chooseOption(event);
   const isList = event.target.id === "choice";
   if (!isList && event.target.closest("textarea, input, select, .scroller, dialog")) return;
@@ -550,6 +602,10 @@ function chooseOption(event) {
 
 async function begin() {
   setTheme(matchMedia("(prefers-color-scheme: dark)").matches ? "dark" : "light");
+  setSize(kept("size") || "normal");
+  document.body.toggleAttribute("data-embed", isEmbedded);
+  byId("whole").hidden = !isEmbedded;
+  byId("whole").href = location.pathname;
   try {
     page.engine = await Engine.load(Uint8Array.from(atob(MODULE), letter => letter.charCodeAt(0)));
   } catch (fault) {

@@ -74,7 +74,8 @@ const STACK_TELLS = {
   sendto: w => ["send", `socket ${w[1]} sends ${plural(bytesOf(w[4]).length, "byte")} to ${at(w[2], w[3])}`],
   send: w => ["send", `socket ${w[1]} sends ${plural(bytesOf(w[2]).length, "byte")} to its peer`],
   close: w => ["call", `socket ${w[1]} and its receive queue`],
-  setsockopt: w => ["call", `socket ${w[1]}: ${w[2]} ${w[3] === "1" ? "on" : "off"}`],
+  setsockopt: w => ["call", `socket ${w[1]}: `
+    + (w[2] === "rcvbuf" ? `a receive queue of ${plural(+w[3], "byte")}` : `${w[2]} ${w[3] === "1" ? "on" : "off"}`)],
   tick: () => ["tick", "half a second passes"],
   stat: () => ["ask", "counters other than 0"],
   mbstat: () => ["ask", "free and used buffers of the pool"],

@@ -6,7 +6,9 @@ import json
 import pathlib
 import re
 import shlex
+import struct
 import subprocess
+import tempfile
 from typing import Iterator, NamedTuple
 
 TOP = pathlib.Path(__file__).resolve().parent.parent
@@ -15,6 +17,8 @@ PLAY = TOP / "examples/play"
 # ` => status N` if that isn't 0, comes before the output.
 SCRIPTS, OPTIONS = (TOP / f"tests/bsdplay/goldens/{it}.transcript" for it in ("scripts", "options"))
 PROMPT = re.compile(rb"(?m)^\$ bsdplay (.*?)(?: => status (\d))?\n")
+# In a command line, the file that --pcap writes. Its bytes are part of the output.
+CAPTURE = "CAPTURE"
 # The differences that a failure shows, and the characters of a line.
 SHOWN, WIDEST = 6, 160
 
@@ -73,10 +77,23 @@ def write(outputs: dict[str, bytes]) -> None:
 
 
 def played(program: pathlib.Path, golden: Golden) -> Output:
-    """Runs a built bsdplay."""
-    words = [str(program), *golden.words]
-    done = subprocess.run(words, cwd=TOP, stdin=subprocess.DEVNULL, capture_output=True, check=False)
-    return Output(done.stdout, done.returncode)
+    """Runs a built bsdplay. The lines of the capture that it writes, if it's to write one, follow its output."""
+    with tempfile.TemporaryDirectory() as folder:
+        capture = pathlib.Path(folder) / CAPTURE
+        words = [str(program), *(str(capture) if it == CAPTURE else it for it in golden.words)]
+        done = subprocess.run(words, cwd=TOP, stdin=subprocess.DEVNULL, capture_output=True, check=False)
+        lines = capture_lines(capture.read_bytes()) if CAPTURE in golden.words else []
+    return Output(done.stdout + b"".join(lines), done.returncode)
+
+
+def capture_lines(file: bytes) -> Iterator[bytes]:
+    """Yields the header of a capture, and each record: its time, its lengths, and its bytes."""
+    yield f"{CAPTURE} {file[:24].hex(' ', 4)}\n".encode()
+    at = 24
+    while at < len(file):
+        seconds, micro, kept, size = struct.unpack_from("<4I", file, at)
+        at += 16 + kept
+        yield f"{CAPTURE} {seconds}.{micro:06} {kept} {size} {file[at - kept : at].hex()}\n".encode()
 
 
 def text_lines(text: bytes) -> list[str]:

@@ -36,10 +36,10 @@ def module(once, request) -> Callable[[str], pathlib.Path]:
     """module(CRATE) returns the LLVM module of a static library. The WebAssembly module is in the same folder."""
 
     def of(crate: str) -> pathlib.Path:
-        if crate == "libbsdudp":  # capi/build takes what stands in portable/out; they aren't made side by side
-            request.getfixturevalue("core")
         if not is_proved(crate) and not request.config.getoption("--build"):
             left_out(request.config, f"{crate} isn't proved: cd crates/{crate} && rt lib, up to an hour", "--strict-programs")
+        if crate == "libbsdudp":  # capi/build takes what stands in portable/out; they aren't made side by side
+            request.getfixturevalue("core")
         once(f"module-{crate}", lambda _: made("portable/module", crate, KEPT[crate]))
         return KEPT[crate] / f"{crate}.bc"
 

@@ -135,6 +135,8 @@ TOOLS = {
     "cc -m32": Tool(links("-m32"), "lib32gcc-12-dev libc6-dev-i386"),
     "libfuzzer": Tool(fuzzes, "clang libclang-rt-14-dev"),
     "clang": Tool(command("clang"), "clang"),
+    "frama-c": Tool(command("frama-c"), "frama-c-base"),
+    "cvc4": Tool(lambda: command("cvc4")() and command("why3")(), "cvc4 why3"),
     "arm-linux-gnueabihf": Tool(command("arm-linux-gnueabihf-gcc"), "gcc-arm-linux-gnueabihf libc6-dev-armhf-cross"),
     "aarch64-linux-gnu": Tool(command("aarch64-linux-gnu-gcc"), "gcc-aarch64-linux-gnu libc6-dev-arm64-cross"),
     "s390x-linux-gnu": Tool(command("s390x-linux-gnu-gcc"), "gcc-s390x-linux-gnu libc6-dev-s390x-cross"),

@@ -80,7 +80,7 @@ def demand(wanted: Iterable[Need], without: Iterable[str]) -> None:
     missing = [it for it in wanted if not it.is_there and it.part not in without]
     if not missing:
         return
-    lines = ["these are missing. `make prove` makes all files, in about an hour; or one by one:"]
+    lines = ["these are missing. `make prove` makes all files, in about 80 minutes; or one by one:"]
     lines += [f"  {it.what}: {it.cure}" for it in missing]
     names = list(dict.fromkeys(it.part for it in missing if it.part))
     if names:

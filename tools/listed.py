@@ -244,7 +244,7 @@ def values_of(field: str, most: str, params: dict[str, int]) -> str:
     check = read(CONFIG).partition("#[cfg(test)]")[0]
     if field == "bcast":
         pieces(CONFIG, r"self\.addr != self\.bcast", check)
-        return "the same, and not that of `--addr`"
+        return "the same, but not `--addr`"
     if field == "addr":
         range_of = r"(\d+) <= network && network < FIRST_MULTICAST >> 24 && network != LOOPBACK >> 24"
         first, after = int(pieces(CONFIG, range_of, check)[0]) << 24, params["FIRST_MULTICAST"]
@@ -291,8 +291,9 @@ def forms() -> dict[str, list[str]]:
     row = r'Command::(\w+) => (?:by_words|otherwise)\(\s*"[^"]+",\s*"([^"]+)"'
     form_of = dict(pieces(f"{FORMS}/command.rt", row))
     machine = commands("command.rt", "host_commands")
-    after = machine.index("Rx") + 1
-    machine[after:after] = ["RxPcap", "RxUdp", "RxRaw"]
+    for name, others in pieces("crates/bsdplay/src/help.rt", r"Command::(\w+) => &\[([^\]]*)\]"):
+        after = machine.index(name) + 1
+        machine[after:after] = re.findall(r"Command::(\w+)", others)
     known = {form_of[name] for name in machine}
     names = {"machine": machine, "wire": commands("command.rt", "wire_commands")}
     names["ethernet"] = [it for it in commands("hosted.rt", "hosted_commands") if form_of[it] not in known]

@@ -33,4 +33,4 @@ def released() -> datetime.date | None:
     try:
         return day and datetime.date.fromisoformat(day) or None
     except ValueError as fault:
-        raise Stop(f"CHANGELOG.md: {day} is no day") from fault
+        raise Stop(f"CHANGELOG.md: {day} isn't a date") from fault

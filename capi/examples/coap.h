@@ -8,8 +8,11 @@
 
 /* COAP_RESPONSES responses are kept for EXCHANGE_LIFETIME, 247 s, in case their requests come again (RFC 7252, 4.5). A
    new one takes the place of the oldest, so a client that awaits each response needs one. A response carries at most 16
-   times 2 to the COAP_EXPONENT bytes of payload, which is 0 to 6, and 22 bytes of head, token, options and marker. */
-enum { COAP_PORT = 5683, COAP_RESPONSES = 6, COAP_LIFETIME = 247, COAP_EXPONENT = 4 };
+   times 2 to the COAP_EXPONENT bytes of payload, which is 0 to 6, and 22 bytes of head, token, options and marker. A
+   resource's path has at most COAP_PATH characters. The receive queue has COAP_QUEUE bytes, so that a flood leaves the
+   pool to other sockets; a message in one packet fits (4.6). */
+enum { COAP_PORT = 5683, COAP_RESPONSES = 6, COAP_LIFETIME = 247, COAP_EXPONENT = 4, COAP_PATH = 32 };
+enum { COAP_QUEUE = 1488 };
 enum { COAP_RESPONSE = 22 + (16 << COAP_EXPONENT) };
 
 /* Codes of responses: 4.04 is COAP_CODE(4, 4). */
@@ -46,13 +49,14 @@ struct coap {
     struct bsdudp *host;
     const struct coap_resource *resources;
     uint32_t count, buffer_len; /* the number of resources, and of bytes in `buffer` */
-    uint8_t *buffer;            /* for a received message */
+    uint8_t *buffer;            /* for a received message: a longer request is refused with 4.13 */
     uint32_t fd, now, given; /* its socket, the ticks so far, and the responses so far */
     uint16_t last_id;
     struct coap_response responses[COAP_RESPONSES];
 };
 
-/* Opens the server's socket at an address of the host. Returns 0, or the refusal of a call of the stack. */
+/* Opens the server's socket at an address of the host. Returns 0, the error of a call of the stack, or -BSDUDP_EINVAL if
+   a resource's path is too long. */
 int coap_start(struct coap *server, uint32_t addr);
 
 /* Reads all that has come, and responds. */

@@ -132,7 +132,7 @@ static int start(const struct device *it)
     files[RAM] = (struct tftp_file){"ram", it->ram, it->ram, 0, it->ram_len, 0};
     equip();
     dhcp = (struct dhcp){.host = &host, .config = it->config, .link = it->link, .memory = it->memory,
-                         .memory_len = it->memory_len, .seed = it->seed};
+                         .memory_len = it->memory_len, .seed = port_random(), .random = port_random};
     status = dhcp_start(&dhcp);
     return status < 0 ? failed("no host: ", bsdudp_boot_strerror(status, &dhcp.config, &dhcp.link), status) : 0;
 }

@@ -21,6 +21,9 @@ int port_wait(void);
 /* Prints text for the person who watches. */
 void port_say(const char *text);
 
+/* Returns another number at each call, which others can't guess if the machine has a random generator. */
+uint32_t port_random(void);
+
 /* Returns how many bytes of the call stack were used since the start, or 0 if that isn't known. */
 uint32_t port_stack(void);
 
@@ -35,7 +38,6 @@ struct device {
     uint32_t flash_len;
     uint8_t *ram; /* where the file "ram" is kept, which clients read and write */
     uint32_t ram_len;
-    uint32_t seed; /* for DHCP: another number at each start is best */
 };
 
 /* Gets an address, boots the stack and both servers, and serves until port_wait returns 0. Returns 0, or the error of a

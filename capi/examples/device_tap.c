@@ -91,13 +91,21 @@ void port_say(const char *text)
     fflush(stdout);
 }
 
+uint32_t port_random(void)
+{
+    uint32_t number = 0;
+    if (getentropy(&number, sizeof number) < 0)
+        perror("getentropy");
+    return number;
+}
+
 uint32_t port_stack(void) { return 0; }
 
 int main(int argc, char **argv)
 {
     struct device device = {{BSDUDP_IP(10, 0, 0, 1), BSDUDP_IP(10, 0, 0, 255), MBUFS, CLUSTERS, 1500, 1},
                             {{2, 0, 0, 0, 0, 1}, 0xffffff00, BSDUDP_IP(10, 0, 0, 2), 0},
-                            memory, sizeof memory, NULL, 0, ram, RAM, 0};
+                            memory, sizeof memory, NULL, 0, ram, RAM};
     struct stat file;
     void *flash;
     int status, fd = argc > 2 ? open(argv[2], O_RDONLY) : -1;
@@ -106,7 +114,6 @@ int main(int argc, char **argv)
     if (argc > 4) {
         device.config.addr = argc > 5 ? ntohl(inet_addr(argv[5])) : 0;
         device.link.mask = 0;
-        device.seed = (uint32_t)time(NULL);
     }
     if (fd < 0 || fstat(fd, &file) < 0 ||
         (flash = mmap(NULL, (size_t)file.st_size, PROT_READ, MAP_PRIVATE, fd, 0)) == MAP_FAILED)

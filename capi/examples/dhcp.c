@@ -16,6 +16,9 @@ static uint32_t next_random(struct dhcp *it)
     return it->seed ^= it->seed << 5;
 }
 
+/* The number of a message, by which its reply is known (4.1). */
+static uint32_t next_number(struct dhcp *it) { return it->random != NULL ? it->random() : next_random(it); }
+
 static int has_passed(const struct dhcp *it, uint32_t tick) { return (int32_t)(it->now - tick) >= 0; }
 
 /* ---- the host */
@@ -57,6 +60,7 @@ static void boot(struct dhcp *it, const struct dhcp_lease *of, int has_probe)
         result = bsdudp_ether_boot_in(it->host, &it->config, &it->link, it->memory, it->memory_len);
         it->fd = result == 0 ? (uint32_t)bsdudp_socket(it->host) : 0;
         it->is_booted = result == 0 && bsdudp_bind(it->host, it->fd, &local) == 0;
+        bsdudp_setsockopt(it->host, it->fd, BSDUDP_SO_RCVBUF, DHCP_QUEUE);
     }
     it->is_up = result == 0;
     it->addr = 0; /* until it has probed for it */
@@ -90,14 +94,14 @@ static void restart(struct dhcp *it, uint32_t wait)
         it->is_up = 0;
     it->state = DHCP_INIT;
     it->addr = it->is_up ? it->addr : 0;
-    it->lease.addr = it->tries = 0;
+    it->lease.addr = it->tries = it->message = 0;
     it->due = it->now + wait + 2 + next_random(it) % 19;
 }
 
 static void begin(struct dhcp *it)
 {
     it->state = it->lease.addr != 0 ? DHCP_REBOOTING : DHCP_SELECTING;
-    it->xid = next_random(it);
+    it->xid = next_number(it);
     it->begun = it->asked = it->now;
     send_soon(it, it->state == DHCP_REBOOTING ? DHCP_REQUEST : DHCP_DISCOVER);
 }
@@ -111,7 +115,7 @@ static void extend(struct dhcp *it)
     if (it->state == DHCP_BOUND)
         it->begun = it->now;
     it->state = is_late ? DHCP_REBINDING : DHCP_RENEWING;
-    it->xid = next_random(it);
+    it->xid = next_number(it);
     it->asked = it->now;
     it->message = DHCP_REQUEST;
     it->due = it->now + (wait > MINUTE ? wait : MINUTE);
@@ -130,16 +134,24 @@ static void accept(struct dhcp *it, const struct dhcp_lease *lease)
     it->rebind = it->asked + (is_told ? 2 * lease->t2 : 2 * seconds - seconds / 4);
     it->due = it->asked + (is_told ? 2 * lease->t1 : seconds);
     it->state = DHCP_BOUND;
+    it->message = 0; /* a copy of the request, if it was due again */
     if (!is_same || lease->mask != it->link.mask || lease->router != it->link.gateway)
         boot(it, lease, !is_same);
     if (!it->is_up)
         restart(it, 0);
 }
 
+/* Whether a message of this state has been sent: there is no reply to one that waits. A message that is sent again
+   before a lease has the same number. */
+static int has_sent(const struct dhcp *it)
+{
+    return it->message == 0 || (it->state < DHCP_BOUND && it->tries > 1);
+}
+
 static void take(struct dhcp *it, const uint8_t *at, uint32_t len)
 {
-    struct dhcp_lease lease;
-    if (!dhcp_read(&lease, at, len, it->xid, it->link.mac))
+    struct dhcp_lease lease = {0, 0, 0, 0, 0, 0, 0, 0, 0};
+    if (!has_sent(it) || !dhcp_read(&lease, at, len, it->xid, it->link.mac))
         return;
     if (it->state == DHCP_SELECTING && lease.type == DHCP_OFFER && is_usable(it, &lease)) {
         it->lease = lease;
@@ -161,7 +173,7 @@ static void take(struct dhcp *it, const uint8_t *at, uint32_t len)
 static void leave(struct dhcp *it)
 {
     if (it->state >= DHCP_BOUND && it->state != DHCP_FIXED) {
-        it->xid = next_random(it);
+        it->xid = next_number(it);
         restart(it, TEN_SECONDS);
         it->message = DHCP_DECLINE;
     } else {
@@ -224,7 +236,7 @@ int dhcp_start(struct dhcp *it)
 void dhcp_receive(struct dhcp *it, uint8_t *frame, size_t len)
 {
     const uint32_t message_len = it->state < DHCP_BOUND ? dhcp_len(frame, len, it->link.mac) : 0;
-    struct bsdudp_addr from;
+    struct bsdudp_addr from = {0, 0};
     int came;
     if (message_len > 0)
         take(it, frame + DHCP_HEAD, message_len);

@@ -24,7 +24,11 @@ enum dhcp_state {
    address. It ignores a lease of less than DHCP_LEAST seconds. */
 enum { DHCP_TRIES = 4, DHCP_LEAST = 10 };
 
-/* A client. Set its members up to `seed`, and leave the others 0. */
+/* The bytes of its socket's receive queue, so that a flood leaves the pool to other sockets: a message of up to 576 bytes
+   needs a cluster. */
+enum { DHCP_QUEUE = 1152 };
+
+/* A client. Set its members up to `random`, and leave the others 0. */
 struct dhcp {
     struct bsdudp *host;         /* without a stack: the client boots it */
     struct bsdudp_config config; /* `addr`: the address of the last start, if the device remembers it, or 0 */
@@ -32,6 +36,8 @@ struct dhcp {
     void *memory;                /* BSDUDP_ETHER_MEMORY bytes, aligned to BSDUDP_ALIGNMENT */
     size_t memory_len;
     uint32_t seed; /* another number at each start is best */
+    uint32_t (*random)(void); /* draws the number of a message, which a forged reply has to guess; NULL: the numbers
+                                 follow from `seed` */
 
     /* The address of the host, which dhcp_tick sets; 0 while it has none. Without one it neither sends nor receives,
        and keeps its sockets. */

@@ -14,8 +14,8 @@ enum { OPTIONS = 240 };
 
 static const uint8_t all[MAC_LEN] = {0xff, 0xff, 0xff, 0xff, 0xff, 0xff}, cookie[] = {99, 130, 83, 99};
 
-static uint32_t get16(const uint8_t *at) { return (uint32_t)at[0] << 8 | at[1]; }
-static uint32_t get(const uint8_t *at) { return get16(at) << 16 | get16(at + 2); }
+static uint32_t get16(const uint8_t *at) { return at[0] * UINT32_C(0x100) + at[1]; }
+static uint32_t get(const uint8_t *at) { return get16(at) * UINT32_C(0x10000) + get16(at + 2); }
 
 static void put16(uint8_t *at, uint32_t value)
 {
@@ -29,14 +29,30 @@ static void put(uint8_t *at, uint32_t value)
     put16(at + 2, value);
 }
 
+static int is_same(const uint8_t *a, const uint8_t *b, uint32_t len)
+{
+    uint32_t i = 0;
+    /*@ loop invariant i <= len && \forall integer k; 0 <= k < i ==> a[k] == b[k];
+        loop assigns i;
+        loop variant len - i; */
+    while (i < len && a[i] == b[i])
+        i++;
+    return i == len;
+}
+
 /* The sum of RFC 1071, before it's inverted. */
 static uint32_t sum(uint32_t so_far, const uint8_t *at, uint32_t len)
 {
     uint32_t i;
+    /*@ loop invariant i <= len && so_far <= 131071 + 65280 * i;
+        loop assigns i, so_far;
+        loop variant len - i; */
     for (i = 0; i < len; i++)
-        so_far += i % 2 == 0 ? (uint32_t)at[i] << 8 : at[i];
+        so_far += i % 2 == 0 ? at[i] * UINT32_C(0x100) : at[i];
+    /*@ loop assigns so_far;
+        loop variant so_far; */
     while (so_far > 0xffff)
-        so_far = (so_far >> 16) + (so_far & 0xffff);
+        so_far = so_far / 0x10000 + so_far % 0x10000;
     return so_far;
 }
 
@@ -48,10 +64,12 @@ static uint32_t udp_sum(const uint8_t *frame, uint32_t len)
 
 uint32_t dhcp_len(const uint8_t *frame, size_t frame_len, const uint8_t mac[6])
 {
-    const uint8_t *ip = frame + IP_AT, *udp = frame + UDP_AT;
+    const uint8_t *ip, *udp;
     uint32_t total, len;
-    if (frame_len < DHCP_HEAD || (memcmp(frame, all, MAC_LEN) != 0 && memcmp(frame, mac, MAC_LEN) != 0))
+    if (frame_len < DHCP_HEAD || (!is_same(frame, all, MAC_LEN) && !is_same(frame, mac, MAC_LEN)))
         return 0;
+    ip = frame + IP_AT;
+    udp = frame + UDP_AT;
     if (get16(frame + 12) != 0x0800 || ip[0] != 0x45 || ip[9] != 17 || sum(0, ip, IP_LEN) != 0xffff)
         return 0;
     total = get16(ip + 2);
@@ -83,33 +101,42 @@ static void take_option(struct dhcp_lease *to, uint8_t code, const uint8_t *at, 
 }
 
 /* Reads the options of a field. Returns 0 if one goes past its end, or END is missing (4.1). */
-static int take_options(struct dhcp_lease *to, const uint8_t *at, const uint8_t *end)
+static int take_options(struct dhcp_lease *to, const uint8_t *at, uint32_t len)
 {
-    while (at < end && *at != END) {
-        if (*at == PAD) {
-            at++;
+    uint32_t i = 0;
+    /*@ loop invariant i <= len;
+        loop assigns i, *to;
+        loop variant len - i; */
+    while (i < len && at[i] != END) {
+        if (at[i] == PAD) {
+            i++;
             continue;
         }
-        if (end - at < 2 || at[1] > end - at - 2)
+        if (len - i < 2 || at[i + 1] > len - i - 2)
             return 0;
-        take_option(to, at[0], at + 2, at[1]);
-        at += 2 + at[1];
+        take_option(to, at[i], at + i + 2, at[i + 1]);
+        i += 2 + at[i + 1];
     }
-    return at < end;
+    return i < len;
 }
 
-/* The fields `file` and `sname` may have options, too, which are read in this order (4.1). */
+/* The fields `file` and `sname` may have options, too, which are read in this order (4.1). Only the options field says
+   whether they have: an option OVERLOAD in them is ignored. */
 int dhcp_read(struct dhcp_lease *to, const uint8_t *at, uint32_t len, uint32_t xid, const uint8_t mac[6])
 {
-    memset(to, 0, sizeof *to);
+    static const struct dhcp_lease none = {0, 0, 0, 0, 0, 0, 0, 0, 0};
+    uint8_t overload;
+    *to = none;
     if (len <= OPTIONS || at[0] != REPLY || at[1] != ETHERNET || at[2] != MAC_LEN || get(at + XID) != xid)
         return 0;
-    if (memcmp(at + CHADDR, mac, MAC_LEN) != 0 || memcmp(at + COOKIE, cookie, sizeof cookie) != 0)
+    if (!is_same(at + CHADDR, mac, MAC_LEN) || !is_same(at + COOKIE, cookie, sizeof cookie))
         return 0;
     to->addr = get(at + YIADDR);
-    return take_options(to, at + OPTIONS, at + len) && to->overload <= 3 &&
-           ((to->overload & 1) == 0 || take_options(to, at + FILE_AT, at + COOKIE)) &&
-           ((to->overload & 2) == 0 || take_options(to, at + SNAME, at + FILE_AT)) && to->server != 0;
+    if (!take_options(to, at + OPTIONS, len - OPTIONS))
+        return 0;
+    overload = to->overload;
+    return overload <= 3 && ((overload & 1) == 0 || take_options(to, at + FILE_AT, COOKIE - FILE_AT)) &&
+           ((overload & 2) == 0 || take_options(to, at + SNAME, FILE_AT - SNAME)) && to->server != 0;
 }
 
 static uint8_t *put_option(uint8_t *at, uint8_t code, uint32_t value)

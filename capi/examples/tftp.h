@@ -11,6 +11,11 @@
    more, by which a longer one is known. */
 enum { TFTP_PORT = 69, TFTP_TRANSFERS = 4, TFTP_BLOCK = 8192, TFTP_ROOM = 4 + TFTP_BLOCK + 1 };
 
+/* The bytes of the receive queues, so that a flood leaves the pool to other sockets: for requests, which have at most 512
+   bytes and need a cluster, and for the longest datagram with its sender's address: a block that is longer than agreed
+   gets an error. */
+enum { TFTP_REQUESTS = 1152, TFTP_QUEUE = 9216 + 16 };
+
 /* A message goes out TFTP_TRIES times: after 2 ticks, 4, 8, 8 and so on (RFC 1123, 4.2.3.2). The tick never repeats two
    of them: the last acknowledgement, and the options of a writer. They are repeated only if the client repeats itself
    within TFTP_LINGER ticks. curl takes options that come twice for an acknowledgement of its first block. */
@@ -30,7 +35,7 @@ struct tftp_transfer {
     struct bsdudp_addr peer;
     uint32_t fd;
     uint32_t block;  /* of a reader: the one that was sent last, 0 for the answer to options; of a writer: came last */
-    uint32_t at;     /* where that block of a reader, or the next one of a writer, stands in the file */
+    uint32_t at;     /* where the next block of a writer stands in the file */
     uint32_t total;  /* the value of tsize */
     uint16_t size;   /* bytes of a block */
     uint8_t ticks;   /* after so many more, what was sent last goes out again */

@@ -11,7 +11,8 @@
  * Every call with a handle, except those that boot, returns -BSDUDP_ENXIO if the handle holds no stack.
  *
  * Numbers. Addresses and ports are in the byte order of the CPU: 10.0.0.1 is 0x0a000001, or BSDUDP_IP(10, 0, 0, 1). A
- * packet begins with its IPv4 header. Descriptors are 3 to 66. A tick is half a second.
+ * packet begins with its IPv4 header. Descriptors are 3 to 66, and of type uint32_t: cast what bsdudp_socket returns, an
+ * int because it may be an error. A tick is half a second.
  *
  * Rules that the caller must follow, for every call:
  *   - Set all bytes of a `struct bsdudp` to 0 before its first boot (BSDUDP_NONE). After that, do not copy it, and do
@@ -21,7 +22,8 @@
  *   - Pass no null pointer, except where a description allows it. Each pointer must point to the number of bytes that
  *     the description gives, and no two arguments of a call may overlap.
  * Everything else is checked and returns an error: a handle without a stack, a wrong descriptor, a wrong length. A
- * damaged packet is dropped and counted.
+ * damaged packet is dropped and counted. A library built with BSDUDP_CHECK=1 (capi/build) also ends the program, with a
+ * sentence, at a second call on a stack, at a handle that was copied or changed, and at one without a stack.
  *
  * While a boot runs, it uses a thread-local variable, the only state that the library shares between calls. On bare
  * metal without thread-local storage, compile capi/src/memory.c with -DBSDUDP_THREADS=0 and link it before the library.
@@ -39,6 +41,13 @@ extern "C" {
 
 /* The version of this header. */
 #define BSDUDP_VERSION "0.5.0"
+
+/* A cast, as C or C++ writes it. */
+#ifdef __cplusplus
+#define BSDUDP_CAST(type, value) static_cast<type>(value)
+#else
+#define BSDUDP_CAST(type, value) ((type)(value))
+#endif
 
 /* A handle: it holds a stack or none. Its members are private. Those of the core have the same offsets on every CPU. */
 struct bsdudp_core {
@@ -63,11 +72,14 @@ struct bsdudp_config {
     uint32_t mbufs;    /* the number of mbufs in the pool, of 128 bytes each: 1 to 65535 */
     uint32_t clusters; /* the number of clusters in the pool, of 2,048 bytes each: 0 to 4096 */
     uint16_t mtu;      /* the longest packet that the stack sends to the link: 68 to 4352 bytes */
-    uint16_t first_id; /* the IP identification of the first datagram that it sends, and of a host's first ICMP reply */
+    uint16_t first_id; /* the IP identification of the first datagram that it sends, and of a host's first ICMP reply:
+                          the next ones count up from it. Draw it at random, so that others cannot guess them */
 };
 
 /* The address a.b.c.d: a constant if its bytes are. */
-#define BSDUDP_IP(a, b, c, d) ((uint32_t)(a) << 24 | (uint32_t)(b) << 16 | (uint32_t)(c) << 8 | (uint32_t)(d))
+#define BSDUDP_IP(a, b, c, d) \
+    (BSDUDP_CAST(uint32_t, a) << 24 | BSDUDP_CAST(uint32_t, b) << 16 | BSDUDP_CAST(uint32_t, c) << 8 | \
+     BSDUDP_CAST(uint32_t, d))
 
 /* An address with a port. */
 struct bsdudp_addr {
@@ -115,6 +127,15 @@ struct bsdudp_range {
     uint8_t more;    /* 1 if more fragments follow the one that brought these bytes, otherwise 0 */
 };
 
+/* What happened to a packet: bsdudp_rx_fate, bsdudp_ether_receive_fate. */
+struct bsdudp_fate {
+    uint64_t got;      /* the sockets that got its datagram: bit k is descriptor BSDUDP_FIRST_FD + k */
+    uint64_t lost;     /* the sockets that lost it: the receive queue was full, or the pool had too few buffers */
+    uint32_t cause;    /* if it was dropped, the counter that counts it, as for bsdudp_counter; otherwise 0 */
+    uint8_t kind;      /* what it was: BSDUDP_DELIVERED, BSDUDP_KEPT, BSDUDP_DROPPED or BSDUDP_NO_PACKET */
+    uint8_t completed; /* 1 if the packet is a fragment that completed its datagram, otherwise 0 */
+};
+
 /* The link of a host on an Ethernet: bsdudp_ether_boot_in. */
 struct bsdudp_link {
     uint8_t mac[6];   /* its hardware address, as in a frame; not 0, nor a group address, so mac[0] is even */
@@ -135,7 +156,7 @@ struct bsdudp_tallies {
     uint64_t unresolved;      /* packets dropped because no reply gave the hardware address */
     uint64_t too_long;        /* packets that are too long for a frame: always 0 for a host of this library */
     uint64_t echoes;          /* echo requests that got a reply */
-    uint64_t unreachable;     /* datagrams for which the host sent "port unreachable" to the sender */
+    uint64_t unreachable;     /* datagrams for which the host sent "port unreachable" or "protocol unreachable" */
     uint64_t limited;         /* datagrams for which it did not: it sends at most 10 between two ticks */
     uint64_t icmp_dropped;    /* ICMP replies dropped for another one, or because no reply gave the hardware address */
 };
@@ -157,7 +178,7 @@ enum {
     BSDUDP_EACCES = 13,         /* the destination is the broadcast address, and the socket is not allowed to send to
                                    it; SO_BROADCAST allows it */
     BSDUDP_EINVAL = 22,         /* boot: a wrong setting, which bsdudp_boot_strerror names; bind: the socket is
-                                   already bound; a query: no such number */
+                                   already bound; bind_random: no port is in the range; a query: no such number */
     BSDUDP_EMFILE = 24,         /* all descriptors are open; at most 64 */
     BSDUDP_EDOM = 33,           /* boot: numbers of mbufs or clusters that a pool cannot have */
     BSDUDP_EWOULDBLOCK = 35,    /* no datagram is queued, and the call does not wait */
@@ -177,10 +198,19 @@ enum {
                                    4.4BSD) */
 };
 
-/* The options of bsdudp_setsockopt. */
+/* The kinds of fate of a packet: `kind` of a `struct bsdudp_fate`. */
 enum {
-    BSDUDP_SO_BROADCAST = 0x20, /* the socket may send to the broadcast address */
-    BSDUDP_SO_REUSEPORT = 0x200 /* other sockets with this option may bind to the same address and port */
+    BSDUDP_NO_PACKET = 0, /* a frame without a packet for the stack: only of bsdudp_ether_receive_fate */
+    BSDUDP_DELIVERED = 1, /* its datagram was for the sockets in `got` and `lost`, at least one */
+    BSDUDP_KEPT = 2,      /* it is a fragment, which waits for the others of its datagram */
+    BSDUDP_DROPPED = 3    /* it was dropped, or the datagram that it completed: bsdudp_counter_cause of `cause` */
+};
+
+/* The options of bsdudp_setsockopt and bsdudp_getsockopt. */
+enum {
+    BSDUDP_SO_BROADCAST = 0x20,  /* the socket may send to the broadcast address */
+    BSDUDP_SO_REUSEPORT = 0x200, /* other sockets with this option may bind to the same address and port */
+    BSDUDP_SO_RCVBUF = 0x1002    /* the size of the receive queue in bytes, 1 to 65,535: bsdudp_setsockopt */
 };
 
 /* Limits. */
@@ -202,8 +232,10 @@ enum {
 /* ---- boot and end: this library's own */
 
 /* The size in bytes of the memory for a stack with these numbers of mbufs and clusters. It is a constant if they are,
-   so `static unsigned char memory[BSDUDP_MEMORY(64, 16)]` works. */
-#define BSDUDP_MEMORY(mbufs, clusters) (4432 + 150 * (size_t)(mbufs) + 2050 * (size_t)(clusters))
+   so `static unsigned char memory[BSDUDP_MEMORY(64, 16)]` works. It is a multiple of BSDUDP_ALIGNMENT, so in an aligned
+   array of such memories each is aligned. */
+#define BSDUDP_MEMORY(mbufs, clusters) \
+    ((4432 + 150 * BSDUDP_CAST(size_t, mbufs) + 2050 * BSDUDP_CAST(size_t, clusters) + 15) / 16 * 16)
 
 /* Computes the size of the memory for a stack with this configuration.
 
@@ -231,7 +263,7 @@ int bsdudp_boot_in(struct bsdudp *stack, const struct bsdudp_config *config, voi
    -BSDUDP_ENOMEM if malloc fails. */
 int bsdudp_boot(struct bsdudp *stack, const struct bsdudp_config *config);
 
-/* Returns why boot failed, with the name of the setting that is wrong, for example "mtu is not 68 to 4352". `result` is
+/* Returns why boot failed, with the name of the setting that is wrong, for example "mtu must be 68 to 4352". `result` is
    what boot returned. `config` and `link` are those that were passed to it; `link` is NULL for a bare stack. If several
    settings are wrong, it names the first one that boot checks. For 0 it is "ok". */
 const char *bsdudp_boot_strerror(int result, const struct bsdudp_config *config, const struct bsdudp_link *link);
@@ -257,6 +289,16 @@ int bsdudp_end(struct bsdudp *stack);
    -BSDUDP_EOPNOTSUPP if it holds a host, which receives frames: bsdudp_ether_receive.
    -BSDUDP_EMSGSIZE if `len` is above BSDUDP_PACKET. */
 int bsdudp_rx(struct bsdudp *stack, const void *packet, size_t len);
+
+/* Passes a packet to the stack as bsdudp_rx does, and stores in `*fate` what happened to it: which sockets got its
+   datagram and which lost it, that the stack keeps it as a fragment, or why it was dropped. For a fragment that
+   completes its datagram, `*fate` says what happened to the datagram. Unfinished datagrams that were dropped to free
+   buffers are not reported: ip.reclaimed counts them.
+
+   Returns 0.
+
+   Errors, with `*fate` unchanged: those of bsdudp_rx. */
+int bsdudp_rx_fate(struct bsdudp *stack, const void *packet, size_t len, struct bsdudp_fate *fate);
 
 /* Removes the oldest packet from the output queue and copies it to the front of `buffer`. The rest of the buffer is
    unchanged. Source: the book, chapter 3 (IF_DEQUEUE).
@@ -291,7 +333,10 @@ int bsdudp_tick(struct bsdudp *stack);
 
 /* Makes the ticks that are due at `now`, a time of a clock that never goes back, in milliseconds. `*due` is the time of
    the next tick, which this call updates: set it to 0 before the first call. After the first call, a tick is due every
-   BSDUDP_TICK milliseconds. If the clock was set back, the next tick is due BSDUDP_TICK milliseconds later.
+   BSDUDP_TICK milliseconds. If the clock was set back, the next tick is due BSDUDP_TICK milliseconds later. After a long
+   sleep the call makes only the ticks that can change something: at most 60 for a bare stack, and 2,400 for a host. If
+   `now` is above UINT64_MAX - BSDUDP_TICK, for example because reading the clock failed with -1, no tick is due and
+   `*due` is unchanged.
 
    Returns the number of milliseconds until the next tick is due, 1 to BSDUDP_TICK: the timeout for poll.
 
@@ -299,10 +344,11 @@ int bsdudp_tick(struct bsdudp *stack);
    -BSDUDP_ENXIO if the handle holds no stack and a tick is due. */
 int bsdudp_tick_until(struct bsdudp *stack, uint64_t now, uint64_t *due);
 
-/* ---- a host on an Ethernet: a stack with frames (RFC 894), ARP (RFC 826), replies to ping and "port unreachable" (RFC
-   792). All other calls work as for a bare stack, except bsdudp_rx and bsdudp_tx. */
+/* ---- a host on an Ethernet: a stack with frames (RFC 894), ARP (RFC 826), replies to ping, "port unreachable" and
+   "protocol unreachable" (RFC 792). All other calls work as for a bare stack, except bsdudp_rx and bsdudp_tx. */
 
-/* The size in bytes of the memory for a host with these numbers of mbufs and clusters. It is a constant if they are. */
+/* The size in bytes of the memory for a host with these numbers of mbufs and clusters. It is a constant if they are,
+   and a multiple of BSDUDP_ALIGNMENT. */
 #define BSDUDP_ETHER_MEMORY(mbufs, clusters) (BSDUDP_MEMORY(mbufs, clusters) + 14784)
 
 /* Boots a host in memory that the caller provides, as bsdudp_boot_in boots a stack. BSDUDP_ETHER_MEMORY bytes are
@@ -345,7 +391,7 @@ int bsdudp_ether_boot(struct bsdudp *stack, const struct bsdudp_config *config, 
    -BSDUDP_ENXIO if the handle holds no stack.
    -BSDUDP_EOPNOTSUPP if it holds a bare stack.
    -BSDUDP_EDOM and -BSDUDP_EINVAL as bsdudp_ether_boot_in returns them.
-   -BSDUDP_ENOMEM if `len` is below BSDUDP_ETHER_MEMORY. */
+   -BSDUDP_ENOMEM if `len` is below BSDUDP_ETHER_MEMORY by more than 15 bytes. */
 int bsdudp_ether_rehost(struct bsdudp *host, const struct bsdudp_config *config, const struct bsdudp_link *link,
                         void *memory, size_t len);
 
@@ -361,6 +407,15 @@ int bsdudp_ether_rehost(struct bsdudp *host, const struct bsdudp_config *config,
    -BSDUDP_EOPNOTSUPP if it holds a bare stack, which receives packets: bsdudp_rx.
    -BSDUDP_EMSGSIZE if `len` is above BSDUDP_ETHER_FRAME. */
 int bsdudp_ether_receive(struct bsdudp *stack, const void *frame, size_t len);
+
+/* Passes a frame to the host as bsdudp_ether_receive does, and stores in `*fate` what happened to its packet, as
+   bsdudp_rx_fate does. If no packet reached the stack, because the frame was ARP or was dropped by the link, its kind is
+   BSDUDP_NO_PACKET. A reply of the host to the packet is not reported.
+
+   Returns 0.
+
+   Errors, with `*fate` unchanged: those of bsdudp_ether_receive. */
+int bsdudp_ether_receive_fate(struct bsdudp *stack, const void *frame, size_t len, struct bsdudp_fate *fate);
 
 /* Copies the next frame for the network card to the front of `buffer`. The contents of the rest of the buffer are
    unspecified, and so are those of the whole buffer if there is no frame. The card or its driver pads a short frame to
@@ -459,6 +514,22 @@ int bsdudp_socket(struct bsdudp *stack);
    exactly the same address counts, and only if it lacks that option. */
 int bsdudp_bind(struct bsdudp *stack, uint32_t fd, const struct bsdudp_addr *local);
 
+/* Binds a socket to `local->ip` and to a port from `local->port` to `last`, so that others cannot guess the port.
+   `random` is a number that the caller draws from all numbers of 32 bits; it selects the port. If bsdudp_bind refuses a
+   port with -BSDUDP_EADDRINUSE, the call tries the following one, and `local->port` after `last`: at most 64 ports,
+   because at most 63 other sockets are open. Source: RFC 6056, section 3.3.1 (algorithm 1).
+
+   Returns the port, 1 to 65535.
+
+   Errors, with the socket unchanged:
+   -BSDUDP_ENXIO if the handle holds no stack.
+   -BSDUDP_EBADF if no open socket has the descriptor `fd`.
+   -BSDUDP_EINVAL if `local->port` is 0 or above `last`, or the socket already has a local port or address.
+   -BSDUDP_EADDRNOTAVAIL if `local->ip` is not an address to which bsdudp_bind binds.
+   -BSDUDP_EADDRINUSE if bsdudp_bind returns it for each port of the range. */
+int bsdudp_bind_random(struct bsdudp *stack, uint32_t fd, const struct bsdudp_addr *local, uint16_t last,
+                       uint32_t random);
+
 /* Connects a socket to a peer: bsdudp_send sends to the peer, and the socket receives only from it. A socket that is
    connected is first disconnected, and stays disconnected if the call fails. A missing local port or address is chosen.
    Address 0 means the host itself, and 255.255.255.255 its broadcast address. Source: the book, chapter 22
@@ -556,18 +627,41 @@ int bsdudp_recvfrom_trunc(struct bsdudp *stack, uint32_t fd, void *buffer, size_
    -BSDUDP_EBADF if no open socket has the descriptor `fd`. */
 int bsdudp_close(struct bsdudp *stack, uint32_t fd);
 
-/* Sets an option of a socket, or clears it if `on` is 0. `option` is BSDUDP_SO_BROADCAST or BSDUDP_SO_REUSEPORT.
-   Source: the book, chapter 17 (setsockopt).
+/* Sets an option of a socket. BSDUDP_SO_BROADCAST and BSDUDP_SO_REUSEPORT are cleared if `value` is 0, otherwise set.
+   BSDUDP_SO_RCVBUF is the size of the receive queue, in bytes. Its datagrams have at most `value` bytes, with 16 for
+   each sender's address. Their mbufs and clusters have at most 2 * `value` bytes of memory: 128 for each mbuf, and
+   2,048 more for one with a cluster. So the queue never holds more than BSDUDP_RCVBUF_MBUFS(value) mbufs and
+   BSDUDP_RCVBUF_CLUSTERS(value) clusters, whatever arrives. 1,488 bytes are enough for a datagram in one packet of
+   1,500 bytes; below 1,152 bytes no datagram fits that needs a cluster. A datagram that does not fit is dropped and
+   counted (udp.fullsock). Queued datagrams stay, even if they exceed the new size. A new socket has no size of its own:
+   its queue takes 41,600 bytes, and up to 83,200 bytes of memory before the last datagram. Source: the book, chapters
+   16 and 17 (sbreserve, setsockopt); in 4.4BSD a datagram's own mbufs do not count.
 
    Returns 0.
 
    Errors:
    -BSDUDP_ENXIO if the handle holds no stack.
    -BSDUDP_EBADF if no open socket has the descriptor `fd`.
+   -BSDUDP_EINVAL if `value` is not 1 to 65,535 for BSDUDP_SO_RCVBUF. 4.4BSD accepts up to 246,723.
    -BSDUDP_ENOPROTOOPT if there is no such option. */
-int bsdudp_setsockopt(struct bsdudp *stack, uint32_t fd, int option, int on);
+int bsdudp_setsockopt(struct bsdudp *stack, uint32_t fd, int option, int value);
+
+/* The most mbufs and clusters that a receive queue of this size holds: the bound of BSDUDP_SO_RCVBUF. If the bounds of
+   all sockets, the packets of the output queue and a send's own buffers together fit into the pool, the send does not
+   fail with -BSDUDP_ENOBUFS, whatever arrives. */
+#define BSDUDP_RCVBUF_MBUFS(size) (BSDUDP_CAST(uint32_t, size) * 2 / 128)
+#define BSDUDP_RCVBUF_CLUSTERS(size) (BSDUDP_CAST(uint32_t, size) * 2 / 2176)
 
 /* ---- queries: they change nothing */
+
+/* Returns an option of a socket: 1 or 0 for BSDUDP_SO_BROADCAST and BSDUDP_SO_REUSEPORT, the size in bytes for
+   BSDUDP_SO_RCVBUF, or 0 if none was set. Source: the book, chapter 17 (getsockopt).
+
+   Errors:
+   -BSDUDP_ENXIO if the handle holds no stack.
+   -BSDUDP_EBADF if no open socket has the descriptor `fd`.
+   -BSDUDP_ENOPROTOOPT if there is no such option. */
+int bsdudp_getsockopt(struct bsdudp *stack, uint32_t fd, int option);
 
 /* Reads the local and foreign address and port of a socket, and its options, into `*name`. Source: the book, chapter 17
    (getsockname, getpeername, getsockopt).

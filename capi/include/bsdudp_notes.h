@@ -3,8 +3,9 @@
  * number of datagrams that the socket lost before it. Each datagram that waits in a receive queue can have a note.
  *
  * Notes are kept in memory of the caller. A socket with notes has a `struct bsdudp_notes` and a ring of `struct
- * bsdudp_note`. All packets go through bsdudp_rx_noted or bsdudp_ether_receive_noted, and the socket's datagrams are
- * received by bsdudp_recvfrom_noted. A program that does not make these calls is linked without them.
+ * bsdudp_note`. All packets go through bsdudp_rx_noted or bsdudp_ether_receive_noted, or bsdudp_note_fate is called for
+ * each of them, and the socket's datagrams are received by bsdudp_recvfrom_noted. A program that does not make these
+ * calls is linked without them.
  *
  * The rules of bsdudp.h apply, also to results and errors. Do not access the members of a `struct bsdudp_notes`.
  */
@@ -20,7 +21,8 @@ extern "C" {
 /* A note about a datagram. If it came in fragments, the note is about the packet that completed it. */
 struct bsdudp_note {
     uint64_t time;   /* the time that was passed with its packet */
-    uint64_t drops;  /* how many datagrams for its socket were dropped before it, because the receive queue was full */
+    uint64_t drops;  /* how many datagrams its socket lost before it: the receive queue was full, or the pool had too few
+                        buffers */
     uint64_t number; /* private */
     uint32_t to;     /* the destination address of its packet */
     uint8_t ttl;     /* time to live */
@@ -50,8 +52,7 @@ int bsdudp_note_socket(struct bsdudp *stack, struct bsdudp_notes *notes, uint32_
    `notes` points to the notes of `count` sockets; those of a closed socket are skipped. `time` is a time of the
    caller's, of any unit.
 
-   If the datagram is dropped because a receive queue is full, the notes of that socket count it. A datagram in
-   fragments is counted only if its first fragment arrives last, because the others do not name the port.
+   The notes of a socket that loses the datagram count it: `lost` of a `struct bsdudp_fate` has these sockets.
 
    Returns 0.
 
@@ -66,6 +67,17 @@ int bsdudp_rx_noted(struct bsdudp *stack, struct bsdudp_notes *notes, uint32_t c
    Errors: those of bsdudp_ether_receive. */
 int bsdudp_ether_receive_noted(struct bsdudp *stack, struct bsdudp_notes *notes, uint32_t count, const void *frame,
                                size_t len, uint64_t time);
+
+/* Adds the notes for a packet that was passed to the stack already, for a program that also reads its fate: `fate` is
+   what bsdudp_rx_fate stored for the packet, and no other call was made since. bsdudp_rx_noted makes both calls. For a
+   frame, `packet` points behind its 14 bytes of header, and `fate` is from bsdudp_ether_receive_fate.
+
+   Returns 0.
+
+   Errors:
+   -BSDUDP_ENXIO if the handle holds no stack. */
+int bsdudp_note_fate(struct bsdudp *stack, struct bsdudp_notes *notes, uint32_t count, const void *packet, size_t len,
+                     uint64_t time, const struct bsdudp_fate *fate);
 
 /* Receives as bsdudp_recvfrom does, from the socket of `*notes`, and stores the datagram's note in `*note`.
 

@@ -6,6 +6,7 @@
 /* The core's exports. Lengths have 64 bits on every host. */
 int bsdudp_core_end(struct bsdudp_core *);
 int bsdudp_core_rx(struct bsdudp_core *, const uint8_t *, uint64_t);
+int bsdudp_core_rx_fate(struct bsdudp_core *, const uint8_t *, uint64_t, struct bsdudp_fate *);
 int bsdudp_core_tx(struct bsdudp_core *, uint8_t *, uint64_t);
 int bsdudp_core_tick(struct bsdudp_core *);
 int bsdudp_core_socket(struct bsdudp_core *);
@@ -18,7 +19,9 @@ int bsdudp_core_peek(struct bsdudp_core *, uint32_t, uint8_t *, uint64_t, struct
 int bsdudp_core_close(struct bsdudp_core *, uint32_t);
 int bsdudp_core_set_broadcast(struct bsdudp_core *, uint32_t, bool);
 int bsdudp_core_set_reuse_port(struct bsdudp_core *, uint32_t, bool);
+int bsdudp_core_set_receive_limit(struct bsdudp_core *, uint32_t, uint16_t);
 int bsdudp_core_name(struct bsdudp_core *, uint32_t, struct bsdudp_name *);
+int bsdudp_core_receive_limit(struct bsdudp_core *, uint32_t);
 int bsdudp_core_next(struct bsdudp_core *, uint32_t, struct bsdudp_next *);
 int bsdudp_core_readable(struct bsdudp_core *, uint64_t *);
 int bsdudp_core_output_len(struct bsdudp_core *);
@@ -38,7 +41,7 @@ int bsdudp_end(struct bsdudp *stack)
         stack->tick_link = NULL;
         stack->end_link = NULL;
     }
-    if (answer == 0 && stack->block != NULL) {
+    if (answer == 0 && stack->give_back != NULL) {
         stack->give_back(stack->block);
         stack->block = NULL;
         stack->give_back = NULL;
@@ -51,6 +54,11 @@ int bsdudp_end(struct bsdudp *stack)
 int bsdudp_rx(struct bsdudp *s, const void *packet, size_t len)
 {
     return s->tick_link != NULL ? -BSDUDP_EOPNOTSUPP : bsdudp_core_rx(&s->core, packet, len);
+}
+
+int bsdudp_rx_fate(struct bsdudp *s, const void *packet, size_t len, struct bsdudp_fate *fate)
+{
+    return s->tick_link != NULL ? -BSDUDP_EOPNOTSUPP : bsdudp_core_rx_fate(&s->core, packet, len, fate);
 }
 
 int bsdudp_tx(struct bsdudp *s, void *buffer, size_t len)
@@ -99,18 +107,40 @@ int bsdudp_peek(struct bsdudp *s, uint32_t fd, void *buffer, size_t len, struct 
     return bsdudp_core_peek(&s->core, fd, buffer, len, from != NULL ? from : &ignored);
 }
 
-int bsdudp_setsockopt(struct bsdudp *s, uint32_t fd, int option, int on)
+int bsdudp_setsockopt(struct bsdudp *s, uint32_t fd, int option, int value)
 {
     struct bsdudp_name name;
     int answer;
     switch (option) {
     case BSDUDP_SO_BROADCAST:
-        return bsdudp_core_set_broadcast(&s->core, fd, on != 0);
+        return bsdudp_core_set_broadcast(&s->core, fd, value != 0);
     case BSDUDP_SO_REUSEPORT:
-        return bsdudp_core_set_reuse_port(&s->core, fd, on != 0);
+        return bsdudp_core_set_reuse_port(&s->core, fd, value != 0);
+    case BSDUDP_SO_RCVBUF:
+        if (value > 0 && value <= UINT16_MAX)
+            return bsdudp_core_set_receive_limit(&s->core, fd, (uint16_t)value);
+        /* fall through */
     default: /* a handle without a stack and a wrong descriptor come first */
         answer = bsdudp_core_name(&s->core, fd, &name);
-        return answer < 0 ? answer : -BSDUDP_ENOPROTOOPT;
+        return answer < 0 ? answer : option == BSDUDP_SO_RCVBUF ? -BSDUDP_EINVAL : -BSDUDP_ENOPROTOOPT;
+    }
+}
+
+int bsdudp_getsockopt(struct bsdudp *s, uint32_t fd, int option)
+{
+    struct bsdudp_name name = {0, 0, 0, 0, 0, 0};
+    const int answer = bsdudp_core_name(&s->core, fd, &name);
+    if (answer < 0)
+        return answer;
+    switch (option) {
+    case BSDUDP_SO_BROADCAST:
+        return name.broadcast;
+    case BSDUDP_SO_REUSEPORT:
+        return name.reuse_port;
+    case BSDUDP_SO_RCVBUF:
+        return bsdudp_core_receive_limit(&s->core, fd);
+    default:
+        return -BSDUDP_ENOPROTOOPT;
     }
 }
 

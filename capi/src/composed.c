@@ -18,15 +18,45 @@ int bsdudp_disconnect(struct bsdudp *stack, uint32_t fd)
     return answer == -BSDUDP_EADDRNOTAVAIL ? 0 : answer;
 }
 
+/* Among 64 ports one is free, because at most 63 other sockets are open. */
+int bsdudp_bind_random(struct bsdudp *stack, uint32_t fd, const struct bsdudp_addr *local, uint16_t last,
+                       uint32_t random)
+{
+    const uint32_t first = local->port, count = first <= last ? last - first + 1 : 0;
+    struct bsdudp_addr at = {local->ip, 0};
+    struct bsdudp_name name;
+    uint32_t tried = 0;
+    int answer = bsdudp_getsockname(stack, fd, &name);
+    if (answer == 0 && (first == 0 || count == 0))
+        answer = -BSDUDP_EINVAL;
+    if (answer < 0)
+        return answer;
+    do {
+        at.port = (uint16_t)(first + (random % count + tried) % count);
+        answer = bsdudp_bind(stack, fd, &at);
+    } while (answer == -BSDUDP_EADDRINUSE && ++tried < count);
+    return answer < 0 ? answer : at.port;
+}
+
+/* After so many ticks in a row further ones change nothing: an unfinished datagram expires after 60 (`ticks_settle` of
+   flat_model proves that no more changes), and an entry in a host's table of neighbours after 2,400. */
+enum { LAST_TICK_OF_STACK = 60, LAST_TICK_OF_HOST = 2400 };
+
 int bsdudp_tick_until(struct bsdudp *stack, uint64_t now, uint64_t *due)
 {
+    const uint64_t most = stack->tick_link != NULL ? LAST_TICK_OF_HOST : LAST_TICK_OF_STACK;
+    uint64_t missed, made;
+    if (now > UINT64_MAX - BSDUDP_TICK) /* no sum below wraps */
+        return BSDUDP_TICK;
     if (*due == 0 || *due > now + BSDUDP_TICK) /* the first call, or a clock that was set back */
         *due = now + BSDUDP_TICK;
-    for (; *due <= now; *due += BSDUDP_TICK) {
+    missed = *due <= now ? (now - *due) / BSDUDP_TICK + 1 : 0;
+    for (made = 0; made < missed && made < most; made++) {
         int answer = bsdudp_tick(stack);
         if (answer < 0)
             return answer;
     }
+    *due += missed * BSDUDP_TICK;
     return (int)(*due - now);
 }
 
@@ -105,24 +135,24 @@ static int fault_of(const struct bsdudp_config *config, uint32_t bcast)
 const char *bsdudp_boot_strerror(int result, const struct bsdudp_config *config, const struct bsdudp_link *link)
 {
     static const char *const texts[] = {
-        "memory is not aligned to BSDUDP_ALIGNMENT bytes",
-        "mbufs is not 1 to 65535",
-        "clusters is above 4096",
-        "mtu is not 68 to 4352",
-        "addr is not an address of a host: 1.0.0.0 to 223.255.255.255, not in 127/8",
-        "bcast is not in the range of addr: 1.0.0.0 to 223.255.255.255, not in 127/8",
-        "addr and bcast are equal",
-        "mtu is above 1500, the most on an Ethernet",
-        "mac is a group address: its first byte is odd",
-        "mac is 0",
-        "mask is not ones followed by zeros",
-        "bcast is not the last address of the network of mask; 0 stands for that",
-        "gateway is not a neighbour: not on the network of mask, or addr or bcast itself",
+        "memory must be aligned to BSDUDP_ALIGNMENT bytes",
+        "mbufs must be 1 to 65535",
+        "clusters must be at most 4096",
+        "mtu must be 68 to 4352",
+        "addr must be 1.0.0.0 to 223.255.255.255, and not in 127/8",
+        "bcast must be 1.0.0.0 to 223.255.255.255, and not in 127/8",
+        "bcast must differ from addr",
+        "mtu must be at most 1500 on an Ethernet",
+        "mac must not be a group address: its first byte is odd",
+        "mac must not be 0",
+        "mask must be ones followed by zeros",
+        "bcast must be 0 or the last address of mask's network",
+        "gateway must be a neighbour: on mask's network, and neither addr nor bcast",
     };
     uint32_t bcast = config->bcast;
     int fault = NO_FAULT;
     if (result == -BSDUDP_ENXIO)
-        return "the handle holds a stack already: end it first";
+        return "the handle already holds a stack: end it first";
     if (result == -BSDUDP_ENOMEM)
         return "len is too small for mbufs and clusters, or malloc failed";
     if (result != -BSDUDP_EINVAL && result != -BSDUDP_EDOM)

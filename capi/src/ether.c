@@ -26,6 +26,8 @@ int bsdudp_core_ether_boot(struct bsdudp_core *link, const struct bsdudp_config 
 int bsdudp_core_ether_end(struct bsdudp_core *link);
 int bsdudp_core_ether_tick(struct bsdudp_core *link);
 int bsdudp_core_ether_receive(struct bsdudp_core *, struct bsdudp_core *link, const uint8_t *, uint64_t);
+int bsdudp_core_ether_receive_fate(struct bsdudp_core *, struct bsdudp_core *link, const uint8_t *, uint64_t,
+                                   struct bsdudp_fate *);
 int bsdudp_core_ether_transmit(struct bsdudp_core *, struct bsdudp_core *link, uint8_t *, uint64_t);
 int bsdudp_core_ether_last_error(struct bsdudp_core *, struct bsdudp_core *link, uint32_t);
 int bsdudp_core_ether_address(struct bsdudp_core *link);
@@ -71,6 +73,11 @@ int bsdudp_ether_boot_in(struct bsdudp *stack, const struct bsdudp_config *given
 int bsdudp_ether_receive(struct bsdudp *s, const void *frame, size_t len)
 {
     return bsdudp_core_ether_receive(&s->core, &s->link, frame, len);
+}
+
+int bsdudp_ether_receive_fate(struct bsdudp *s, const void *frame, size_t len, struct bsdudp_fate *fate)
+{
+    return bsdudp_core_ether_receive_fate(&s->core, &s->link, frame, len, fate);
 }
 
 int bsdudp_ether_transmit(struct bsdudp *s, void *buffer, size_t len)

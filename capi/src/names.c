@@ -82,8 +82,8 @@ static const struct error errors[] = {
     {BSDUDP_EACCES, "EACCES",
      "the destination is the broadcast address, and the socket is not allowed to send to it; SO_BROADCAST allows it"},
     {BSDUDP_EINVAL, "EINVAL",
-     "boot: a wrong setting, which bsdudp_boot_strerror names; bind: the socket is already bound; a query: no such "
-     "number"},
+     "boot: a wrong setting, which bsdudp_boot_strerror names; bind: the socket is already bound; bind_random: no "
+     "port is in the range; a query: no such number"},
     {BSDUDP_EMFILE, "EMFILE",
      "all descriptors are open; at most 64"},
     {BSDUDP_EDOM, "EDOM",

@@ -1,7 +1,7 @@
-/* The notes of sockets: made of calls of bsdudp.h. A socket whose receive queue grew got the datagram. */
+/* The notes of sockets: made of calls of bsdudp.h. The fate of a packet says which sockets got its datagram. */
 #include "bsdudp_notes.h"
 
-enum { IP_HEADER = 20, UDP_HEADER = 8, ETHER_HEADER = 14, UDP_FULLSOCK = 21 };
+enum { IP_HEADER = 20, ETHER_HEADER = 14 };
 
 static uint32_t get16(const uint8_t *at) { return (uint32_t)at[0] << 8 | at[1]; }
 static uint32_t get32(const uint8_t *at) { return get16(at) << 16 | get16(at + 2); }
@@ -12,11 +12,10 @@ static uint64_t waiting(struct bsdudp *stack, uint32_t fd)
     return bsdudp_next(stack, fd, &next) == 0 ? next.waiting : 0;
 }
 
-/* Datagrams are numbered as they come: `read` is the oldest one's number. Those that came or went by other calls have
-   no note. */
-static void follow(struct bsdudp *stack, struct bsdudp_notes *it)
+/* Datagrams are numbered as they come: `read` is the oldest one's number, and `now` of them wait. Those that came or
+   went by other calls have no note. */
+static void follow(struct bsdudp_notes *it, uint64_t now)
 {
-    const uint64_t now = waiting(stack, it->fd);
     if (now > it->came - it->read)
         it->came = it->read + now;
     else
@@ -27,9 +26,11 @@ static void follow(struct bsdudp *stack, struct bsdudp_notes *it)
     }
 }
 
-static void add(struct bsdudp_notes *it, const uint8_t *packet, uint64_t time)
+/* The newest datagram in the queue came in this packet. */
+static void add(struct bsdudp *stack, struct bsdudp_notes *it, const uint8_t *packet, uint64_t time)
 {
     struct bsdudp_note *note;
+    follow(it, waiting(stack, it->fd) - 1);
     it->came++;
     if (it->count == it->room)
         return;
@@ -41,68 +42,6 @@ static void add(struct bsdudp_notes *it, const uint8_t *packet, uint64_t time)
     note->ttl = packet[8];
     note->tos = packet[1];
     note->known = 1;
-}
-
-/* Returns how well a socket matches the datagram of a packet, 1 to 3, or 0 if it doesn't (the book, chapter 22:
-   in_pcblookup). */
-static int match(struct bsdudp *stack, uint32_t fd, const uint8_t *packet)
-{
-    struct bsdudp_name name;
-    if (bsdudp_getsockname(stack, fd, &name) < 0 || name.local_port != get16(packet + 22) ||
-        (name.local_ip != 0 && name.local_ip != get32(packet + 16)))
-        return 0;
-    if (name.peer_port == 0)
-        return 1 + (name.local_ip != 0);
-    return name.peer_ip == get32(packet + 12) && name.peer_port == get16(packet + 20) ? 3 : 0;
-}
-
-/* This number of receive queues was full: those that match best, and didn't grow. */
-static void count_drops(struct bsdudp *stack, struct bsdudp_notes *notes, uint32_t count, const uint8_t *packet,
-                        uint64_t dropped)
-{
-    struct bsdudp_notes *best;
-    uint32_t k;
-    int most, found;
-    for (most = 3; most > 0; most--) {
-        for (k = 0; k < count && dropped > 0; k++) {
-            best = &notes[k];
-            found = waiting(stack, best->fd) == best->came - best->read ? match(stack, best->fd, packet) : 0;
-            if (found == most) {
-                best->drops++;
-                dropped--;
-            }
-        }
-    }
-}
-
-static uint64_t fullsock(struct bsdudp *stack)
-{
-    uint64_t value = 0;
-    bsdudp_counter(stack, UDP_FULLSOCK, &value);
-    return value;
-}
-
-/* A packet arrived, or a frame with other data, which no socket gets. */
-static void add_notes(struct bsdudp *stack, struct bsdudp_notes *notes, uint32_t count, const uint8_t *packet,
-                      size_t len, uint64_t time, uint64_t full)
-{
-    const uint64_t dropped = fullsock(stack) - full;
-    uint32_t k;
-    if (len < IP_HEADER)
-        return;
-    if (len >= IP_HEADER + UDP_HEADER && (get16(packet + 6) & 0x1fff) == 0)
-        count_drops(stack, notes, count, packet, dropped);
-    for (k = 0; k < count; k++)
-        if (waiting(stack, notes[k].fd) > notes[k].came - notes[k].read)
-            add(&notes[k], packet, time);
-}
-
-static uint64_t follow_all(struct bsdudp *stack, struct bsdudp_notes *notes, uint32_t count)
-{
-    uint32_t k;
-    for (k = 0; k < count; k++)
-        follow(stack, &notes[k]);
-    return fullsock(stack);
 }
 
 int bsdudp_note_socket(struct bsdudp *stack, struct bsdudp_notes *notes, uint32_t fd, struct bsdudp_note *ring,
@@ -120,24 +59,37 @@ int bsdudp_note_socket(struct bsdudp *stack, struct bsdudp_notes *notes, uint32_
     return 0;
 }
 
+/* A packet that is shorter than a header goes to no socket. */
+int bsdudp_note_fate(struct bsdudp *stack, struct bsdudp_notes *notes, uint32_t count, const void *packet, size_t len,
+                     uint64_t time, const struct bsdudp_fate *fate)
+{
+    const int answer = bsdudp_output_len(stack);
+    uint32_t k;
+    for (k = 0; k < count && answer >= 0 && len >= IP_HEADER; k++) {
+        const uint64_t bit = (uint64_t)1 << (notes[k].fd - BSDUDP_FIRST_FD);
+        notes[k].drops += (fate->lost & bit) != 0;
+        if ((fate->got & bit) != 0)
+            add(stack, &notes[k], packet, time);
+    }
+    return answer < 0 ? answer : 0;
+}
+
 int bsdudp_rx_noted(struct bsdudp *stack, struct bsdudp_notes *notes, uint32_t count, const void *packet, size_t len,
                     uint64_t time)
 {
-    const uint64_t full = follow_all(stack, notes, count);
-    const int answer = bsdudp_rx(stack, packet, len);
-    if (answer == 0)
-        add_notes(stack, notes, count, packet, len, time, full);
-    return answer;
+    struct bsdudp_fate fate;
+    const int answer = bsdudp_rx_fate(stack, packet, len, &fate);
+    return answer < 0 ? answer : bsdudp_note_fate(stack, notes, count, packet, len, time, &fate);
 }
 
 int bsdudp_ether_receive_noted(struct bsdudp *stack, struct bsdudp_notes *notes, uint32_t count, const void *frame,
                                size_t len, uint64_t time)
 {
-    const uint64_t full = follow_all(stack, notes, count);
-    const int answer = bsdudp_ether_receive(stack, frame, len);
-    if (answer == 0 && len > ETHER_HEADER)
-        add_notes(stack, notes, count, (const uint8_t *)frame + ETHER_HEADER, len - ETHER_HEADER, time, full);
-    return answer;
+    struct bsdudp_fate fate;
+    const int answer = bsdudp_ether_receive_fate(stack, frame, len, &fate);
+    if (answer < 0 || len < ETHER_HEADER)
+        return answer;
+    return bsdudp_note_fate(stack, notes, count, (const uint8_t *)frame + ETHER_HEADER, len - ETHER_HEADER, time, &fate);
 }
 
 int bsdudp_recvfrom_noted(struct bsdudp *stack, struct bsdudp_notes *notes, void *buffer, size_t len,
@@ -145,11 +97,11 @@ int bsdudp_recvfrom_noted(struct bsdudp *stack, struct bsdudp_notes *notes, void
 {
     static const struct bsdudp_note none = {0, 0, 0, 0, 0, 0, 0};
     int answer;
-    follow(stack, notes);
+    follow(notes, waiting(stack, notes->fd));
     answer = bsdudp_recvfrom(stack, notes->fd, buffer, len, from);
     if (answer < 0)
         return answer;
     *note = notes->count > 0 && notes->ring[notes->first].number == notes->read ? notes->ring[notes->first] : none;
-    follow(stack, notes);
+    follow(notes, waiting(stack, notes->fd));
     return answer;
 }

@@ -44,6 +44,8 @@ static int without_a_stack(struct bsdudp *s)
     WANT(bsdudp_tick(s), -BSDUDP_ENXIO);
     WANT(bsdudp_socket(s), -BSDUDP_ENXIO);
     WANT(bsdudp_bind(s, 3, &any), -BSDUDP_ENXIO);
+    WANT(bsdudp_bind_random(s, 3, &any, 9, 1), -BSDUDP_ENXIO);
+    WANT(bsdudp_bind_random(s, 3, &any, 6, 1), -BSDUDP_ENXIO);
     WANT(bsdudp_connect(s, 3, &to_far), -BSDUDP_ENXIO);
     WANT(bsdudp_sendto(s, 3, &to_far, bytes, 1), -BSDUDP_ENXIO);
     WANT(bsdudp_send(s, 3, bytes, 1), -BSDUDP_ENXIO);
@@ -52,6 +54,10 @@ static int without_a_stack(struct bsdudp *s)
     WANT(bsdudp_close(s, 3), -BSDUDP_ENXIO);
     WANT(bsdudp_setsockopt(s, 3, BSDUDP_SO_BROADCAST, 1), -BSDUDP_ENXIO);
     WANT(bsdudp_setsockopt(s, 3, 1, 1), -BSDUDP_ENXIO);
+    WANT(bsdudp_setsockopt(s, 3, BSDUDP_SO_RCVBUF, 1), -BSDUDP_ENXIO);
+    WANT(bsdudp_setsockopt(s, 3, BSDUDP_SO_RCVBUF, 0), -BSDUDP_ENXIO);
+    WANT(bsdudp_getsockopt(s, 3, BSDUDP_SO_RCVBUF), -BSDUDP_ENXIO);
+    WANT(bsdudp_getsockopt(s, 3, 1), -BSDUDP_ENXIO);
     WANT(bsdudp_getsockname(s, 3, &name), -BSDUDP_ENXIO);
     WANT(bsdudp_recvfrom_trunc(s, 3, buffer, sizeof buffer, &from), -BSDUDP_ENXIO);
     WANT(bsdudp_disconnect(s, 3), -BSDUDP_ENXIO);
@@ -96,8 +102,9 @@ static int texts(void)
         {0xe0000001, 0x0a0000ff, 64, 16, 1500, 1},      {0x7f000001, 0x0a0000ff, 64, 16, 1500, 1},
         {0x0a000001, 0x0a000001, 64, 16, 1500, 1},
     };
-    static const char *const names[] = {"mbufs is", "mbufs is", "clusters is", "mtu is", "mtu is", "addr is",
-                                        "bcast is", "bcast is", "addr is", "addr is", "addr and bcast are equal"};
+    static const char *const names[] = {"mbufs must", "mbufs must", "clusters must", "mtu must", "mtu must",
+                                        "addr must", "bcast must", "bcast must", "addr must", "addr must",
+                                        "bcast must differ from addr"};
     const struct bsdudp_config right = config();
     size_t i;
     for (i = 0; i < sizeof wrong / sizeof wrong[0]; i++) {
@@ -108,7 +115,7 @@ static int texts(void)
         WANT(strstr(text, "socket") == NULL, 1);
     }
     i = (size_t)-bsdudp_boot_in(&near_, &right, memory + 1, sizeof memory - 1);
-    WANT(strncmp(bsdudp_boot_strerror(-(int)i, &right, NULL), "memory is not aligned", 21), 0);
+    WANT(strncmp(bsdudp_boot_strerror(-(int)i, &right, NULL), "memory must be aligned", 22), 0);
     i = (size_t)-bsdudp_boot_in(&near_, &right, memory, 1000);
     WANT(strncmp(bsdudp_boot_strerror(-(int)i, &right, NULL), "len is too small", 16), 0);
     WANT(strcmp(bsdudp_boot_strerror(0, &right, NULL), "ok"), 0);
@@ -169,6 +176,8 @@ static int sockets(void)
     WANT(bsdudp_setsockopt(&near_, 5, BSDUDP_SO_BROADCAST, 1), -BSDUDP_EBADF);
     WANT(bsdudp_setsockopt(&near_, 5, 1, 1), -BSDUDP_EBADF);
     WANT(bsdudp_setsockopt(&near_, 3, 1, 1), -BSDUDP_ENOPROTOOPT);
+    WANT(bsdudp_getsockopt(&near_, 5, BSDUDP_SO_RCVBUF), -BSDUDP_EBADF);
+    WANT(bsdudp_getsockopt(&near_, 3, 1), -BSDUDP_ENOPROTOOPT);
     WANT(bsdudp_setsockopt(&near_, 3, BSDUDP_SO_REUSEPORT, 1), 0);
     WANT(bsdudp_connect(&near_, 3, &to_far), 0);
     WANT(bsdudp_getsockname(&near_, 3, &name), 0);
@@ -184,6 +193,125 @@ static int sockets(void)
     for (fd = 66; fd > 3; fd--)
         WANT(bsdudp_close(&near_, (uint32_t)fd), 0);
     WANT(bsdudp_close(&near_, 4), -BSDUDP_EBADF);
+    return 0;
+}
+
+/* The least size of a receive queue that holds one datagram of this length, by tests at all sizes from 1 on. */
+static int least_size(size_t len)
+{
+    const struct bsdudp_addr to = {0x0a000002, 9};
+    int size = 0, came = -1;
+    while (came < 0 && ++size < 65535) {
+        bsdudp_setsockopt(&far_, 4, BSDUDP_SO_RCVBUF, size);
+        bsdudp_sendto(&near_, 4, &to, bytes, len);
+        bsdudp_rx(&far_, packet, (size_t)bsdudp_tx(&near_, packet, sizeof packet));
+        came = bsdudp_recvfrom(&far_, 4, buffer, sizeof buffer, NULL);
+    }
+    return size;
+}
+
+/* The size of a receive queue: refusals, what a new socket has, and what it holds. The least sizes follow from the mbufs
+   of the datagram: up to 72 bytes are in one with the headers, up to 179 in two, more in a cluster; the address has one
+   more. They are the bytes with 16 for the address, or half of 128 bytes for each mbuf and 2,048 for the cluster. */
+static int sizes(void)
+{
+    static const int wrong[] = {0, -1, 65536, INT_MIN, INT_MAX};
+    const struct bsdudp_addr local = {0, 9};
+    size_t i;
+    WANT(bsdudp_setsockopt(&far_, 5, BSDUDP_SO_RCVBUF, 1), -BSDUDP_EBADF);
+    WANT(bsdudp_setsockopt(&far_, 5, BSDUDP_SO_RCVBUF, 0), -BSDUDP_EBADF);
+    for (i = 0; i < sizeof wrong / sizeof wrong[0]; i++)
+        WANT(bsdudp_setsockopt(&far_, 4, BSDUDP_SO_RCVBUF, wrong[i]), -BSDUDP_EINVAL);
+    WANT(bsdudp_getsockopt(&far_, 4, BSDUDP_SO_RCVBUF), 0);
+    WANT(bsdudp_setsockopt(&far_, 4, BSDUDP_SO_RCVBUF, 65535), 0);
+    WANT(bsdudp_getsockopt(&far_, 4, BSDUDP_SO_RCVBUF), 65535);
+    WANT(bsdudp_setsockopt(&far_, 4, BSDUDP_SO_RCVBUF, 0), -BSDUDP_EINVAL);
+    WANT(bsdudp_getsockopt(&far_, 4, BSDUDP_SO_RCVBUF), 65535);
+    WANT(bsdudp_getsockopt(&far_, 3, BSDUDP_SO_RCVBUF), 0);
+    WANT(bsdudp_getsockopt(&far_, 4, BSDUDP_SO_BROADCAST), 0);
+    WANT(bsdudp_getsockopt(&far_, 4, BSDUDP_SO_REUSEPORT), 0);
+    WANT(bsdudp_setsockopt(&far_, 4, BSDUDP_SO_BROADCAST, 1), 0);
+    WANT(bsdudp_getsockopt(&far_, 4, BSDUDP_SO_BROADCAST), 1);
+    WANT(bsdudp_getsockopt(&far_, 4, BSDUDP_SO_REUSEPORT), 0);
+    WANT(bsdudp_setsockopt(&far_, 4, BSDUDP_SO_REUSEPORT, -1), 0);
+    WANT(bsdudp_getsockopt(&far_, 4, BSDUDP_SO_REUSEPORT), 1);
+    WANT(bsdudp_bind(&far_, 4, &local), 0);
+    WANT(bsdudp_socket(&near_), 4);
+    WANT(least_size(0), 128);
+    WANT(least_size(72), 128);
+    WANT(least_size(73), 192);
+    WANT(least_size(176), 192);
+    WANT(least_size(179), 195);
+    WANT(least_size(180), 1152);
+    WANT(least_size(1136), 1152);
+    WANT(least_size(1137), 1153);
+    WANT(least_size(1472), 1488);
+    WANT(bsdudp_close(&near_, 4), 0);
+    WANT(bsdudp_close(&far_, 4), 0);
+    WANT(bsdudp_socket(&far_), 4);
+    WANT(bsdudp_getsockopt(&far_, 4, BSDUDP_SO_RCVBUF), 0);
+    WANT(BSDUDP_RCVBUF_MBUFS(1488), 23);
+    WANT(BSDUDP_RCVBUF_CLUSTERS(1488), 1);
+    WANT(BSDUDP_RCVBUF_MBUFS(65535), 1023);
+    WANT(BSDUDP_RCVBUF_CLUSTERS(65535), 60);
+    return 0;
+}
+
+/* The port that a number draws from 7 to 10 at a new socket of far, which then closes. */
+static int drawn(uint32_t random)
+{
+    const int fd = bsdudp_socket(&far_), port = bsdudp_bind_random(&far_, (uint32_t)fd, &any, 10, random);
+    struct bsdudp_name name = {0, 0, 0, 0, 0, 0};
+    bsdudp_getsockname(&far_, (uint32_t)fd, &name);
+    bsdudp_close(&far_, (uint32_t)fd);
+    return port < 0 || name.local_port == port ? port : 0;
+}
+
+/* A port by a random number. Port 7 is in use. */
+static int random_ports(void)
+{
+    const struct bsdudp_addr none = {0, 0}, last = {0, 65535}, wrong = {0x0b000001, 7}, own = {0x0a000002, 65534};
+    struct bsdudp_name name;
+    int fd;
+    WANT(bsdudp_bind_random(&far_, 5, &any, 9, 1), -BSDUDP_EBADF);
+    WANT(bsdudp_bind_random(&far_, 5, &any, 6, 1), -BSDUDP_EBADF);
+    WANT(bsdudp_bind_random(&far_, 3, &any, 9, 1), -BSDUDP_EINVAL);
+    WANT(bsdudp_bind_random(&far_, 4, &any, 6, 1), -BSDUDP_EINVAL);
+    WANT(bsdudp_bind_random(&far_, 4, &none, 9, 1), -BSDUDP_EINVAL);
+    WANT(bsdudp_bind_random(&far_, 4, &none, 0, 1), -BSDUDP_EINVAL);
+    WANT(bsdudp_bind_random(&far_, 4, &wrong, 9, 1), -BSDUDP_EADDRNOTAVAIL);
+    WANT(bsdudp_bind_random(&far_, 4, &any, 7, 1), -BSDUDP_EADDRINUSE);
+    WANT(bsdudp_getsockname(&far_, 4, &name), 0);
+    WANT(name.local_ip == 0 && name.local_port == 0, 1);
+    WANT(drawn(1), 8);
+    WANT(drawn(3), 10);
+    WANT(drawn(4 * 9 + 2), 9);
+    WANT(drawn(UINT32_MAX), 10);
+    WANT(drawn(0), 8); /* the one after 7 */
+    WANT(bsdudp_bind_random(&far_, 4, &any, 10, 3), 10);
+    WANT(drawn(3), 8); /* the first one after the last, and 7 is in use */
+    WANT(bsdudp_socket(&far_), 5);
+    WANT(bsdudp_bind_random(&far_, 5, &any, 10, 1), 8);
+    WANT(drawn(UINT32_MAX), 9); /* 10, 7 and 8 are in use */
+    WANT(bsdudp_socket(&far_), 6);
+    WANT(bsdudp_bind_random(&far_, 6, &any, 9, UINT32_MAX), 9); /* the number draws 7; no sum may wrap */
+    WANT(bsdudp_close(&far_, 6) || bsdudp_close(&far_, 5), 0);
+    WANT(bsdudp_socket(&far_), 5);
+    WANT(bsdudp_bind_random(&far_, 5, &own, 65535, UINT32_MAX), 65535);
+    WANT(bsdudp_getsockname(&far_, 5, &name), 0);
+    WANT(name.local_ip == own.ip && name.local_port == 65535, 1);
+    WANT(bsdudp_socket(&far_), 6);
+    WANT(bsdudp_bind_random(&far_, 6, &last, 65535, 7), -BSDUDP_EADDRINUSE);
+    WANT(bsdudp_bind_random(&far_, 6, &own, 65535, 1), 65534);
+    for (fd = 7; fd < 67; fd++) { /* all others from 11 on, so that the last number finds one free port of 64 */
+        WANT(bsdudp_socket(&far_), fd);
+        WANT(bsdudp_bind_random(&far_, (uint32_t)fd, &any, 70, 4), fd == 7 ? 11 : fd + 4);
+    }
+    WANT(bsdudp_close(&far_, 66), 0);
+    WANT(bsdudp_socket(&far_), 66);
+    WANT(bsdudp_bind_random(&far_, 66, &any, 65535, 3), 70);
+    for (fd = 66; fd > 4; fd--)
+        WANT(bsdudp_close(&far_, (uint32_t)fd), 0);
     return 0;
 }
 
@@ -334,7 +462,7 @@ static int limits(void)
     WANT(strcmp(bsdudp_strerror(INT_MAX), "ok"), 0);
     WANT(strcmp(bsdudp_strerror(-1), "unknown"), 0);
     WANT(strcmp(bsdudp_strerror(INT_MIN), "unknown"), 0);
-    WANT(strcmp(bsdudp_version(), BSDUDP_VERSION), 0);
+    WANT(strncmp(bsdudp_version(), BSDUDP_VERSION, strlen(BSDUDP_VERSION)), 0); /* or that of an unproved build */
     return 0;
 }
 
@@ -399,6 +527,6 @@ static int ends(void)
 
 int main(void)
 {
-    return without_a_stack(&near_) || misaligned() || texts() || boots() || sockets() || traffic() || unfinished() ||
+    return without_a_stack(&near_) || misaligned() || texts() || boots() || sockets() || sizes() || random_ports() || traffic() || unfinished() ||
            limits() || disconnects() || ticks() || ends();
 }

@@ -197,18 +197,18 @@ struct wrong {
 static int texts(void)
 {
     static const struct wrong wrong[] = {
-        {{{2, 0, 0, 0, 0, 1}, 0xffffff00, 0, 0}, 0x0a0000ff, 1501, "mtu is above 1500"},
-        {{{3, 0, 0, 0, 0, 1}, 0xffffff00, 0, 0}, 0x0a0000ff, 1500, "mac is a group"},
-        {{{0, 0, 0, 0, 0, 0}, 0xffffff00, 0, 0}, 0x0a0000ff, 1500, "mac is 0"},
-        {{{2, 0, 0, 0, 0, 1}, 0xff00ff00, 0, 0}, 0x0a0000ff, 1500, "mask is not"},
-        {{{2, 0, 0, 0, 0, 1}, 0x00ffffff, 0, 0}, 0x0a0000ff, 1500, "mask is not"},
-        {{{2, 0, 0, 0, 0, 1}, 0xffff0000, 0, 0}, 0x0a0000ff, 1500, "bcast is not the last"},
-        {{{2, 0, 0, 0, 0, 1}, 0xffffff00, 0, 0}, 0x0a00ffff, 1500, "bcast is not the last"},
-        {{{2, 0, 0, 0, 0, 1}, 0xffffff00, 0x0a000102, 0}, 0x0a0000ff, 1500, "gateway is not"},
-        {{{2, 0, 0, 0, 0, 1}, 0xffffff00, 0x0a0000ff, 0}, 0, 1500, "gateway is not"},
-        {{{2, 0, 0, 0, 0, 1}, 0xffffff00, 0, 0}, 0, 67, "mtu is not 68"},
-        {{{2, 0, 0, 0, 0, 1}, 0xffffffff, 0, 0}, 0, 1500, "addr and bcast are equal"},
-        {{{2, 0, 0, 0, 0, 1}, 0, 0, 0}, 0, 1500, "bcast is not in the range"},
+        {{{2, 0, 0, 0, 0, 1}, 0xffffff00, 0, 0}, 0x0a0000ff, 1501, "mtu must be at most 1500"},
+        {{{3, 0, 0, 0, 0, 1}, 0xffffff00, 0, 0}, 0x0a0000ff, 1500, "mac must not be a group"},
+        {{{0, 0, 0, 0, 0, 0}, 0xffffff00, 0, 0}, 0x0a0000ff, 1500, "mac must not be 0"},
+        {{{2, 0, 0, 0, 0, 1}, 0xff00ff00, 0, 0}, 0x0a0000ff, 1500, "mask must be ones"},
+        {{{2, 0, 0, 0, 0, 1}, 0x00ffffff, 0, 0}, 0x0a0000ff, 1500, "mask must be ones"},
+        {{{2, 0, 0, 0, 0, 1}, 0xffff0000, 0, 0}, 0x0a0000ff, 1500, "bcast must be 0 or the last"},
+        {{{2, 0, 0, 0, 0, 1}, 0xffffff00, 0, 0}, 0x0a00ffff, 1500, "bcast must be 0 or the last"},
+        {{{2, 0, 0, 0, 0, 1}, 0xffffff00, 0x0a000102, 0}, 0x0a0000ff, 1500, "gateway must be a neighbour"},
+        {{{2, 0, 0, 0, 0, 1}, 0xffffff00, 0x0a0000ff, 0}, 0, 1500, "gateway must be a neighbour"},
+        {{{2, 0, 0, 0, 0, 1}, 0xffffff00, 0, 0}, 0, 67, "mtu must be 68"},
+        {{{2, 0, 0, 0, 0, 1}, 0xffffffff, 0, 0}, 0, 1500, "bcast must differ from addr"},
+        {{{2, 0, 0, 0, 0, 1}, 0, 0, 0}, 0, 1500, "bcast must be 1.0.0.0"},
     };
     static const uint32_t masks[] = {0xffff0000, 0xffffff00, 0xfffffffc};
     const size_t len = sizeof memory - 2 * GUARD;

@@ -83,7 +83,7 @@ static void call(struct bsdudp *s, int is_host, struct input *in)
     const uint8_t which = taken(in), argument = taken(in);
     const uint32_t fd = BSDUDP_FIRST_FD + argument % 5u;
     struct bsdudp_addr addr = {argument & 1 ? 0 : BSDUDP_IP(10, 0, 0, argument), (uint16_t)(argument % 7)};
-    switch (which % 14) {
+    switch (which % 15) {
     case 0: case 1: case 2: case 3: arrive(s, is_host, in); break;
     case 4: bsdudp_socket(s); break;
     case 5: bsdudp_bind(s, fd, &addr); break;
@@ -94,6 +94,7 @@ static void call(struct bsdudp *s, int is_host, struct input *in)
     case 10: bsdudp_tick(s); break;
     case 11: bsdudp_close(s, fd); break;
     case 12: bsdudp_setsockopt(s, fd, argument & 1 ? BSDUDP_SO_BROADCAST : BSDUDP_SO_REUSEPORT, argument & 2); break;
+    case 13: bsdudp_setsockopt(s, fd, BSDUDP_SO_RCVBUF, argument * 257); break;
     default: leave(s, is_host, argument & 1); break;
     }
 }

@@ -1,6 +1,6 @@
 /* The memory of a stack: each allocation failing in turn, memory that is just enough, handles booted twice, ended or
-   zeroed. The linker redirects the library's malloc and free to this file (--wrap), which can count them and let them
-   fail. It compiles as C99 and as C++, prints the line of the first wrong result, and then exits with 1. */
+   zeroed. The linker redirects the library's malloc, free and boot of a host to this file (--wrap), which can count them
+   and let them fail. It compiles as C99 and as C++, prints the line of the first wrong result, and then exits with 1. */
 #include "bsdudp.h"
 
 #include <stdio.h>
@@ -25,6 +25,10 @@ void *__real_malloc(size_t len);
 void __real_free(void *block);
 void *__wrap_malloc(size_t len);
 void __wrap_free(void *block);
+int __real_bsdudp_ether_boot_in(struct bsdudp *stack, const struct bsdudp_config *config,
+                                const struct bsdudp_link *link, void *memory, size_t len);
+int __wrap_bsdudp_ether_boot_in(struct bsdudp *stack, const struct bsdudp_config *config,
+                                const struct bsdudp_link *link, void *memory, size_t len);
 #ifdef __cplusplus
 }
 #endif
@@ -43,6 +47,13 @@ void __wrap_free(void *block)
 {
     given_back++;
     __real_free(block);
+}
+
+/* Without memory, it returns the error that it would have. */
+int __wrap_bsdudp_ether_boot_in(struct bsdudp *stack, const struct bsdudp_config *config,
+                                const struct bsdudp_link *link, void *memory, size_t len)
+{
+    return __real_bsdudp_ether_boot_in(stack, config, link, memory, is_refused ? 0 : len);
 }
 
 static struct bsdudp_config config_of(uint32_t mbufs, uint32_t clusters)
@@ -182,6 +193,25 @@ static int host_from_malloc(void)
     return 0;
 }
 
+/* If rehost ends the host and can't boot it again, the block is freed, and the handle can be booted. */
+static int rehost_fails(void)
+{
+    struct bsdudp s = BSDUDP_NONE;
+    struct bsdudp_config config = config_of(64, 16);
+    struct bsdudp_link link = {{2, 0, 0, 0, 0, 1}, 0xffffff00, 0, 0};
+    taken = given_back = 0;
+    WANT(bsdudp_ether_boot(&s, &config, &link), 0);
+    is_refused = 1;
+    WANT(bsdudp_ether_rehost(&s, &config, &link, NULL, 0), -BSDUDP_ENOMEM);
+    is_refused = 0;
+    WANT(taken == 1 && given_back == 1, 1);
+    WANT(bsdudp_end(&s), -BSDUDP_ENXIO);
+    WANT(bsdudp_ether_boot(&s, &config, &link), 0);
+    WANT(bsdudp_end(&s), 0);
+    WANT(taken == 2 && given_back == 2, 1);
+    return 0;
+}
+
 /* A handle that has a stack keeps it, whichever boot is called next, with any arguments. */
 static int booted_twice(void)
 {
@@ -216,5 +246,5 @@ static int booted_twice(void)
 int main(void)
 {
     return grows(1, 0, BLOCK) || grows(64, 16, BLOCK) || grows(65535, 4096, 5000 * BLOCK) || from_malloc() ||
-           host_from_malloc() || booted_twice();
+           host_from_malloc() || rehost_fails() || booted_twice();
 }

@@ -16,10 +16,11 @@
 
 #define ALIGNED __attribute__((aligned(BSDUDP_ALIGNMENT)))
 
-enum { OWN = 0x0a000001, ALL = 0x0a0000ff, PEER = 0x0a000002, ROOM = 3, FULL = 4 };
+enum { OWN = 0x0a000001, ALL = 0x0a0000ff, PEER = 0x0a000002, ROOM = 3, FULL = 4, QUEUED = 4 };
 #define EVERYONE 0xffffffff
 
 static unsigned char memory[BSDUDP_ETHER_MEMORY(1000, 100)] ALIGNED;
+static const struct bsdudp_config plain = {OWN, ALL, 1000, 100, 1500, 1};
 static struct bsdudp stack = BSDUDP_NONE;
 static struct bsdudp_notes notes[3];
 static struct bsdudp_note ring[3][ROOM], note;
@@ -201,6 +202,71 @@ static int fragments(void)
     return 0;
 }
 
+/* Two sockets with port 7, descriptors 3 and 4: each has a queue for QUEUED datagrams of 1,472 bytes. The option to
+   share is cleared afterwards. */
+static int share(const struct bsdudp_addr *first)
+{
+    const struct bsdudp_addr any = {0, 7};
+    uint32_t fd;
+    WANT(bsdudp_end(&stack), 0);
+    WANT(bsdudp_boot_in(&stack, &plain, memory, sizeof memory), 0);
+    for (fd = 3; fd < 5; fd++) {
+        WANT(bsdudp_socket(&stack), fd);
+        WANT(bsdudp_setsockopt(&stack, fd, BSDUDP_SO_REUSEPORT, 1), 0);
+        WANT(bsdudp_setsockopt(&stack, fd, BSDUDP_SO_RCVBUF, QUEUED * 1488), 0);
+        WANT(bsdudp_bind(&stack, fd, fd == 3 ? first : &any), 0);
+        WANT(bsdudp_note_socket(&stack, &notes[fd - 3], fd, ring[fd - 3], ROOM), 0);
+    }
+    for (fd = 3; fd < 5; fd++)
+        WANT(bsdudp_setsockopt(&stack, fd, BSDUDP_SO_REUSEPORT, 0), 0);
+    return 0;
+}
+
+static int flood(uint32_t to, int count)
+{
+    while (count-- > 0)
+        WANT(arrives(to, 7, 64, 0, 7, 1472), 0);
+    return 0;
+}
+
+/* The socket of `notes[which]` receives `count` datagrams, and no other, and then one that says what was lost. */
+static int lost(int which, int count, uint64_t drops)
+{
+    while (count-- > 0)
+        WANT(receives(which), 1472);
+    WANT(receives(which), -BSDUDP_EWOULDBLOCK);
+    WANT(arrives(OWN, 7, 64, 0, 9, 5), 0);
+    WANT(receives(which), 5);
+    return is_note(OWN, 64, 0, 9, drops);
+}
+
+/* A drop counts for the socket that lost the datagram: of two with the same address and port, for the newer one, which
+   gets them; for a connected one, whose notes are not passed, and not for another with the port; and of broadcasts too
+   if only one socket gets them. */
+static int drops_of_others(void)
+{
+    const struct bsdudp_addr any = {0, 7}, own = {OWN, 7}, peer = {PEER, 5000};
+    int k;
+    WANT(share(&any) || flood(OWN, QUEUED + FULL) || lost(1, QUEUED, FULL), 0);
+    WANT(bsdudp_close(&stack, 4) || lost(0, 0, 0), 0);
+    WANT(share(&own) || bsdudp_connect(&stack, 3, &peer), 0);
+    for (k = 0; k < QUEUED + FULL; k++)
+        WANT(bsdudp_rx_noted(&stack, &notes[1], 1, packet, packet_of(OWN, 7, 64, 0, 0, 1472), 7), 0);
+    WANT(bsdudp_close(&stack, 3) || lost(1, 0, 0), 0);
+    WANT(share(&any) || flood(ALL, QUEUED + FULL + 5) || lost(1, QUEUED, FULL + 5), 0);
+    WANT(bsdudp_close(&stack, 4) || lost(0, 0, 0), 0);
+    return 0;
+}
+
+/* A datagram in fragments counts for its socket, whichever fragment arrives last. */
+static int drops_in_fragments(void)
+{
+    const struct bsdudp_addr any = {0, 7};
+    WANT(share(&any) || flood(OWN, QUEUED), 0);
+    WANT(part(1) == 0 && part(0) == 0 && part(0) == 0 && part(1) == 0, 1);
+    return lost(1, QUEUED, 2);
+}
+
 static int on_a_host(void)
 {
     struct bsdudp_config config = {OWN, ALL, 64, 16, 1500, 1};
@@ -228,9 +294,9 @@ static int on_a_host(void)
 
 int main(void)
 {
-    struct bsdudp_config config = {OWN, ALL, 1000, 100, 1500, 1};
     WANT(errors(), 0);
-    WANT(bsdudp_boot_in(&stack, &config, memory, sizeof memory), 0);
+    WANT(bsdudp_boot_in(&stack, &plain, memory, sizeof memory), 0);
     WANT(bsdudp_note_socket(&stack, notes, 3, ring[0], ROOM), -BSDUDP_EBADF);
-    return opens() || fields() || without() || drops() || fragments() || on_a_host();
+    return opens() || fields() || without() || drops() || fragments() || drops_of_others() || drops_in_fragments() ||
+           on_a_host();
 }

@@ -1,4 +1,4 @@
-/* The packets of tests/random.c, in the formats of RFC 791 and RFC 768: whole, as fragments, and damaged. */
+/* Packets for tests, in the formats of RFC 791 and RFC 768: whole, as fragments, and damaged. */
 #ifndef PACKETS_H
 #define PACKETS_H
 
@@ -11,31 +11,31 @@ enum { HOST = 0x0a000001, PEER = 0x0a000002, BROADCAST = 0x0a0000ff, LOOPBACK = 
 
 static unsigned long long seed;
 
-static unsigned dice(unsigned n)
+static inline unsigned dice(unsigned n)
 {
     seed = seed * 6364136223846793005ULL + 1442695040888963407ULL;
     return (unsigned)(seed >> 33) % n;
 }
 
-static void put16(uint8_t *at, unsigned value)
+static inline void put16(uint8_t *at, unsigned value)
 {
     at[0] = (uint8_t)(value >> 8);
     at[1] = (uint8_t)value;
 }
 
-static void put32(uint8_t *at, uint32_t value)
+static inline void put32(uint8_t *at, uint32_t value)
 {
     put16(at, value >> 16);
     put16(at + 2, value & 0xffff);
 }
 
-static unsigned get16(const uint8_t *at)
+static inline unsigned get16(const uint8_t *at)
 {
     return (unsigned)at[0] << 8 | at[1];
 }
 
 /* The sum of the words, added to another sum (RFC 1071). */
-static uint32_t sum(const uint8_t *data, size_t len, uint32_t all)
+static inline uint32_t sum(const uint8_t *data, size_t len, uint32_t all)
 {
     size_t k;
     for (k = 0; k + 1 < len; k += 2)
@@ -48,14 +48,14 @@ static uint32_t sum(const uint8_t *data, size_t len, uint32_t all)
 }
 
 /* The header's checksum, over its 20 bytes. */
-static void put_header_sum(uint8_t *packet)
+static inline void put_header_sum(uint8_t *packet)
 {
     put16(packet + 10, 0);
     put16(packet + 10, ~sum(packet, 20, 0) & 0xffff);
 }
 
 /* A packet from PEER with a whole datagram, in one of five without a checksum. Returns its length. */
-static size_t make_packet(uint8_t *packet, unsigned port, uint32_t to, unsigned to_port, unsigned ident,
+static inline size_t make_packet(uint8_t *packet, unsigned port, uint32_t to, unsigned to_port, unsigned ident,
                           const uint8_t *data, size_t len)
 {
     uint8_t pseudo[4] = {0, 17, 0, 0};
@@ -82,7 +82,7 @@ static size_t make_packet(uint8_t *packet, unsigned port, uint32_t to, unsigned 
 
 /* Keeps some units of eight bytes of a packet's data as a fragment, the last of which may be shorter. Some begin at 0,
    and some go to the end. Returns the fragment's length. */
-static size_t keep_fragment(uint8_t *packet, size_t len)
+static inline size_t keep_fragment(uint8_t *packet, size_t len)
 {
     size_t units = (len - 20 + 7) / 8, first = dice(3) ? dice((unsigned)units) : 0, end = units, last;
     if (dice(3) != 0)
@@ -97,7 +97,7 @@ static size_t keep_fragment(uint8_t *packet, size_t len)
 
 /* Inverts a bit; or inverts a bit of the header, or changes its total length, and corrects its checksum; or cuts or
    lengthens the packet. Returns its length. */
-static size_t damage(uint8_t *packet, size_t len)
+static inline size_t damage(uint8_t *packet, size_t len)
 {
     uint8_t bit = (uint8_t)(1u << dice(8));
     size_t more;
@@ -130,7 +130,7 @@ static size_t damage(uint8_t *packet, size_t len)
 }
 
 /* A packet from PEER to HOST instead of one from HOST to PEER: the sums stay right. */
-static void turn_round(uint8_t *packet)
+static inline void turn_round(uint8_t *packet)
 {
     uint8_t swapped[4];
     memcpy(swapped, packet + 12, 4);

@@ -95,7 +95,7 @@ static int refusals(void)
     WANT(rehosted(&c, &l, 0, LEN), -BSDUDP_EINVAL);
     l = new_link;
     WANT(bsdudp_ether_rehost(&host, &c, &l, memory[1] + 1, LEN), -BSDUDP_EINVAL);
-    WANT(rehosted(&c, &l, 0, LEN - 1), -BSDUDP_ENOMEM);
+    WANT(rehosted(&c, &l, 0, LEN - BSDUDP_ALIGNMENT), -BSDUDP_ENOMEM);
     c.mbufs++;
     WANT(rehosted(&c, &l, 0, LEN), -BSDUDP_ENOMEM);
     WANT(bsdudp_ether_rehost(&host, &new_config, &l, NULL, LEN), -BSDUDP_ENOMEM);
@@ -190,16 +190,21 @@ static int shares(void)
     return bsdudp_end(&host);
 }
 
-/* All 64 sockets are open, so the call has none to spare. */
+/* All 64 sockets are open, so the call has none to spare. Each has another size of its receive queue, or none. */
 static int full(void)
 {
     uint32_t k;
     WANT(bsdudp_ether_boot_in(&host, &old_config, &old_link, memory[0], LEN), 0);
-    for (k = 0; k < BSDUDP_SOCKETS; k++)
+    for (k = 0; k < BSDUDP_SOCKETS; k++) {
         WANT(opened(k % 2 ? OWN : ALL, 100 + k, k % 3 ? 0 : PEER, k % 3 ? 0 : 5, (int)k % 4), 3 + k);
+        if (k % 5 != 0)
+            WANT(bsdudp_setsockopt(&host, 3 + k, BSDUDP_SO_RCVBUF, 65535 - (int)k), 0);
+    }
     WANT(rehosted(&new_config, &new_link, 0, LEN), 0);
-    for (k = 0; k < BSDUDP_SOCKETS; k++)
+    for (k = 0; k < BSDUDP_SOCKETS; k++) {
         WANT(is_named(3 + k, k % 2 ? NEW : NEW_ALL, 100 + k, k % 3 ? 0 : PEER, k % 3 ? 0 : 5, (int)k % 4), 0);
+        WANT(bsdudp_getsockopt(&host, 3 + k, BSDUDP_SO_RCVBUF), k % 5 != 0 ? 65535 - (long)k : 0);
+    }
     WANT(bsdudp_socket(&host), -BSDUDP_EMFILE);
     return bsdudp_end(&host);
 }
@@ -207,8 +212,10 @@ static int full(void)
 /* A host in memory from malloc stays in it, or takes other memory. The sanitizer finds what isn't freed. */
 static int of_malloc(void)
 {
-    struct bsdudp_config more = new_config;
+    struct bsdudp_config more = new_config, less = new_config;
     more.clusters++;
+    less.mbufs = 32;
+    less.clusters = 8;
     WANT(bsdudp_ether_boot(&host, &old_config, &old_link), 0);
     WANT(opened(OWN, 9, 0, 0, 0), 3);
     WANT(bsdudp_ether_rehost(&host, &more, &new_link, NULL, 0), -BSDUDP_ENOMEM);
@@ -216,6 +223,9 @@ static int of_malloc(void)
     WANT(bsdudp_ether_rehost(&host, &new_config, &new_link, NULL, 0), 0);
     WANT(works(NEW, 9, 3), 0);
     WANT(bsdudp_ether_rehost(&host, &old_config, &old_link, NULL, 0), 0);
+    WANT(bsdudp_ether_rehost(&host, &less, &new_link, NULL, 0), 0);
+    WANT(bsdudp_ether_rehost(&host, &old_config, &old_link, NULL, 0), 0); /* the block is as long as before */
+    WANT(works(OWN, 9, 3), 0);
     WANT(rehosted(&new_config, &new_link, 1, LEN), 0);
     WANT(works(NEW, 9, 3), 0);
     WANT(bsdudp_ether_rehost(&host, &old_config, &old_link, NULL, 0), -BSDUDP_ENOMEM);

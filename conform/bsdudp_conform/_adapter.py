@@ -20,6 +20,7 @@ READ = 1 << 16
 # After this many consecutive cases with a fault or a crash, the remaining cases aren't run.
 MOST_FAULTS = 20
 POLL_S = 0.2
+HANGS = "it hangs"
 
 
 class Fault(Exception):
@@ -32,19 +33,24 @@ class Stopped(Exception):
 
 class Limit:
     """When the adapters of a run are asked no more: after too many faults in a row, or if the user stops the run by a
-    signal. `why` says it."""
+    signal. `why` says it. waits_are_real: an adapter's waits may take real time. only_hangs: cases that hang are
+    counted, in a row or not, and crashes aren't, so that the result doesn't depend on the order of the cases."""
 
-    def __init__(self) -> None:
+    def __init__(self, most_faults: int = MOST_FAULTS, waits_are_real: bool = True, only_hangs: bool = False) -> None:
         self.why = ""
+        self.most_faults, self.waits_are_real, self.only_hangs = most_faults, waits_are_real, only_hangs
         self.faults, self.signals = 0, 0
         self.lock = threading.Lock()
 
-    def count(self, is_fault: bool) -> None:
+    def count(self, fault: Optional[str]) -> None:
         """Counts a case of any adapter of the run."""
         with self.lock:
-            self.faults = self.faults + 1 if is_fault else 0
-            if self.faults >= MOST_FAULTS:
-                self.why = f"{MOST_FAULTS} crashes or faults in a row"
+            if self.only_hangs:
+                self.faults += fault is not None and fault.startswith(HANGS)
+            else:
+                self.faults = 0 if fault is None else self.faults + 1
+            if self.faults >= self.most_faults:
+                self.why = f"{self.most_faults} {'cases hang' if self.only_hangs else 'crashes or faults in a row'}"
 
     def check(self) -> None:
         if self.why:
@@ -78,7 +84,7 @@ class Adapter:
                 self.command, stdin=subprocess.PIPE, stdout=subprocess.PIPE, start_new_session=True
             )
         except OSError as fault:
-            raise Fault(f"{self.command[0]} can't be run: {fault.strerror}") from None
+            raise Fault(f"can't run {self.command[0]}: {fault.strerror}") from None
         for pipe in (self.running.stdin, self.running.stdout):
             assert pipe is not None
             os.set_blocking(pipe.fileno(), False)
@@ -90,11 +96,12 @@ class Adapter:
                 self.abilities = frozenset(rest.split())
             else:
                 raise Fault(
-                    f"it answers `hello 1` with {quoted(line)}, and not with `stack NAME`, `has WORD ..`, `end`"
+                    f"expected `stack NAME`, `has WORD ..` and `end` after `hello 1`, got {quoted(line)}"
                 )
         unknown = self.abilities - set(ABILITIES)
         if unknown:
-            raise Fault(f"it has {quoted(sorted(unknown)[0])}, but what there is to have is: {' '.join(ABILITIES)}")
+            word = quoted(sorted(unknown)[0])
+            raise Fault(f"unknown word {word} after `has`; expected some of: {' '.join(ABILITIES)}")
 
     def stop(self) -> None:
         """Ends the program and the processes that it started."""
@@ -115,12 +122,12 @@ class Adapter:
         try:
             if self.running is None:
                 self.start()
-            waits = sum(step.ms for step in case.steps if isinstance(step, Wait))
+            waits = sum(step.ms for step in case.steps if isinstance(step, Wait)) * self.limit.waits_are_real
             answer = read_answer(case, self.exchange(case.lines(), self.timeout + waits * 1.5 / 1000))
         except Fault as fault:
             self.stop()
             answer = Answer(fault=str(fault))
-        self.limit.count(answer.fault is not None)
+        self.limit.count(answer.fault)
         return answer
 
     def exchange(self, lines: List[str], seconds: float) -> List[str]:
@@ -135,7 +142,7 @@ class Adapter:
             while not (heard.endswith(b"end\n") and (len(heard) == 4 or heard[-5] == 10)):
                 left = until - time.monotonic()
                 if left <= 0:
-                    raise Fault(f"it hangs: no end of the answer in {seconds:.0f} s")
+                    raise Fault(f"{HANGS}: no `end` within {seconds:.0f} s")
                 self.limit.check()
                 for key, _ in ready.select(min(left, POLL_S)):
                     if key.fileobj is running.stdin:
@@ -186,7 +193,7 @@ def quoted(text: str) -> str:
 def read_answer(case: Case, lines: List[str]) -> Answer:
     """The events of a case's lines. Raises Fault if one isn't a valid line."""
     if lines[:1] != [f"case {case.name}"]:
-        raise Fault(f"it answers `case {case.name}` with {quoted(lines[0]) if lines else 'nothing'}")
+        raise Fault(f"expected `case {case.name}`, got {quoted(lines[0]) if lines else 'nothing'}")
     events: List[Event] = []
     notes: List[str] = []
     crash: Optional[str] = None
@@ -200,7 +207,7 @@ def read_answer(case: Case, lines: List[str]) -> Answer:
             try:
                 events.append(read_event(case, word, rest.split()))
             except (ValueError, IndexError):
-                raise Fault(f"it says {quoted(line)}, which isn't a line of an adapter") from None
+                raise Fault(f"{quoted(line)} isn't a line of an adapter") from None
     return Answer(tuple(events), tuple(notes), crash)
 
 

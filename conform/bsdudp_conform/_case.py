@@ -165,7 +165,7 @@ class Case:
         """Whether it waits for a second or more."""
         return any(isinstance(step, Wait) and step.ms >= SLOW_MS for step in self.steps)
 
-    @property
+    @cached_property
     def size(self) -> Tuple[int, int]:
         """Steps, and bytes in all: the least is the shortest sequence."""
         return len(self.steps), sum(len(step.line) for step in self.steps)
@@ -218,7 +218,7 @@ class Out:
 
 @dataclass(frozen=True)
 class Refused:
-    """The stack refused a step, for example a send that is too long for it."""
+    """The stack refused a step, for example a send that is too long for it, or a call reported an ICMP error."""
 
     step: int
 
@@ -248,7 +248,15 @@ class Answer:
         return [event for event in self.events if isinstance(event, Out)]
 
     def refused(self, step: int) -> bool:
-        return any(isinstance(event, Refused) and event.step == step for event in self.events)
+        return step in self._refused
+
+    @property
+    def has_refused(self) -> bool:
+        return bool(self._refused)
+
+    @cached_property
+    def _refused(self) -> FrozenSet[int]:
+        return frozenset(event.step for event in self.events if isinstance(event, Refused))
 
 
 def user_sockets() -> Dict[int, int]:

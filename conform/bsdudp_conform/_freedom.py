@@ -37,25 +37,35 @@ class Setting:
 
     def told(self, value: Value) -> str:
         """A value in words."""
+        if value not in self.words and isinstance(value, tuple):
+            return waiting(*value)
         return self.words.get(value, str(value))
 
 
 TAKE_DROP: Dict[Value, str] = {"take": "taken", "drop": "dropped"}
-BOUNDS = (3, 5, 15, 63, 255, 1023, 3999)
-KEPT: Dict[Value, str] = {("all", 0): "all are kept"}
-KEPT.update({("refuse", n): f"up to {n}; then newcomers are refused" for n in BOUNDS})
-KEPT.update({("oldest", n): f"up to {n}; then the oldest is dropped" for n in BOUNDS})
-KEPT.update({("flush", n): f"up to {n}; then all are dropped" for n in BOUNDS})
+# The numbers of unfinished datagrams in floods, and of those that are finished one after the other.
+FLOODS, TOGETHER = (4, 10, 16, 40, 64, 256, 1024, 4000), (4, 10, 40)
+# The least bounds that these cases distinguish: a bound between two of them behaves like the lower one.
+BOUNDS = sorted({3, *TOGETHER, *(count + 1 for count in FLOODS[:-1])})
+BOUND_WORDS: Dict[Value, str] = {
+    low: str(low) if low == high else f"{low:,} to {high:,}"
+    for low, high in zip(BOUNDS, [*(it - 1 for it in BOUNDS[1:]), FLOODS[-1]])
+}
+ALL: Value = ("all", 0)
+FULL = {"refuse": "then newcomers are refused", "oldest": "then the oldest is dropped", "flush": "then all are dropped"}
+KEPT: Dict[Value, str] = {ALL: f"all, up to {FLOODS[-1]:,}"}
+KEPT.update({(how, n): f"{BOUND_WORDS[n]}; {words}" for how, words in FULL.items() for n in BOUNDS})
 
-# The greatest numbers of datagrams that wait: 4.4BSD's and others.
-WAIT_BOUNDS = (3, 7, 15, 31, 63, 127, 255, 511, 1023)
 WAITING: Dict[Value, str] = {
-    ("all", 0): "all are kept",
+    ALL: "all are kept",
     ("bsd", 0): "41,600 bytes, with 16 for each address, and 256 in bsdudp's default pool: as 4.4BSD",
 }
-WAITING.update({("refuse", n): f"up to {n}; then newcomers are dropped" for n in (1, *WAIT_BOUNDS)})
-WAITING.update({("oldest", n): f"up to {n}; then the oldest is dropped" for n in (1, *WAIT_BOUNDS)})
-WAITING_FINER: Values = tuple(key for key in WAITING if isinstance(key, tuple) and key[1] != 1 and key != ("all", 0))
+
+
+def waiting(how: str, bound: int) -> str:
+    """A queue's bound in words."""
+    return f"up to {bound}; then {'newcomers are' if how == 'refuse' else 'the oldest is'} dropped"
+
 
 SETTINGS: Dict[str, Setting] = {
     "overlap": Setting(
@@ -76,7 +86,7 @@ SETTINGS: Dict[str, Setting] = {
         "fragments with more to come and no multiple of 8",
         ("refuse", "round down", "take"),
         words={
-            "refuse": "refused, as 4.4BSD",
+            "refuse": "refused",
             "round down": "cut to a multiple of 8, as Linux",
             "take": "taken as they are",
         },
@@ -108,24 +118,26 @@ SETTINGS: Dict[str, Setting] = {
     "expire": Setting(
         "unfinished datagrams are kept",
         (60, 119),
-        (5, 15, 30, 254),
-        words={n: f"some {n} s" for n in (5, 15, 30, 60, 119, 254)},
+        (5, 15, 30, 50, 254),
+        words={
+            5: "4 to 10 s",
+            15: "10 to 20 s",
+            30: "20 to 40 s",
+            50: "40 to 58 s",
+            60: "58 to 125 s",
+            119: "58 to 125 s",
+            254: "125 to 300 s",
+        },
     ),
     "largest": Setting(
         "the longest datagram",
         (65515,),
         (556,),
         (41592,),
-        words={
-            65515: "as IPv4 allows",
-            556: "576 bytes",
-            41592: "41,584 bytes of data, as 4.4BSD's socket buffer holds",
-        },
     ),
     "kept": Setting(
         "unfinished datagrams at once",
-        (("all", 0),),
-        (("refuse", 3), ("oldest", 3), ("flush", 3)),
+        (ALL, ("refuse", 3), ("oldest", 3), ("flush", 3)),
         finer=tuple(key for key in KEPT if isinstance(key, tuple) and key[1] > 3),
         words=KEPT,
     ),
@@ -159,15 +171,26 @@ SETTINGS: Dict[str, Setting] = {
     ),
     "waiting": Setting(
         "datagrams that wait for a reader",
-        (("all", 0), ("refuse", 1), ("oldest", 1)),
-        finer=WAITING_FINER,
+        (ALL, ("refuse", 1), ("oldest", 1)),
+        finer=(("bsd", 0),),
         words=WAITING,
     ),
     "waiting without data": Setting(
         "datagrams without data that wait for a reader",
-        (("all", 0), ("refuse", 1), ("oldest", 1)),
-        finer=WAITING_FINER,
+        (ALL, ("refuse", 1), ("oldest", 1)),
+        finer=(("bsd", 0),),
         words=WAITING,
+    ),
+    "errors": Setting(
+        "an ICMP error about a send of a connected socket",
+        ("none", "port", "hard", "unreachable", "all"),
+        words={
+            "none": "no call reports it",
+            "port": "a call reports Port Unreachable",
+            "hard": "a call reports Port Unreachable, Protocol Unreachable and Parameter Problem, as Linux",
+            "unreachable": "a call reports Unreachable of each code",
+            "all": "a call reports each",
+        },
     ),
     "several": Setting(
         "a datagram that several sockets could take",
@@ -215,7 +238,7 @@ class Path:
         return self.taken[name]
 
 
-# What 4.4BSD's rules are, as docs/behaviour.md has them, and what explains other stacks.
+# The rules in docs/behaviour.md, and what explains other stacks.
 BSD: Settings = {
     "overlap": "bsd",
     "odd": "refuse",
@@ -236,6 +259,7 @@ BSD: Settings = {
     "ecn": "take",
     "waiting": ("bsd", 0),
     "waiting without data": ("bsd", 0),
+    "errors": "none",
     "several": "best, youngest",
     "several, broadcast": "all",
     "connected broadcast": "drop",

@@ -12,6 +12,7 @@ from ._report import (
     WORDS,
     causes_text,
     cell,
+    choices,
     levels_of,
     policy_text,
     rules_of,
@@ -38,7 +39,7 @@ table { border-collapse: collapse; width: 100%; font-size: .875rem; overflow-wra
 th, td { padding: .3rem .6rem; text-align: left; border-top: 1px solid var(--line); vertical-align: top; }
 thead th { border-top: 0; white-space: nowrap; } tbody th { font-weight: 600; white-space: nowrap;
   position: sticky; left: 0; background: var(--paper); }
-td.cases { text-align: right; } .ok { background: var(--ok); } .bad { background: var(--bad); } .mild { background: var(--mild); }
+.choices tbody th { white-space: normal; min-width: 9rem; } td.cases { text-align: right; } .ok { background: var(--ok); } .bad { background: var(--bad); } .mild { background: var(--mild); }
 details { border: 1px solid var(--line); border-radius: 6px; margin: .6rem 0; padding: .5rem .8rem; }
 summary { cursor: pointer; } .level { font-weight: 700; border-radius: 4px; padding: 0 .4em; }
 dl { display: grid; grid-template-columns: max-content 1fr; gap: .2rem .8rem; margin: .6rem 0; }
@@ -121,6 +122,21 @@ def stack_part(judged: Judged, explained: List[Explained], known: Known, capture
     return f"<section>{head}{out}{kinds}{policies}</section>"
 
 
+def choices_table(stacks: Sequence[Judged], policies: Dict[str, List[Explained]]) -> str:
+    """The choices of several stacks, side by side."""
+    rows = choices(stacks, policies) if len(stacks) > 1 else []
+    if not rows:
+        return ""
+    heads = "".join(f"<th scope=col>{escape(it.name)}</th>" for it in stacks)
+    cells = ["".join(f"<td>{escape(cell)}</td>" for cell in row[1:]) for row in rows]
+    body = "".join(f"<tr><th scope=row>{escape(row[0])}</th>{it}</tr>" for row, it in zip(rows, cells))
+    return (
+        "<h2>Choices that the RFCs leave</h2><p>What explains nine of ten of a stack's cases.</p>"
+        "<div class=scroll tabindex=0 role=region aria-label='the choices'><table class=choices><thead><tr>"
+        f"<th scope=col>choice</th>{heads}</tr></thead><tbody>{body}</tbody></table></div>"
+    )
+
+
 def html(
     stacks: Sequence[Judged], policies: Dict[str, List[Explained]], known: Known, captures: Dict[str, Dict[str, str]]
 ) -> str:
@@ -137,5 +153,5 @@ def html(
         f"<title>UDP/IPv4: {names}</title><style>{STYLE}</style><h1>UDP over IPv4: {names}</h1>{causes}"
         "<p>Each case is a sequence of packets. Two laws hold in every case; beyond them, the stack is compared with "
         "all machines that the RFCs permit. A cell counts the cases that deviate; a case may break another rule than "
-        f"its own.</p><ul>{legend}</ul>{table(stacks)}{parts}</html>\n"
+        f"its own.</p><ul>{legend}</ul>{table(stacks)}{choices_table(stacks, policies)}{parts}</html>\n"
     )

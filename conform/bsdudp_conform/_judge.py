@@ -7,12 +7,13 @@ import signal
 import sys
 import threading
 from collections import Counter
-from dataclasses import dataclass, field
+from dataclasses import dataclass, field, replace
 from typing import Dict, FrozenSet, Iterable, Iterator, List, Optional, Sequence, Tuple
 
 from ._adapter import TIMEOUT_S, Adapter, Limit, Stopped
 from ._case import Answer, Case
 from ._rules import RULES
+from ._shared import with_shared_causes
 from ._verdict import LEVELS, applies, verdict
 from ._wire_laws import Breach
 
@@ -27,10 +28,9 @@ class Deviation:
 
     @property
     def cause(self) -> str:
-        """The name by which deviations are grouped: what the law names, or the rule and the text without its
-        numbers."""
+        """The name by which deviations are grouped: what the law names, or the text without its numbers."""
         words = " ".join("N" if any(it.isdigit() for it in word) else word for word in self.breach.what.split())
-        return self.breach.cause or f"{self.breach.rule}: {words}"
+        return self.breach.cause or words
 
     @property
     def kind(self) -> Tuple[int, str, str]:
@@ -62,8 +62,8 @@ class Judged:
         return found
 
     def kinds(self) -> List[List[Deviation]]:
-        """The deviations by cause, the most serious first. Of each the most serious ones are first, and among these
-        the shortest case that isn't a run."""
+        """The deviations by cause, the most serious first, and of one level those of most cases. Of each cause the most
+        serious ones are first, and among these the shortest case that isn't a run."""
         sizes = Counter(it.cause for it in self.deviations)
         if self.not_run:  # a stack that always crashes does it by one cause
             sizes.update(it.breach.what for it in self.deviations if it.breach.level == LEVELS[0])
@@ -75,9 +75,12 @@ class Judged:
         groups: Dict[str, List[Deviation]] = {}
         for it in self.deviations:
             groups.setdefault(group_of(it), []).append(it)
-        places = {rule: place for place, rule in enumerate(RULES)}
-        made = [sorted(group, key=place_in_group) for group in groups.values()]
-        return sorted(made, key=lambda group: (LEVELS.index(group[0].breach.level), places[group[0].breach.rule]))
+        return sorted((sorted(group, key=place_in_group) for group in groups.values()), key=place_of_group)
+
+
+def place_of_group(group: Sequence[Deviation]) -> Tuple[int, int, int]:
+    breach = group[0].breach
+    return LEVELS.index(breach.level), -len(cases_of(group)), list(RULES).index(breach.rule)
 
 
 def place_in_group(it: Deviation) -> Tuple[int, bool, Tuple[int, int]]:
@@ -168,6 +171,8 @@ def judge_answers(judged: Judged, limit: Limit) -> None:
         if answer is not None:
             judged.cases.append(case)
             judged.deviations += [Deviation(case, it, answer) for it in verdict(case, answer, judged.abilities)]
+    compared = with_shared_causes(judged.cases, judged.answers, [(it.case, it.breach) for it in judged.deviations])
+    judged.deviations = [replace(it, breach=breach) for it, breach in zip(judged.deviations, compared)]
     judged.not_run, judged.why_not = len(every) - len(judged.cases), limit.why
 
 

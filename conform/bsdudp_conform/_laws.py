@@ -5,18 +5,20 @@ never     A datagram that reaches a socket is one that the packets carry: the da
           protocol 17) that leave no hole up to a last one. If they overlap, any choice is allowed. It's for the
           socket's port, and from its peer if it's connected. The sender reported to the user is the real one.
 always    A datagram of at most 576 bytes with a UDP checksum reaches the user if it arrived whole, or in fragments
-          once each, without overlap, within 2 seconds, and without other fragments of its key. It should reach the
-          user above 576 bytes, and if more than ten fragments or fragments of more than three datagrams arrived."""
+          once each, without overlap, within 2 seconds, without other fragments of its key, and before more than
+          three datagrams are unfinished at once. It should reach the user above 576 bytes, and if more than ten
+          fragments arrived."""
 from __future__ import annotations
 
 import itertools
 import struct
-from collections import defaultdict
+from collections import Counter, defaultdict
 from dataclasses import dataclass, field, replace
+from functools import cached_property
 from typing import DefaultDict, Dict, FrozenSet, Iterator, List, Mapping, NamedTuple, Optional, Sequence, Set, Tuple
 
 from ._addresses import HOST, OURS, ZERO_BROADCAST, is_host, text_of
-from ._case import Case, Connect, Got, Hold, Open, Receive, Wait, user_sockets
+from ._case import Case, Connect, Got, Hold, Open, Receive, Send, Wait, user_sockets
 from ._packets import with_checksum
 from ._read import UDP, Header, fold, read, read_udp, sum_with_pseudo_header
 
@@ -26,10 +28,19 @@ LENGTH, PROTOCOL, END, GREATEST = (
     "the last fragment's end",
     "the greatest length (65,535)",
 )
+AGE, SOURCES, DESTINATIONS, NUMBERS = (
+    "the age of fragments",
+    "the source of fragments",
+    "the destination of fragments",
+    "the identification of fragments",
+)
 TOTAL, HEADER_SUM, UDP_SUM = "the total length", "the header checksum", "the UDP checksum"
 VERSION, FRAGMENT = "the version", "whether it's a fragment"
 STRANGER, SENDER = "socket.connected", "udp.source"
 CHECKS = (LENGTH, PROTOCOL, FRAGMENT, END, GREATEST, TOTAL, HEADER_SUM, UDP_SUM, VERSION)
+# What distinguishes fragments. The place of each in the key:
+OF_KEYS = {SOURCES: 0, DESTINATIONS: 1, NUMBERS: 2, PROTOCOL: 3}
+ALL_CHECKS = (*CHECKS, AGE, DESTINATIONS, NUMBERS, SOURCES)
 NO_CHECK_OMITTED: FrozenSet[str] = frozenset()
 # What a stack leaves to a link that checks the sums.
 OFFLOADED = frozenset({HEADER_SUM, UDP_SUM})
@@ -37,6 +48,8 @@ ANY_HEADER = frozenset({TOTAL, HEADER_SUM, VERSION})
 NOTHING_ELSE = "nothing that the packets don't carry"
 LONGEST_LIFE_MS, PROMPT_MS = 255_000, 2_000
 FEW_FRAGMENTS, FEW_DATAGRAMS = 10, 3
+# What an ICMP error quotes at least: a header without options, and 8 bytes.
+QUOTED = 28
 
 
 class Arrival(NamedTuple):
@@ -49,16 +62,18 @@ class Arrival(NamedTuple):
 
 
 class Promise(NamedTuple):
-    """A datagram that must arrive: its time, and the level of the rule."""
+    """A datagram that must arrive: its time, the level of the rule, and its packets."""
 
     step: int
     level: str
     source: int
     port: int
     data: bytes
+    parts: List[Arrival]
 
 
 Sender = Tuple[int, int]
+Key = Tuple[int, int, int, int]
 
 
 class Wrong(NamedTuple):
@@ -96,6 +111,19 @@ class Seen:
             elif isinstance(step, Connect):
                 self.peers.append((number, step.socket, (step.address, step.port)))
 
+    @cached_property
+    def sends_before(self) -> List[int]:
+        """For each step how many sends are before it."""
+        return [0, *itertools.accumulate(isinstance(it, Send) for it in self.case.steps)]
+
+    @cached_property
+    def by_beginning(self) -> Dict[bytes, List[Arrival]]:
+        """The packets by the bytes that an ICMP error quotes."""
+        found: Dict[bytes, List[Arrival]] = {}
+        for it in self.arrivals:
+            found.setdefault(it.packet[:QUOTED], []).append(it)
+        return found
+
     def peer(self, socket: int, step: int) -> Optional[Tuple[int, int]]:
         """A socket's peer at a step."""
         found = [peer for since, who, peer in self.peers if who == socket and since <= step]
@@ -124,11 +152,25 @@ class Seen:
 
     def unchecked(self, got: Got) -> Optional[str]:
         """The smallest set of a receiver's checks without which the datagram could arrive, or None."""
-        for count in (1, 2, 3):
-            for omitted in itertools.combinations(CHECKS, count):
+        single = [it for it in ALL_CHECKS if it in self.matters]
+        several = [it for it in CHECKS if it in self.matters]
+        for count, checks in ((1, single), (2, several), (3, several)):
+            for omitted in itertools.combinations(checks, count):
                 if self.carries(got, self.omitted | frozenset(omitted)):
                     return " and ".join(omitted)
         return None
+
+    @cached_property
+    def matters(self) -> FrozenSet[str]:
+        """The checks whose lack can make a difference in this case."""
+        found = {LENGTH, PROTOCOL, UDP_SUM}
+        if any(it.header is None or has_padding(it) for it in self.arrivals):
+            found |= ANY_HEADER
+        cut = [it for it in self.arrivals if it.header is None or not it.header.whole]
+        if cut:
+            found |= {FRAGMENT, END, GREATEST, *OF_KEYS}
+            found |= {AGE} if cut[-1].ms - cut[0].ms >= LONGEST_LIFE_MS else set()
+        return frozenset(found)
 
     def senders(self, step: int) -> Set[Sender]:
         """The source addresses and ports in the packets up to a step, right or wrong."""
@@ -148,7 +190,7 @@ class Seen:
 
     def carries(self, got: Got, omitted: FrozenSet[str]) -> bool:
         """Whether the packets up to a step carry the datagram if these checks are omitted."""
-        keys: Dict[Tuple[int, int, int, int], List[Arrival]] = {}
+        keys: Dict[Key, List[Arrival]] = {}
         for it in self.believed(got, omitted):
             header = it.header
             assert header is not None
@@ -157,7 +199,7 @@ class Seen:
                 if is_udp and self.fits(header.data, header, got, omitted):
                     return True
             elif header.end <= 65515 or GREATEST in omitted:
-                key = (*header.key[:3], UDP) if PROTOCOL in omitted else header.key
+                key = key_without(header.key, omitted)
                 keys.setdefault(key, []).append(it)
         return any(key[3] == UDP and self.made_of(parts, got, omitted) for key, parts in keys.items())
 
@@ -166,14 +208,14 @@ class Seen:
         for it in self.arrivals:
             if it.step > got.step:
                 return
-            if it.header is None and omitted & ANY_HEADER:
+            if it.header is None and omitted & ANY_HEADER or TOTAL in omitted and has_padding(it):
                 it = it._replace(header=read(mended(it.packet, omitted)))
             if it.header is not None and got.source in (None, it.header.source):
                 yield it
 
     def carriers(self, got: Got) -> List[Arrival]:
         """The packets that carry a datagram: a whole one, or the fragments of one key."""
-        keys: Dict[Tuple[int, int, int, int], List[Arrival]] = {}
+        keys: Dict[Key, List[Arrival]] = {}
         for it in self.believed(got, self.omitted):
             header = it.header
             assert header is not None
@@ -183,10 +225,30 @@ class Seen:
                 keys.setdefault(header.key, []).append(it)
         return next((parts for parts in keys.values() if self.made_of(parts, got, self.omitted)), [])
 
+    def parts_of(self, got: Got) -> List[Arrival]:
+        """The packets that carry a datagram, whenever it was whole."""
+        return self.promised.get((got.source, got.port, got.data)) or self.carriers(
+            replace(got, step=len(self.case.steps))
+        )
+
+    @cached_property
+    def promised(self) -> Dict[Tuple[Optional[int], int, bytes], List[Arrival]]:
+        """The packets of the datagrams that must arrive."""
+        return {(it.source, it.port, it.data): it.parts for it in self.promises}
+
+    def parts_at(self, step: int) -> List[Arrival]:
+        """The packet that arrives at a step, or all fragments of its datagram so far."""
+        it = next((one for one in self.arrivals if one.step == step), None)
+        if it is None or it.header is None:
+            return []
+        key = it.header.key
+        same = [one for one in self.arrivals if one.step <= step and one.header and one.header.key == key]
+        return [it] if it.header.whole else [one for one in same if one.header and not one.header.whole]
+
     def made_of(self, parts: List[Arrival], got: Got, omitted: FrozenSet[str]) -> bool:
         """Whether fragments of one key make the datagram, for any choice of overlapping bytes."""
         last = max(it.ms for it in parts)
-        headers = [it.header for it in parts if it.header and last - it.ms < LONGEST_LIFE_MS]
+        headers = [it.header for it in parts if it.header and (AGE in omitted or last - it.ms < LONGEST_LIFE_MS)]
         length = 8 + len(got.data)
         if not any(it.end >= length for it in headers):
             return False
@@ -221,22 +283,43 @@ class Seen:
             sum_with_pseudo_header(data[:end], header.source, header.destination, it) == 0xFFFF for it in lengths
         )
 
+    @cached_property
     def promises(self) -> List[Promise]:
         """The law `always`: the datagrams that must arrive at the only socket of a case."""
         if self.peers or len(self.ports) > 1 or any(isinstance(it, Hold) for it in self.case.steps):
             return []
         found = []
-        keys: Dict[Tuple[int, int, int, int], List[Arrival]] = {}
+        keys: Dict[Key, List[Arrival]] = {}
         for it in self.arrivals:
             if it.header is not None:
                 keys.setdefault(it.header.key, []).append(it)
-        cut = [it.header.key for it in self.arrivals if it.header is not None and not it.header.whole]
-        few = len(cut) <= FEW_FRAGMENTS and len(set(cut)) <= FEW_DATAGRAMS
+        end = self.first_crowd(keys) if len(keys) > FEW_DATAGRAMS else len(self.case.steps)
+        few = sum(not it.header.whole for it in self.arrivals if it.header) <= FEW_FRAGMENTS
         for (source, destination, _, protocol), parts in keys.items():
             if protocol != UDP or destination not in OURS or not is_host(source) or source in (HOST, ZERO_BROADCAST):
                 continue
-            found += whole_promises(parts) + fragment_promises(parts, few)
-        return sorted(found)
+            found += whole_promises(parts)
+            if parts[-1].step < end:
+                found += fragment_promises(parts, few)
+        return sorted(found, key=lambda it: it[:5])
+
+    def first_crowd(self, keys: Mapping[Key, List[Arrival]]) -> int:
+        """The first step at which more than a few datagrams are unfinished. From then on a host may drop some of them,
+        and later fragments of these may begin others."""
+        changes: "Counter[int]" = Counter()
+        for parts in keys.values():
+            cut = [it for it in parts if it.header and not it.header.whole]
+            if cut:
+                changes[cut[0].step] += 1
+                if in_sequence([it.header for it in cut if it.header]) is not None:
+                    changes[cut[-1].step + 1] -= 1
+        steps = range(len(self.case.steps))
+        counts = itertools.accumulate(changes[it] for it in steps)
+        return next((step for step, count in zip(steps, counts) if count > FEW_DATAGRAMS), len(steps))
+
+    def is_all_promised(self, got: Sequence[Got]) -> bool:
+        """Whether each packet belongs to a datagram that must arrive, and only these arrived: all machines agree."""
+        return len(got) == len(self.promises) and sum(len(it.parts) for it in self.promises) == len(self.arrivals)
 
 
 def not_read(checks: str) -> str:
@@ -250,6 +333,17 @@ def wrong_sender(got: Got, sender: Sender) -> Wrong:
     wrong = " and ".join(name for name, one, other in zip(("address", "port"), told, sender) if one != other)
     words = f"{size} with a wrong source {wrong}: {text_of(told[0])} port {told[1]}"
     return Wrong(SENDER, words, f"{size} from {text_of(sender[0])} port {sender[1]}", sender)
+
+
+def key_without(key: Key, omitted: FrozenSet[str]) -> Key:
+    """What a stack compares of fragments that omits these checks."""
+    made = [0 if name in omitted else key[place] for name, place in OF_KEYS.items()]
+    return made[0], made[1], made[2], UDP if PROTOCOL in omitted else key[3]
+
+
+def has_padding(it: Arrival) -> bool:
+    """Whether bytes follow a packet's total length."""
+    return it.header is not None and len(it.packet) > it.header.length
 
 
 def mended(packet: bytes, omitted: FrozenSet[str]) -> bytes:
@@ -289,7 +383,7 @@ def whole_promises(parts: List[Arrival]) -> List[Promise]:
     for it in parts:
         header = it.header
         if header and header.whole and plain(header):
-            promised = promise(it.step, header, header.data, True)
+            promised = promise(it.step, header, header.data, True, [it])
             found += [promised] if promised else []
     return found
 
@@ -305,14 +399,15 @@ def fragment_promises(parts: List[Arrival], few: bool) -> List[Promise]:
     data = in_sequence(headers)
     if data is None or len(data) > 65515:
         return []
-    promised = promise(max(it.step for it in parts), replace(headers[0], offset=0), data, few)
+    whole = replace(headers[0], offset=0)
+    promised = promise(max(it.step for it in parts), whole, data, few, parts)
     return [promised] if promised else []
 
 
-def promise(step: int, header: Header, data: bytes, few: bool) -> Optional[Promise]:
+def promise(step: int, header: Header, data: bytes, few: bool, parts: List[Arrival]) -> Optional[Promise]:
     """The guarantee for a datagram's data, if it's for the socket, with a checksum and without bytes after its end."""
     it = read_udp(data, header.source, header.destination)
     if it is None or it.destination_port != 7 or it.checksum == 0 or 8 + len(it.payload) != len(data):
         return None
     level = "MUST" if few and len(data) + 20 <= 576 else "SHOULD"
-    return Promise(step, level, header.source, it.source_port, it.payload)
+    return Promise(step, level, header.source, it.source_port, it.payload, parts)

@@ -9,11 +9,20 @@ from ._addresses import BROADCAST, HOST, LOOPBACK, ONES, OURS, ZERO_BROADCAST, i
 from ._case import Answer, Case, Connect, Event, Got, Hold, Open, Out, ReadHeld, Receive, Refused, Send, Wait
 from ._freedom import Path
 from ._packets import USER_PORT, checksum
-from ._read import UDP, Header, header_sum_is_wrong, read_udp, sum_with_pseudo_header, udp_sum_is_wrong
+from ._read import ICMP, UDP, Header, fold, header_sum_is_wrong, read_udp, sum_with_pseudo_header, udp_sum_is_wrong
 from ._reassembly import Reassembly
 
 RECORD_ROUTE, LOOSE_ROUTE, STRICT_ROUTE = 7, 0x83, 0x89
 MOST_SENT, QUEUE = 9216, 50
+UNREACHABLES = frozenset((3, code) for code in range(5))
+# The ICMP errors about a send that a call reports, by setting: types and codes.
+ERRORS_OF_SENDS = {
+    "none": frozenset(),
+    "port": frozenset({(3, 3)}),
+    "hard": frozenset({(3, 2), (3, 3), (12, 0)}),
+    "unreachable": UNREACHABLES,
+    "all": UNREACHABLES | {(4, 0), (5, 1), (11, 0), (12, 0)},
+}
 # 4.4BSD's receive queue: bytes of data with 16 for each address, and what a pool of 512 mbufs holds.
 MOST_WAITING, ADDRESS_BYTES, MOST_DATAGRAMS = 41600, 16, 256
 
@@ -152,8 +161,23 @@ class Machine:
             return
         if header.protocol == UDP:
             self.deliver(data, header)
+        elif header.protocol == ICMP:
+            self.hear_error(data)
         elif header.protocol in UNKNOWN_PROTOCOLS and header.destination == HOST and is_host(header.source):
             self.due.append(Due(self.step, UNREACHABLE, NO_PROTOCOL))
+
+    def hear_error(self, message: bytes) -> None:
+        """An ICMP error about a send of a connected socket: a call reports it, or none does."""
+        kind, quote = (*message[:2],), message[8:]
+        if kind not in ERRORS_OF_SENDS["all"] or len(quote) < 28 or fold(message) != 0xFFFF:
+            return
+        if quote[0] != 0x45 or quote[9] != UDP or quote[6] & 0x1F or quote[7]:
+            return
+        _, peer, port, peer_port = struct.unpack(">IIHH", quote[12:24])
+        for socket in self.sockets:
+            is_about = (socket.port, socket.peer) == (port, (peer, peer_port))
+            if is_about and kind in ERRORS_OF_SENDS[str(self.choose("errors"))]:
+                self.events.append(Refused(self.step))
 
     def accepts(self, header: Header) -> bool:
         """The tests of options, addresses and flags."""

@@ -45,9 +45,24 @@ def parser() -> argparse.ArgumentParser:
         it.add_argument("--seed", type=int, default=1, metavar="N", help="seed of random bytes and mixes (default: 1)")
         it.add_argument("--mixes", type=int, default=400, metavar="N", help="number of random mixes (default: 400)")
         it.add_argument("--timeout", type=float, default=30.0, metavar="S", help="seconds to wait (default: 30)")
+    lab_parser(commands)
     template = commands.add_parser("template", help="write kit.h and adapters to fill in, in C and in Python")
     template.add_argument("folder", metavar="FOLDER")
     return top
+
+
+def lab_parser(commands: Any) -> None:
+    lab = commands.add_parser("lab", help="a course: students write a stack in six steps, and you grade it")
+    actions = lab.add_subparsers(dest="action", required=True, metavar="ACTION")
+    start = actions.add_parser("start", help="write the students' part: six files to fill in, and the judge")
+    start.add_argument("--python", action="store_true", help="in Python instead of C")
+    check = actions.add_parser("check", help="try your own steps, one after the other")
+    check.add_argument("--step", type=int, choices=range(1, 7), help="only this step")
+    grade = actions.add_parser("grade", help="grade a class: a folder with a folder for each student; prints CSV")
+    grade.add_argument("--feedback", metavar="FOLDER", help="write a text for each student, STUDENT.txt, there")
+    grade.add_argument("--seed", type=int, default=1, metavar="N", help="other random bytes in the cases (default: 1)")
+    for it in (start, check, grade):
+        it.add_argument("folder", metavar="FOLDER", type=pathlib.Path)
 
 
 def run_parser(commands: Any) -> argparse.ArgumentParser:
@@ -91,6 +106,11 @@ def add_choices(it: argparse.ArgumentParser) -> None:
         metavar="RULE",
         help="a rule, a case, or the beginning of one; may be repeated",
     )
+    it.add_argument(
+        "--long",
+        action="store_true",
+        help="add long runs: 10,000 datagrams, and clocks that wrap. Waits shouldn't take real time",
+    )
     it.add_argument("--no-waits", action="store_true", help="leave out cases that wait for a second or more")
     it.add_argument("--list", action="store_true", help="print the cases, and run no adapter")
 
@@ -101,8 +121,8 @@ def add_reports(it: argparse.ArgumentParser) -> None:
         metavar="FOLDER",
         help="write report.txt, report.html, junit.xml, and a pcap of each kind's shortest case",
     )
-    it.add_argument("--baseline", metavar="FILE", help="known deviations")
-    it.add_argument("--write-baseline", metavar="FILE", help="write all deviations of this run to this file")
+    it.add_argument("--baseline", metavar="FILE", help="known deviations, and choices that must stay the same")
+    it.add_argument("--write-baseline", metavar="FILE", help="write this run's deviations and choices to this file")
     it.add_argument("--quiet", action="store_true", help="print the last line of each stack, and new deviations")
     it.add_argument("--no-policy", action="store_true", help="don't determine the choices of each stack")
 
@@ -111,7 +131,7 @@ def span(text: str) -> range:
     """The seeds of A-B. Raises ValueError for another form."""
     found = re.fullmatch(r"(\d+)-(\d+)", text)
     if not found or int(found[1]) > int(found[2]):
-        raise ValueError(f"--seeds is A-B, and not {text}")
+        raise ValueError(f"--seeds must be A-B, not {text}")
     return range(int(found[1]), int(found[2]) + 1)
 
 
@@ -152,21 +172,20 @@ def command(argv: Optional[Sequence[str]]) -> int:
     words = top.parse_args(argv)
     if words.what == "template":
         return template(pathlib.Path(words.folder))
+    if words.what == "lab":
+        from . import _lab
+
+        return _lab.main(words)
     if words.what == "wire":
         if not is_device(words.target):
-            top.error(f"--target is the address of a device on a network of 24 bits, and not {words.target}")
+            top.error(f"--target must be the address of a device on a network of 24 bits, not {words.target}")
         os.environ[TARGET] = words.target
     elif words.what == "run" and not words.list and not commands_of(words):
         top.error(
             "name an adapter: bsdudp-conform run -- ./my-adapter (bsdudp-conform template FOLDER writes one to fill in)"
         )
-    from ._packets import MissingScapy
-
     try:
         return {"run": run, "wire": run, "reduce": reduce}[words.what](words)
-    except MissingScapy as fault:
-        print(f"bsdudp-conform: {fault}", file=sys.stderr)
-        return USAGE
     except KeyboardInterrupt:
         return DEVIATES
 
@@ -177,7 +196,7 @@ def template(folder: pathlib.Path) -> int:
     files = {folder / it.name: it.read_bytes() for it in sorted(TEMPLATES.iterdir()) if it.is_file()}
     for path, content in files.items():
         if path.exists() and path.read_bytes() != content:
-            return fault_line(f"{path} exists, with other contents: name another folder", USAGE)
+            return fault_line(f"{path} exists with other contents: choose another folder", USAGE)
     for path, content in files.items():
         path.write_bytes(content)
         print(path)
@@ -205,7 +224,7 @@ def run(words: argparse.Namespace) -> int:
     if words.list or not chosen:
         for it in chosen:
             print(f"{it.name:24} {it.title}")
-        none = f"there is no case of {' '.join(words.only)}: bsdudp-conform run --list has all"
+        none = f"no case matches {' '.join(words.only)}: bsdudp-conform run --list has all"
         return OK if chosen else fault_line(none, USAGE)
     if words.report:  # now, because a folder that can't be made would lose the run's captures
         pathlib.Path(words.report).mkdir(parents=True, exist_ok=True)
@@ -230,8 +249,8 @@ def run(words: argparse.Namespace) -> int:
         return fault_line(str(fault), USAGE)
     except Fault as fault:
         return fault_line(f"{shlex.join(command)}: {fault}", NO_ADAPTER)
-    _output.write(judged, known, words)
-    return OK if not any(it.not_run or _output.new(it, known) for it in judged) else DEVIATES
+    is_as_known = _output.write(judged, known, words)
+    return OK if is_as_known and not any(it.not_run or _output.new(it, known) for it in judged) else DEVIATES
 
 
 def own_name(name: str, taken: Set[str]) -> str:
@@ -252,9 +271,9 @@ def made_cases(words: argparse.Namespace) -> "List[Case]":
     seeds = getattr(words, "seeds", None)
     if seeds:
         if not seeds.isdigit():
-            raise ValueError(f"--seeds takes one seed here, such as 15, and not {seeds!r}")
+            raise ValueError(f"--seeds must be one seed here, such as 15, not {seeds!r}")
         return cases.make_mixes(int(seeds), MIXES_A_SEED)
-    return cases.make(words.seed, words.mixes)
+    return cases.make(words.seed, words.mixes, getattr(words, "long", False))
 
 
 def for_one_device(chosen: "List[Case]") -> "List[Case]":
@@ -264,7 +283,7 @@ def for_one_device(chosen: "List[Case]") -> "List[Case]":
     used: Set[Tuple[int, int, int]] = set()
     for case in sorted(chosen, key=lambda it: (it.slow, it.rule == "frag.many")):
         keys = case.fragment_keys
-        flood = case.rule == "frag.many" and len(case.steps) > MOST_FLOOD
+        flood = len(case.steps) > MOST_FLOOD
         if case.rule != "run" and not flood and not keys & used:
             found.append(case)
             used |= keys
@@ -331,7 +350,7 @@ def reduce(words: argparse.Namespace) -> int:
     except ValueError as fault:
         return fault_line(str(fault), USAGE)
     if found is None:
-        return fault_line(f"there is no case {words.case}: bsdudp-conform run --list has all", USAGE)
+        return fault_line(f"no case {words.case}: bsdudp-conform run --list prints all", USAGE)
     try:
         with Adapter(words.adapter, words.timeout) as adapter:
             shorter = reduce_case(adapter, found)

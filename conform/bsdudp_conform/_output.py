@@ -7,7 +7,7 @@ import re
 import sys
 from typing import Dict, List, Sequence
 
-from ._baseline import Known, baseline_of, new_ones
+from ._baseline import Known, baseline_of, changed_choices, has_choices, new_ones
 from ._html import html
 from ._judge import Deviation, Judged
 from ._packets import write_capture
@@ -20,10 +20,11 @@ def new(judged: Judged, known: Known) -> List[Deviation]:
     return new_ones(judged, known)
 
 
-def write(stacks: Sequence[Judged], known: Known, words: argparse.Namespace) -> None:
-    """Prints the report, and writes the files that were requested."""
+def write(stacks: Sequence[Judged], known: Known, words: argparse.Namespace) -> bool:
+    """Prints the report, and writes the files that were requested. Returns whether a stack's choices are those that the
+    baseline has, if it has any."""
     policies: Dict[str, List[Explained]] = {}
-    if not words.no_policy and not words.quiet:
+    if not words.no_policy and (not words.quiet or words.write_baseline or has_choices(known)):
         if sys.stderr.isatty():
             print("looking for each stack's policy ..", file=sys.stderr)
         try:
@@ -40,10 +41,15 @@ def write(stacks: Sequence[Judged], known: Known, words: argparse.Namespace) -> 
             print(summary(it, known))
     else:
         print(whole, end="")
+    changed = [f"{it.name}: {line}" for it in stacks for line in changed_choices(policies.get(it.name, []), known)]
+    for line in changed:
+        print(f"a choice changed: {line}")
     if words.write_baseline:
-        pathlib.Path(words.write_baseline).write_text("".join(map(baseline_of, stacks)), encoding="utf-8")
+        baselines = (baseline_of(it, policies.get(it.name, [])) for it in stacks)
+        pathlib.Path(words.write_baseline).write_text("".join(baselines), encoding="utf-8")
     if words.report:
         write_folder(pathlib.Path(words.report), stacks, policies, known, whole)
+    return not changed
 
 
 def write_folder(

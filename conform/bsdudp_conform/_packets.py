@@ -1,55 +1,16 @@
-"""Packets with any field wrong, and capture files, by scapy. A field that is given isn't changed."""
+"""Packets with any field wrong, and capture files. A field that is given isn't changed."""
 from __future__ import annotations
 
-import functools
-import importlib
-import logging
 import pathlib
 import struct
-from typing import Any, Iterable, List, Optional, Sequence, Tuple, Union
+from typing import Any, Iterable, List, Optional, Sequence, Tuple
 
 from ._addresses import HOST, PEER, text_of
-from ._read import UDP, fold, sum_with_pseudo_header
+from ._read import ICMP, UDP, fold, sum_with_pseudo_header
 
 SOURCE_PORT, USER_PORT, CLOSED_PORT = 5000, 7, 9
 MORE, DONT_FRAGMENT, RESERVED = 1, 2, 4
-
-
-class MissingScapy(Exception):
-    """scapy isn't installed."""
-
-    def __str__(self) -> str:
-        return "scapy isn't installed: apt-get install python3-scapy, or pip install scapy"
-
-
-def _scapy(name: str) -> Any:
-    logging.getLogger("scapy.runtime").setLevel(logging.ERROR)  # it warns of interfaces that aren't used here
-    try:
-        return importlib.import_module(f"scapy.{name}")
-    except ImportError:
-        raise MissingScapy from None
-
-
-@functools.lru_cache(maxsize=None)
-def _udp_header(**fields: int) -> bytes:
-    """A UDP header by scapy, cached: few of them differ, and scapy takes 0.2 ms for each."""
-    return bytes(_scapy("layers.inet").UDP(**fields))
-
-
-@functools.lru_cache(maxsize=None)
-def _ip_header(options: bytes, **fields: Union[int, str]) -> bytes:
-    """An IPv4 header with these bytes as options, by scapy."""
-    raw = _scapy("packet").Raw
-    return bytes(_scapy("layers.inet").IP(options=[raw(options)] if options else [], **fields))
-
-
-def _with_identification(header: bytes, id: int, is_sum_given: bool) -> bytes:
-    """The same header with this identification. scapy computes its checksum, unless one was given."""
-    made = header[:4] + struct.pack(">H", id) + header[6:]
-    if is_sum_given:
-        return made
-    right: int = _scapy("utils").checksum(made[:10] + bytes(2) + made[12:])
-    return made[:10] + struct.pack(">H", right) + made[12:]
+PCAP_MAGIC, RAW_IPV4 = 0xA1B2C3D4, 228  # microseconds; LINKTYPE_IPV4
 
 
 def checksum(data: bytes) -> int:
@@ -70,7 +31,7 @@ def udp(
     """A UDP datagram. length: the field. summed: the length that the checksum covers. check: the field."""
     size = 8 + len(payload)
     field = size if length is None else length
-    bare = _udp_header(sport=sport, dport=dport, len=field, chksum=0) + payload
+    bare = struct.pack(">HHHH", sport, dport, field, 0) + payload
     if check is None:
         over = field if summed is None else summed
         covered = bare[:over] if 8 <= over <= size else bare
@@ -91,13 +52,13 @@ def packet(
     proto: int = UDP,
     **fields: int,
 ) -> bytes:
-    """An IPv4 packet: `fields` are scapy's (version, ihl, len, tos, ttl, chksum). offset is in bytes. pad follows the
-    total length. If sum_over is given, the header checksum covers that many bytes."""
-    fields.setdefault("len", 20 + len(options) + len(data))
-    fields.setdefault("ihl", 5 + len(options) // 4)
-    ends = {"src": text_of(source), "dst": text_of(destination)}
-    header = _ip_header(options, id=0, frag=offset // 8, flags=flags, proto=proto, **ends, **fields)
-    made = _with_identification(header, id, "chksum" in fields) + data + pad
+    """An IPv4 packet. fields: version, ihl, len, tos, ttl, chksum. offset is in bytes. pad follows the total length. If
+    sum_over is given, the header checksum covers that many bytes."""
+    first = fields.get("version", 4) << 4 | fields.get("ihl", 5 + len(options) // 4)
+    total = fields.get("len", 20 + len(options) + len(data))
+    counts = total, id, flags << 13 | offset // 8, fields.get("ttl", 64), proto
+    bare = struct.pack(">BBHHHBBHII", first, fields.get("tos", 0), *counts, 0, source, destination) + options
+    made = bare[:10] + struct.pack(">H", fields.get("chksum", checksum(bare))) + bare[12:] + data + pad
     if sum_over is not None:
         made = with_checksum(made, sum_over)
     return made
@@ -126,13 +87,19 @@ def even_cuts(length: int, size: int) -> List[int]:
 
 def write_capture(path: pathlib.Path, packets: Iterable[Tuple[float, bytes]]) -> None:
     """A capture of raw IPv4 packets with their times in seconds, which Wireshark opens."""
-    writer = _scapy("utils").RawPcapWriter(str(path), linktype=228, sync=False)
-    writer.write_header(b"")
-    for time, bytes_of in packets:
-        writer.write_packet(bytes_of, sec=int(time), usec=round(time % 1 * 1_000_000))
-    writer.close()
+    with open(path, "wb") as file:
+        file.write(struct.pack("<IHHiIII", PCAP_MAGIC, 2, 4, 0, 0, 65535, RAW_IPV4))
+        for time, made in packets:
+            file.write(struct.pack("<IIII", int(time), round(time % 1 * 1_000_000), len(made), len(made)) + made)
 
 
 def show(made: bytes) -> str:
-    """A packet as one line, by scapy."""
-    return str(_scapy("layers.inet").IP(made).summary())
+    """A whole packet as one line: its protocol and its ends."""
+    source, destination = (text_of(int.from_bytes(made[at : at + 4], "big")) for at in (12, 16))
+    data = made[(made[0] & 15) * 4 :]
+    if made[9] == UDP and len(data) >= 4:
+        ports = struct.unpack(">HH", data[:4])
+        return f"UDP {source}:{ports[0]} > {destination}:{ports[1]}"
+    if made[9] == ICMP and len(data) >= 2:
+        return f"ICMP {source} > {destination}, type {data[0]} code {data[1]}"
+    return f"{ {UDP: 'UDP', ICMP: 'ICMP'}.get(made[9], 'IPv4')} {source} > {destination}"

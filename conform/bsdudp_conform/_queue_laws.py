@@ -6,9 +6,10 @@ from dataclasses import dataclass, field
 from typing import Dict, Iterator, List, Optional, Sequence
 
 from ._case import Answer, Case, Got, Hold, ReadHeld
-from ._wire_laws import MUST, Breach
+from ._wire_laws import HELD, MUST, Breach
 
 ORDER, LOST = "hold.order", "hold.lost"
+NOT_READ = "a datagram that waited isn't read"
 # The longest UDP datagram that each host accepts: RFC 1122, section 3.3.2, without the IP header.
 ACCEPTED = 556
 
@@ -83,9 +84,9 @@ def lost(case: Case, socket: int, first: int, came: Sequence[Got], shown: Dict[i
     for it in periods(case, socket, first, came, shown):
         must = [place for place in it.came if 8 + len(came[place].data) <= ACCEPTED]
         if it.is_empty and must and not any(place in shown for place in it.came):
-            words = "a datagram that waited isn't read"
-            words = f"none of {len(it.came)} datagrams that waited is read" if len(it.came) > 1 else words
-            yield Breach(MUST, LOST, words, it.read_at, "one of them, or more")
+            words = f"none of {len(it.came)} datagrams that waited is read" if len(it.came) > 1 else NOT_READ
+            way = HELD + NOT_READ
+            yield Breach(MUST, LOST, words, it.read_at, "one of them, or more", NOT_READ, (), way, came[must[0]])
             return
         for place in it.came if alike else ():
             later = any(other > place and other in shown for other in it.came)

@@ -23,7 +23,7 @@ MEANING = {
     MUST: "against a MUST: all hosts that the RFCs permit reply alike, and this stack differently",
     SHOULD: "against a SHOULD: all hosts that keep the SHOULDs reply alike, and this stack differently",
 }
-SHOWN, MOST_RULES = 8, 6
+SHOWN, MOST_RULES, PLAYED = 8, 6, 40
 
 
 def cell(count: "Counter[str]") -> str:
@@ -127,7 +127,7 @@ def causes_text(judged: Judged, known: Known) -> str:
 
 def policy_text(explained: Sequence[Explained]) -> List[str]:
     """A stack's policy in words: the settings that explain nine of ten cases, and then what they don't explain."""
-    well = [it for it in explained if it.explained * 10 >= it.cases * 9]
+    well = [it for it in explained if it.is_good]
     lines = [it.words for it in well if it.told_apart]
     others = "; ".join(f"{it.title} (at best {it.cases_told})" for it in explained if it not in well)
     return lines + ([f"no policy that the judge knows explains: {others}"] if others else [])
@@ -168,6 +168,24 @@ def summary(judged: Judged, known: Known) -> str:
     return f"{told}; {judged.not_run} weren't run: {judged.why_not}" if judged.not_run else told
 
 
+def played(case: Case) -> str:
+    """What the adapter read, for JUnit's file: packets as bytes, without the middle of a very long case."""
+    lines = case.lines()
+    if len(lines) > 2 * PLAYED:
+        lines = [*lines[:PLAYED], f".. {len(lines) - 2 * PLAYED} more lines ..", *lines[-PLAYED:]]
+    return "\n".join(lines)
+
+
+def choices(stacks: Sequence[Judged], policies: Dict[str, List[Explained]]) -> List[List[str]]:
+    """A row for each choice that the RFCs leave: its title, and what each stack does."""
+    rows: Dict[str, List[str]] = {}
+    for place, stack in enumerate(stacks):
+        for it in policies.get(stack.name, []):
+            if it.is_good and it.told_apart:
+                rows.setdefault(it.title, [""] * len(stacks))[place] = it.choice
+    return [[title, *cells] for title, cells in rows.items()]
+
+
 def junit(stacks: Sequence[Judged], known: Known) -> str:
     """JUnit's XML: a suite for each stack, a test for each case. A known deviation is a skipped test."""
     top = ElementTree.Element("testsuites", name="bsdudp-conform")
@@ -194,6 +212,8 @@ def junit(stacks: Sequence[Judged], known: Known) -> str:
                     test, "failure" if case.name in new else "skipped", message=f"{it.breach.level}: {it.breach.what}"
                 )
                 tag.text = f"{it.breach.rule}: {rule.sentence} ({rule.source}); expected: {it.breach.expected}"
+            if case.name in broken:
+                ElementTree.SubElement(test, "system-out").text = played(case)
     if sys.version_info >= (3, 9):
         ElementTree.indent(top)
     return ElementTree.tostring(top, encoding="unicode", xml_declaration=True) + "\n"

@@ -65,6 +65,10 @@ RULES: Dict[str, Rule] = {
         "ICMP of unknown type, errors, replies, and requests that no host may have sent aren't answered",
         "RFC 1122 3.2.2, 3.2.1.3",
     ),
+    "icmp.error": Rule(
+        "an ICMP error about a send: a call reports it, or none does; the socket lives on",
+        "policy (RFC 1122 4.1.3.3, POSIX ECONNREFUSED)",
+    ),
     "udp.short": Rule("fewer than 8 bytes are no UDP datagram", "RFC 768"),
     "udp.len.below": Rule("a length below 8 is discarded", "RFC 768, Length"),
     "udp.len.beyond": Rule("a length above what IP carries is discarded", "RFC 768, Length"),
@@ -73,13 +77,13 @@ RULES: Dict[str, Rule] = {
     "udp.checksum.zero": Rule("no checksum (0): passed on", "RFC 768, RFC 1122 4.1.3.4"),
     "udp.checksum.ffff": Rule("a checksum computed as 0 comes as 0xffff", "RFC 768"),
     "udp.flip": Rule("each bit of a UDP header turned over", "RFC 768, RFC 1122 4.1.3.4"),
-    "udp.data": Rule("each length of data comes as sent, 0 among them", "RFC 768"),
+    "udp.data": Rule("data of each length comes as sent, in one packet", "RFC 768"),
     "udp.ports": Rule("source port 0 is taken; other ports' datagrams aren't", "RFC 768"),
     "udp.source": Rule("the user gets the address and port of a datagram's sender", "RFC 768, User Interface"),
     "udp.proto": Rule("another protocol's bytes don't reach UDP", "RFC 791 3.1"),
     "frag.order": Rule("fragments in any order make the datagram", "RFC 791 3.2, RFC 1122 3.3.2"),
     "frag.sizes": Rule("fragments of 8 bytes on, and last ones of 1 on", "RFC 791 3.2"),
-    "frag.large": Rule("datagrams above 576 bytes", "RFC 1122 3.3.2"),
+    "frag.large": Rule("datagrams above 576 bytes, with data of each length up to 4,415", "RFC 1122 3.3.2"),
     "frag.hole": Rule("with a fragment missing nothing comes", "RFC 791 3.2"),
     "frag.dup": Rule("a fragment that comes twice does no harm", "RFC 791 3.2"),
     "frag.overlap.same": Rule(
@@ -105,7 +109,9 @@ RULES: Dict[str, Rule] = {
     "frag.reuse": Rule("an identification may come again after its datagram", "RFC 791 3.2"),
     "frag.time.keep": Rule("unfinished datagrams are kept 60 s", "RFC 1122 3.3.2"),
     "frag.time.drop": Rule("and not beyond 120 s", "RFC 1122 3.3.2; 255 s: RFC 791 3.2"),
-    "frag.many": Rule("a flood of unfinished datagrams: others still come", "RFC 791 3.2; which of them is policy"),
+    "frag.many": Rule(
+        "a whole datagram comes in a flood of unfinished ones; how many of these are kept", "RFC 791 3.2, and policy"
+    ),
     "socket.ports": Rule("each socket gets its own port's datagrams", "RFC 768"),
     "socket.connected": Rule("a connected socket receives only from its peer", "POSIX connect; RFC 1122 4.1.4"),
     "socket.several": Rule("two sockets on a port", POLICY),
@@ -114,8 +120,8 @@ RULES: Dict[str, Rule] = {
     "hold.many": Rule("how many datagrams wait, and which are dropped", "policy (POSIX 2.10.11)"),
     "send.bytes": Rule("what leaves is the datagram that was given", "RFC 768, RFC 791 3.2"),
     "send.cut": Rule(
-        "a cut send: packets within the MTU, offsets in eights, one identification, right sums",
-        "RFC 791 3.2, RFC 1122 3.3.3",
+        "a cut send: packets within the MTU, offsets in eights, one identification, no don't fragment, right sums",
+        "RFC 791 2.3, 3.2, RFC 1122 3.3.3",
     ),
     "send.checksum": Rule(
         "a UDP checksum is there, and one computed as 0 is sent as 0xffff", "RFC 768, RFC 1122 4.1.3.4"

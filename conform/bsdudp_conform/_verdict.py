@@ -4,24 +4,26 @@ from __future__ import annotations
 import functools
 from collections import Counter
 from dataclasses import dataclass, replace
-from typing import FrozenSet, Iterable, List, Mapping, Tuple
+from typing import FrozenSet, Iterable, Iterator, List, Mapping, Tuple
 
 from ._addresses import BROADCAST, HOST, ZERO_BROADCAST, is_host, text_of
 from ._case import Answer, Case, Connect, Got, Receive
 from ._cause import extra as extra_cause
-from ._cause import missing as missing_cause
+from ._cause import NO_DATAGRAM, NO_EXPIRY
 from ._echoes import pings
 from ._freedom import Path, Value, runs
 from ._laws import NO_CHECK_OMITTED, OFFLOADED, STRANGER, Seen
-from ._machine import Delivered, Due, Machine, answer_of, delivered, play
+from ._machine import TIME_EXCEEDED, Delivered, Due, Machine, answer_of, delivered, play
 from ._queue_laws import held_reads
-from ._read import ICMP, UDP, read
-from ._wire_laws import MUST, SHOULD, Breach, leaving
+from ._read import UDP, read
+from ._wire_laws import LOST, MUST, SHOULD, UNANSWERED, WRONG, Breach, is_error, leaving
 
+ERROR_OF_SEND = "icmp.error"
 FAULT, NEVER, POLICY = "FAULT", "NEVER", "policy"
 LEVELS = (FAULT, NEVER, MUST, SHOULD)
 # The number of wrong datagrams of a case that are reported: the more packets came, the longer each explanation takes.
 MOST_WRONG = 3
+ANY_BYTES = "bytes reach the user that nobody sent"
 
 
 @dataclass(frozen=True)
@@ -86,43 +88,53 @@ def verdict(case: Case, answer: Answer, abilities: FrozenSet[str]) -> List[Breac
     if refused:
         return [Breach(MUST, "socket.connected", "the stack refuses to connect", refused[0], "a connected socket")]
     seen = Seen(case, OFFLOADED if "offload" in abilities else NO_CHECK_OMITTED)
-    found = by_laws(case, seen, answer)
+    found, arrived = by_laws(case, seen, answer)
     if "hold" in case.needs:
-        found += held_reads(case, expected(case).arrivals, answer)
-    if not found:
+        found += held_reads(case, expected(case).arrivals, Answer(tuple(arrived)))
+    is_plain = not found and seen.is_all_promised(answer.got)
+    if not found and not is_plain:
         found = by_machines(case, seen, answer)
     if "out" in abilities:
         found += leaving(seen, answer, "echo" in abilities)
         if "gateway" not in abilities:
             found += pings(seen, answer, abilities)
-        if not abilities & {"gateway", "echo"}:
+        if not is_plain and not abilities & {"gateway", "echo"}:
             found += missing_errors(case, answer)
     return list(dict.fromkeys(found))
 
 
-def by_laws(case: Case, seen: Seen, answer: Answer) -> List[Breach]:
+def by_laws(case: Case, seen: Seen, answer: Answer) -> Tuple[List[Breach], List[Got]]:
+    """What the two laws find, and what arrived, with the right senders."""
     found: List[Breach] = []
     left: List[Got] = []
+    promised = {(0, it.source, it.port, it.data): it.step for it in reversed(seen.promises)}
     for got in answer.got:
-        wrong = seen.fault(got) if len(found) < MOST_WRONG else None
+        due = promised.get((got.socket, got.source or 0, got.port, got.data))
+        is_sound = len(found) >= MOST_WRONG or due is not None and due <= got.step
+        wrong = None if is_sound else seen.fault(got)
+        if due is None and len(found) >= MOST_WRONG:  # a fault that isn't looked for
+            got = next((replace(got, source=it[1], port=it[2]) for it in promised if it[3] == got.data), got)
         if wrong:
             level = MUST if wrong.rule == STRANGER else NEVER
-            found.append(Breach(level, wrong.rule or case.rule, wrong.words, got.step, wrong.expected, wrong.cause))
+            way = WRONG + ANY_BYTES if wrong.words.endswith("nobody sent") else ""
+            rule = wrong.rule or case.rule
+            found.append(Breach(level, rule, wrong.words, got.step, wrong.expected, wrong.cause, way=way))
         if wrong and wrong.sender:  # it arrived, and its fault is already reported
             got = replace(got, source=wrong.sender[0], port=wrong.sender[1])
         left.append(got)
-    for promise in seen.promises():
+    arrived = list(left)
+    for promise in seen.promises:
         wanted = (0, promise.source, promise.port, promise.data)
         hit = next((it for it in left if same(wanted, it)), None)
         if hit is None:
             words = f"a datagram of {len(promise.data)} bytes doesn't come"
             sender = f"{text_of(promise.source)} port {promise.port}"
-            why = missing_cause(seen, Got(promise.step, promise.source, promise.port, promise.data))
+            lost = Got(promise.step, promise.source, promise.port, promise.data)
             expect = f"{len(promise.data)} bytes from {sender}"
-            found.append(Breach(promise.level, case.rule, words, promise.step, expect, why.cause, why.within))
+            found.append(Breach(promise.level, case.rule, words, promise.step, expect, NO_DATAGRAM, (), LOST, lost))
         else:
             left.remove(hit)
-    return found
+    return found, arrived
 
 
 def by_machines(case: Case, seen: Seen, answer: Answer) -> List[Breach]:
@@ -139,8 +151,10 @@ def by_machines(case: Case, seen: Seen, answer: Answer) -> List[Breach]:
             else f"{len(missing)} of {len(want.answer)} datagrams don't come"
         )
         socket, source, port, data = missing[0]
-        why = missing_cause(seen, Got(0, source, port, data, socket))
-        found.append(Breach(want.level, case.rule, words, why.step, told(want.answer), why.cause, why.within))
+        lost = Got(0, source, port, data, socket)
+        parts = seen.parts_of(lost)
+        step = parts[-1].step if parts else None
+        found.append(Breach(want.level, case.rule, words, step, told(want.answer), NO_DATAGRAM, (), LOST, lost))
     if extra:
         words = "a datagram comes that shouldn't" if len(extra) == 1 else f"{len(extra)} datagrams come that shouldn't"
         cause = extra_cause(seen, extra[0])
@@ -165,21 +179,33 @@ ERROR_RULES = {
 
 def missing_errors(case: Case, answer: Answer) -> List[Breach]:
     """The ICMP errors of a host that are missing. Errors may be rate-limited, so floods and runs are excluded."""
+    found = []
+    for due, is_missing in errors_due(case, answer):
+        if is_missing:
+            level, rule, words = ERROR_RULES[due.type, due.code]
+            of_time = due.type == TIME_EXCEEDED
+            within, way = ((NO_EXPIRY,), "") if of_time else ((), UNANSWERED + words)
+            expect = f"ICMP type {due.type} code {due.code}"
+            found.append(Breach(level, rule, words, due.step, expect, words, within, way))
+    return found
+
+
+def errors_due(case: Case, answer: Answer) -> Iterator[Tuple[Due, bool]]:
+    """The ICMP errors that a host sends in a case, and whether each is missing. None is due for a datagram that a user
+    got: that is another fault."""
     if case.rule in ("frag.many", "run", "mix"):
-        return []
+        return
+    delivered_at = {it.step for it in answer.got}
     sent: "Counter[Tuple[int, int]]" = Counter()
     for out in answer.out:
         header = read(out.packet)
-        if header and header.protocol == ICMP and len(header.data) >= 2:
+        if header and is_error(header) and len(header.data) >= 2:
             sent[header.data[0], header.data[1]] += 1
-    found = []
     for due in expected(case).due:
-        if sent[due.type, due.code]:
-            sent[due.type, due.code] -= 1
-        else:
-            level, rule, words = ERROR_RULES[due.type, due.code]
-            found.append(Breach(level, rule, words, due.step, f"ICMP type {due.type} code {due.code}"))
-    return found
+        is_there = sent[due.type, due.code] > 0
+        sent[due.type, due.code] -= is_there
+        if is_there or due.step not in delivered_at:
+            yield due, not is_there
 
 
 def applies(case: Case, abilities: FrozenSet[str]) -> bool:
@@ -221,8 +247,10 @@ def echoed(packet: bytes) -> bool:
 
 
 def explains(case: Case, answer: Answer, settings: Mapping[str, Value]) -> bool:
-    """Whether a machine with these settings delivers what the stack did."""
+    """Whether a machine with these settings delivers what the stack did, and reports ICMP errors about sends alike."""
     if answer.fault is not None:
         return False
-    missing, extra = matched(play_delivered(case, Path(settings)), answer.got)
-    return not missing and not extra
+    machine = answer_of(play(case, Path(settings)))
+    missing, extra = matched(delivered(machine.got), answer.got)
+    reports = case.rule != ERROR_OF_SEND or machine.has_refused == answer.has_refused
+    return not missing and not extra and reports

@@ -1,11 +1,12 @@
 """The laws of packets sent: RFC 1122's rules for ICMP errors, and the law of sends."""
 from __future__ import annotations
 
-from typing import Iterator, List, NamedTuple, Optional, Tuple
+from collections import defaultdict
+from typing import DefaultDict, Dict, Iterator, List, NamedTuple, Optional, Tuple
 
 from ._addresses import BROADCAST, HOST, ONES, OURS, is_host, is_multicast, text_of
-from ._case import Answer, Out, Send
-from ._laws import Arrival, Seen, in_sequence
+from ._case import Answer, Got, Out, Send
+from ._laws import QUOTED, Arrival, Seen, in_sequence
 from ._words import kind_of_source
 from ._read import ICMP, UDP, Header, fold, read, read_udp, udp_sum_is_wrong
 
@@ -13,13 +14,28 @@ ERRORS = (3, 4, 5, 11, 12)
 # RFC 792, 950 and 1256
 KNOWN_TYPES = (*ERRORS, 0, 8, 9, 10, *range(13, 19))
 MUST, SHOULD = "MUST", "SHOULD"
+FIELDS = (
+    ("version or header length", 0, 1),
+    ("type of service", 1, 2),
+    ("total length", 2, 4),
+    ("identification", 4, 6),
+    ("flags or offset", 6, 8),
+    ("time to live", 8, 9),
+    ("protocol", 9, 10),
+    ("header checksum", 10, 12),
+    ("source", 12, 16),
+    ("destination", 16, 20),
+)
 # A send of more packets may find a queue full, and lose some before the wire.
 MOST_PACKETS = 50
+# An identification may come again after so many other cut sends.
+RECENT = 8_000
 
 
 class Breach(NamedTuple):
     """A deviation: the level of its rule, the rule, and a text. cause: the name by which deviations of all rules are
-    grouped; empty: the text without its numbers. within: causes that explain this one too, if the stack has them."""
+    grouped; empty: the text without its numbers. within: causes that explain this one too, if the stack has them. way:
+    the way of failing, in which datagrams are compared. datagram: the one that is lost."""
 
     level: str
     rule: str
@@ -28,6 +44,13 @@ class Breach(NamedTuple):
     expected: str = ""
     cause: str = ""
     within: Tuple[str, ...] = ()
+    way: str = ""
+    datagram: Optional[Got] = None
+
+
+# Ways of failing. After the colon come words for the report.
+ERROR_TO = "an ICMP error goes to "
+LOST, WRONG, UNANSWERED, SENT, QUOTED_WRONG, HELD = "lost", "wrong:", "unanswered:", "sent:", "quoted:", "held:"
 
 
 def leaving(seen: Seen, answer: Answer, shared: bool) -> List[Breach]:
@@ -45,7 +68,7 @@ def leaving(seen: Seen, answer: Answer, shared: bool) -> List[Breach]:
             continue
         found += headers_that_leave(it, header)
         if is_error(header):
-            about_this = about(seen, it.step, header.data[8:])
+            about_this = about(seen, it.step, header.data[8:], shared)
             if about_this is not None or not shared:
                 found += errors(seen, about_this, it, header)
     return found + sends(seen, answer)
@@ -64,26 +87,30 @@ def headers_that_leave(it: Out, header: Header) -> Iterator[Breach]:
         yield Breach(MUST, "ip.out", "a packet leaves with time to live 0", it.step, "a time to live of 1 or more")
 
 
-def about(seen: Seen, step: int, quote: bytes) -> Optional[Arrival]:
-    """The packet that an error quotes. If several have its addresses and identification, the one with its protocol and
-    its bytes."""
-    same = [
-        it
-        for it in seen.arrivals
-        if it.step <= step
-        and len(quote) >= 20
-        and it.packet[12:20] == quote[12:20]
-        and quote[4:6] in (it.packet[4:6], it.packet[5:3:-1])
-    ]
-    same.sort(
-        key=lambda it: (
-            it.packet[9] != quote[9],
-            it.packet[:28] != quote[:28],
-            it.header is None,
-            bool(it.header and it.header.offset),
-        )
-    )
-    return same[0] if same else None
+def about(seen: Seen, step: int, quote: bytes, shared: bool) -> Optional[Arrival]:
+    """The packet that an error quotes: the one with most bytes alike, so that a damaged quote is recognised too.
+    shared: only a packet with its addresses and identification."""
+    same = seen.by_beginning.get(quote[:QUOTED], []) if len(quote) >= QUOTED else []
+    among = same if any(it.step <= step for it in same) else seen.arrivals
+    found = [it for it in among if it.step <= step and len(quote) >= 20 and len(it.packet) >= 20]
+    if shared:
+        found = [it for it in found if it.packet[12:20] == quote[12:20] and it.packet[4:6] == quote[4:6]]
+
+    def place(it: Arrival) -> Tuple[int, bool, bool]:
+        return -alike(it.packet, quote), it.header is None, bool(it.header and it.header.offset)
+
+    first = min(found, key=place, default=None)
+    return first if first and alike(first.packet, quote) * 2 >= QUOTED else None
+
+
+def total_length(packet: bytes) -> int:
+    """The total length of a packet."""
+    return int.from_bytes(packet[2:4], "big")
+
+
+def alike(packet: bytes, quote: bytes) -> int:
+    """How many of the bytes that an error without options quotes are the packet's."""
+    return sum(one == other for one, other in zip(packet[:QUOTED], quote))
 
 
 def errors(seen: Seen, packet: Optional[Arrival], it: Out, header: Header) -> Iterator[Breach]:
@@ -133,7 +160,7 @@ def errors(seen: Seen, packet: Optional[Arrival], it: Out, header: Header) -> It
 
 def error_to(source: int) -> str:
     """The name of a cause: an error goes where none may go."""
-    return f"an ICMP error goes to {kind_of_source(source) or 'an address that no host has'}"
+    return f"{ERROR_TO}{kind_of_source(source) or 'an address that no host has'}"
 
 
 def is_error(header: Header) -> bool:
@@ -155,12 +182,21 @@ def quoted(it: Out, packet: Arrival, cause: Header, quote: bytes) -> Iterator[Br
     if quote[:length] == wanted:
         return
     expected = f"{length} bytes as they came"
+    words = f"the quote changes the packet's {changed(wanted, quote, header)}"
     if wanted.startswith(quote):
-        yield Breach(MUST, "icmp.quote", f"the quote ends after {len(quote)} bytes", it.step, expected)
-        return
-    first = next(at for at in range(length) if quote[at : at + 1] != wanted[at : at + 1])
-    part = "header" if first < 20 else "options" if first < header else "data"
-    yield Breach(MUST, "icmp.quote", f"the quote changes the packet's {part}, from byte {first} on", it.step, expected)
+        words = f"the quote ends after {len(quote)} bytes"
+    yield wrong_quote(it, packet, words, expected)
+
+
+def wrong_quote(it: Out, packet: Arrival, words: str, expected: str) -> Breach:
+    about_it = Got(packet.step, None, 0, b"")
+    return Breach(MUST, "icmp.quote", words, it.step, expected, way=QUOTED_WRONG + words, datagram=about_it)
+
+
+def changed(wanted: bytes, quote: bytes, header: int) -> str:
+    """The names of the fields that differ."""
+    parts = (*FIELDS, ("options", 20, header), ("data", header, len(wanted)))
+    return " and ".join(name for name, begin, end in parts if wanted[begin:end] != quote[begin : min(end, len(wanted))])
 
 
 # What may differ in the header of a reassembled datagram from that of its first fragment: bytes of the total length, of
@@ -181,45 +217,51 @@ def quoted_datagram(seen: Seen, it: Out, packet: Arrival, cause: Header, quote: 
     if any(quote[:length] == one[:length] for one in firsts):
         return
     wanted, expected = packet.packet[:length], "the first fragment's header, or the datagram's with a right checksum"
-    same = [at for at in range(header) if at not in REASSEMBLED]
+    ends = [one.header.end for one in seen.parts_at(packet.step) if one.header]
+    ends += [one.header.end for one in seen.arrivals if one.header and one.header.key == cause.key]
+    lengths, is_damaged = {header + end for end in ends} | {cause.length}, fold(quote[:header]) != 0xFFFF
+    same = bytes(wanted[at] if at in REASSEMBLED else quote[at] for at in range(min(length, len(quote))))
     for breaks, words in (
         (len(quote) < length, f"the quote ends after {len(quote)} bytes"),
-        (fold(quote[:header]) != 0xFFFF, "the header checksum in the quote of a reassembled datagram is wrong"),
-        ([quote[at : at + 1] for at in same] != [wanted[at : at + 1] for at in same], "the quote changes the header"),
-        (quote[header:length] != wanted[header:], "the quote changes the data"),
+        (same != wanted, f"the quote changes the packet's {changed(wanted, same, header)}"),
+        (is_damaged and total_length(quote) not in lengths, "the quote changes the packet's total length"),
+        (is_damaged, "the header checksum in the quote of a reassembled datagram is wrong"),
     ):
         if breaks:
-            yield Breach(MUST, "icmp.quote", words, it.step, expected)
+            yield wrong_quote(it, packet, words, expected)
             return
 
 
 def sends(seen: Seen, answer: Answer) -> List[Breach]:
     """The law of sends: for each send that isn't refused, exactly its datagram is sent."""
     found: List[Breach] = []
-    spent: List[int] = []
+    at_step: DefaultDict[int, List[Header]] = defaultdict(list)
+    for it in answer.out:
+        header = read(it.packet)
+        if header and header.protocol == UDP:
+            at_step[it.step].append(header)
+    latest: Dict[int, int] = {}  # the last cut send with each identification
+    cut = 0
     for number, step in enumerate(seen.case.steps):
         if not isinstance(step, Send) or answer.refused(number):
             continue
-        packets = [
-            (it, header)
-            for it in answer.out
-            if it.step == number
-            for header in [read(it.packet)]
-            if header and header.protocol == UDP and header.destination == step.address
-        ]
-        headers = [header for _, header in packets]
+        headers = [it for it in at_step[number] if it.destination == step.address]
         found += one_send(seen, number, step, headers)
         if len(headers) > 1:
-            if headers[0].identification in spent:
-                found.append(Breach(MUST, "send.id", "two cut sends have one identification", number, "another one"))
-            spent.append(headers[0].identification)
+            own = headers[0].identification
+            if cut - latest.get(own, -RECENT - 1) <= RECENT:
+                words = "two cut sends have one identification"
+                found.append(Breach(MUST, "send.id", words, number, "another one", way=SENT + words))
+            latest[own] = cut
+            cut += 1
     return found
 
 
 def one_send(seen: Seen, number: int, step: Send, headers: List[Header]) -> Iterator[Breach]:
     rule = "send.cut" if len(headers) > 1 else "send.bytes"
     if not headers:
-        yield Breach(MUST, "send.bytes", f"nothing leaves of a send of {len(step.data)} bytes", number, "the datagram")
+        words = "nothing leaves of a datagram"
+        yield Breach(MUST, "send.bytes", words, number, "the datagram", way=SENT + words)
         return
     for wrong, words, expected in (
         (
@@ -233,23 +275,29 @@ def one_send(seen: Seen, number: int, step: Send, headers: List[Header]) -> Iter
             "a multiple of 8",
         ),
         (len({it.key for it in headers}) > 1, "fragments of one datagram differ in their key", "one key"),
+        (
+            len(headers) > 1 and any(it.dont_fragment for it in headers),
+            "fragments leave with the flag don't fragment",
+            "a datagram with this flag is never cut",
+        ),
         (any(it.source not in OURS for it in headers), "another source than the host's own", text_of(HOST)),
     ):
         if wrong:
-            yield Breach(MUST, rule, words, number, expected)
+            yield Breach(MUST, rule, words, number, expected, way=SENT + words)
+            return
     if len(step.data) + 8 > MOST_PACKETS * (seen.case.mtu - 27):
         return
     data = in_sequence(headers)
     it = None if data is None else read_udp(data, headers[0].source, step.address)
     if data is None:
-        yield Breach(MUST, rule, "the fragments don't make one datagram", number, "each once, from 0 to a last one")
+        words, expected = "the fragments don't make one datagram", "each once, from 0 to a last one"
     elif it is None:
-        yield Breach(MUST, rule, "the datagram's UDP length or checksum doesn't hold", number, "right ones")
+        words, expected = "a datagram leaves with a wrong UDP length or checksum", "right ones"
     elif (it.payload, it.destination_port, it.source_port) != (step.data, step.port, seen.ports[step.socket]):
-        yield Breach(
-            MUST, rule, "other bytes or ports leave than were given", number, f"{len(step.data)} bytes as given"
-        )
+        words, expected = "other bytes or ports leave than were given", f"{len(step.data)} bytes as given"
     elif it.checksum == 0:
-        yield Breach(
-            MUST, "send.checksum", "a datagram leaves without a checksum", number, "a checksum, 0xffff for a sum of 0"
-        )
+        rule, words = "send.checksum", "a datagram leaves without a checksum"
+        expected = "a checksum, 0xffff for a sum of 0"
+    else:
+        return
+    yield Breach(MUST, rule, words, number, expected, way=SENT + words)

@@ -142,7 +142,7 @@ def of_data(packet: bytes) -> Iterator[Oddity]:
 
 
 def described(packet: bytes) -> str:
-    """A packet as one line: by scapy, and what is unusual about it."""
+    """A packet as one line: its ends, and what is unusual about it."""
     if len(packet) < 20:
         return f"{len(packet)} bytes: {packet.hex() or '-'}"
     found = ", ".join(it.words for it in oddities(packet))
@@ -151,7 +151,6 @@ def described(packet: bytes) -> str:
         source, destination = (text_of(int.from_bytes(packet[at : at + 4], "big")) for at in (12, 16))
         name = {UDP: "UDP", ICMP: "ICMP"}.get(packet[9], "IP")
         return f"{name} {source} > {destination}, id {int.from_bytes(packet[4:6], 'big')}: {found}"
-    shown = show(packet).replace("IP / ", "", 1).replace(" / Raw", "").replace(" / Padding", "")
     size = max(0, int.from_bytes(packet[2:4], "big") - (packet[0] & 15) * 4 - 8)
-    plain = f"{shown}, {size} bytes"
+    plain = f"{show(packet)}, {size} bytes"
     return f"{plain}: {found}" if found else plain

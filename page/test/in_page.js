@@ -85,7 +85,7 @@ function tryDrawing(i) {
 
 const isSeen = it => {
   const box = it.getBoundingClientRect(), style = getComputedStyle(it);
-  return box.width > 0 && box.height > 0 && style.visibility !== "hidden" && !it.closest(".unseen")
+  return box.width > 0 && box.height > 0 && style.visibility !== "hidden" && style.clipPath === "none"
     && !it.matches("input[type=file]") && !it.closest("details:not([open]) > :not(summary)");
 };
 const nameOf = it =>
@@ -460,7 +460,17 @@ let reached = new Set();
 function startTabs() {
   reached = new Set();
   document.activeElement.blur();
-  return takers().length;
+  return takers().filter(it => it.tabIndex >= 0).length;
+}
+
+// The rows of the script are one stop. Moves the focus there and returns the arrow keys that reach the others and come
+// back, each with the number of presses.
+function arrowsThroughRows() {
+  const row = document.querySelector("dialog[open]") ? null : byId("rows").querySelector("[aria-current]");
+  if (!row || !isSeen(row)) return [];
+  row.focus();
+  const after = page.steps.length - 1 - page.at;
+  return [["ArrowDown", after], ["ArrowUp", page.steps.length - 1], ["ArrowDown", page.at]];
 }
 
 // The element with the focus has an outline.

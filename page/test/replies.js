@@ -318,10 +318,12 @@ function isBytesOf(whole, chain) {
 }
 
 function tryWaiting(say, { state, sockets, output, pieces }, chainsOf) {
-  for (const { fd, first, cc, mbcnt } of state.sockets) {
-    const { queue } = sockets.find(it => it.fd === fd) || { queue: [] }, chains = chainsOf(first), all = chains.flat();
+  for (const { fd, first, cc, mbcnt, limit } of state.sockets) {
+    const { queue, options } = sockets.find(it => it.fd === fd) || { queue: [], options: [] };
+    const chains = chainsOf(first), all = chains.flat(), size = options.find(it => it.startsWith("rcvbuf "));
     const isSame = queue.length === chains.length && queue.every((it, i) => it.data && isBytesOf(it.data, chains[i].slice(1)));
     if (!isSame) say(`other datagrams are in the state than wait in socket ${fd}`);
+    if (limit !== (size ? +size.slice(7) : 0)) say(`the size of the queue of socket ${fd} is ${limit}`);
     if (cc !== all.reduce((n, it) => n + it.len, 0)) say(`sb_cc of socket ${fd} is ${cc}`);
     if (mbcnt !== all.reduce((n, it) => n + 128 + (it.cluster === null ? 0 : 2048), 0)) {
       say(`sb_mbcnt of socket ${fd} is ${mbcnt}`);
@@ -343,7 +345,7 @@ function tryWaiting(say, { state, sockets, output, pieces }, chainsOf) {
 // ---- hosts on a wire
 
 // Each host's separate script has the same results as the program after each line, with the module and with the native
-// program.
+// program, which can't set the size of a receive queue.
 function tryHosts(name, { steps, hosts }) {
   for (const host of hosts.values()) {
     tryHost(name, host);
@@ -354,7 +356,7 @@ function tryHosts(name, { steps, hosts }) {
 }
 
 function tryHost(name, host) {
-  if (!program) return;
+  if (!program || host.lines.some(line => line.includes(" rcvbuf "))) return;
   const words = Object.entries(host.options).map(([option, value]) => `--${option}=${value}`);
   const native = child.spawnSync(program, ["run", ...words], { input: textOf(host.lines), maxBuffer: 1 << 28 });
   const isSame = native.status === 0 && native.stdout.toString() === textOf(host.steps.map(step => step.reply));
@@ -402,7 +404,8 @@ function randomWire(below) {
   const ip = () => `10.0.0.${any([1, 2, 3, 3, 9, 255])}`, fd = () => 3 + below(3);
   const bytes = () => any(["-", "\"hi\"", "@40", "\"b\"*41", "@600", "00*3000"]);
   const calls = [() => "socket", () => `bind ${fd()} 0.0.0.0 ${port()}`, () => `recvfrom ${fd()} 65535`, () => "stat",
-    () => `setsockopt ${fd()} broadcast 1`, () => `connect ${fd()} ${ip()} 7`, () => "mbstat", () => "show sockets",
+    () => `setsockopt ${fd()} broadcast 1`, () => `setsockopt ${fd()} rcvbuf ${any([1, 600, 3000])}`,
+    () => `connect ${fd()} ${ip()} 7`, () => "mbstat", () => "show sockets",
     () => `sendto ${fd()} ${ip()} ${any([7, 520])} ${bytes()}`, () => `send ${fd()} ${bytes()}`,
     () => `rx udp 10.0.0.9:5 > ${ip()}:7 ${bytes()}`, () => "tick"];
   const wire = [() => "carry", () => "collect", () => "deliver", () => "carry 2", () => "show wire", () => "tick",
@@ -513,8 +516,9 @@ function randomScript(lines, below) {
   return textOf(Array.from({ length: LINES }, () => (below(8) ? any() : mixed())));
 }
 
-// A line of thousands of digits in every script takes too much time.
-const linesIn = all => all.flatMap(it => it.text.split("\n")).filter(line => line && line.length < 4000);
+// A line of thousands of digits in every script takes too much time. `bsdudp run` doesn't know `rcvbuf`.
+const linesIn = all => all.flatMap(it => it.text.split("\n"))
+  .filter(line => line && line.length < 4000 && !line.includes("rcvbuf"));
 
 function tryRandom(engine, command, examples) {
   const below = numbers(1), lines = linesIn(examples);

@@ -51,13 +51,14 @@ void port_say(const char *text)
         machine_put((uint8_t)*text++);
 }
 
+uint32_t port_random(void) { return machine_random(); }
 uint32_t port_stack(void) { return machine_stack(); }
 
 int main(void)
 {
     const struct device device = {{ADDR, 0, MBUFS, CLUSTERS, 1500, 1},
                                   {{2, 0, 0, 0, 0, 1}, MASK, GATEWAY, 0},
-                                  memory, sizeof memory, flash_start, (uint32_t)(flash_end - flash_start), ram, RAM, 0};
+                                  memory, sizeof memory, flash_start, (uint32_t)(flash_end - flash_start), ram, RAM};
     device_run(&device); /* it says why it doesn't start */
     return 1;
 }

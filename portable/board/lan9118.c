@@ -2,8 +2,6 @@
    Controller" (its chapters 3 and 5), and the address from ARM's application note 385. */
 #include "lan9118.h"
 
-#include <string.h>
-
 #define REGISTER(offset) (*(volatile uint32_t *)(0x40200000 + (offset)))
 #define RX_DATA REGISTER(0x00)
 #define TX_DATA REGISTER(0x20)
@@ -93,18 +91,15 @@ size_t lan9118_receive(uint8_t *buffer)
     while ((RX_FIFO_INF & 0xff0000) != 0) {
         const uint32_t status = RX_STATUS, came = status >> 16 & 0x3fff, words = (came + 3) / 4;
         const uint32_t len = came > CHECK_SEQUENCE ? came - CHECK_SEQUENCE : 0;
-        uint32_t i;
-        if ((status & RX_ERROR) != 0 || len == 0 || len > LAN9118_FRAME) {
-            for (i = 0; i < words; i++)
-                (void)RX_DATA;
-            continue;
-        }
+        const uint32_t most = (status & RX_ERROR) != 0 || len > LAN9118_FRAME ? 0 : len;
+        uint32_t i, k, at = 0;
         for (i = 0; i < words; i++) {
             const uint32_t word = RX_DATA; /* the last one, or a part of it, is the check sequence */
-            if (4 * i < len)
-                memcpy(buffer + 4 * i, &word, len - 4 * i < 4 ? len - 4 * i : 4);
+            for (k = 0; k < 4 && at < most; k++)
+                buffer[at++] = (uint8_t)(word >> 8 * k);
         }
-        return len;
+        if (at > 0)
+            return at;
     }
     return 0;
 }
@@ -112,16 +107,17 @@ size_t lan9118_receive(uint8_t *buffer)
 int lan9118_send(const uint8_t *frame, size_t len)
 {
     const uint32_t words = (uint32_t)(len + 3) / 4;
-    uint32_t i, is_lost = 0;
+    uint32_t at = 0, is_lost = 0;
     while ((TX_FIFO_INF & 0xff0000) != 0)
         is_lost |= TX_STATUS & TX_ERROR;
     while ((TX_FIFO_INF & 0xffff) < 4 * words + 8)
         continue;
     TX_DATA = TX_FIRST | TX_LAST | (uint32_t)len;
     TX_DATA = (uint32_t)len;
-    for (i = 0; i < words; i++) {
-        uint32_t word = 0;
-        memcpy(&word, frame + 4 * i, len - 4 * i < 4 ? len - 4 * i : 4);
+    while (at < len) {
+        uint32_t word = 0, k;
+        for (k = 0; k < 4 && at < len; k++)
+            word |= (uint32_t)frame[at++] << 8 * k;
         TX_DATA = word;
     }
     return is_lost != 0 ? -1 : 0;

@@ -119,6 +119,15 @@ void machine_put(uint8_t byte)
 
 int machine_ticked(void) { return (CLOCK_CONTROL & CLOCK_PASSED) != 0; }
 
+/* The machine has no random generator: the cycles at which this is called make the numbers, and somebody who measures
+   them may guess some. A board with a generator reads that. */
+uint32_t machine_random(void)
+{
+    static uint32_t all;
+    all = (all ^ CLOCK_NOW) * 1664525 + 1013904223;
+    return all ^ all >> 16;
+}
+
 void machine_sleep(uint32_t interrupt, void (*heard)(void))
 {
     const uint32_t bit = UINT32_C(1) << (interrupt & 31);

@@ -25,6 +25,9 @@ uint32_t machine_open(const char *path, uint32_t mode);
 uint32_t machine_read(uint32_t file, void *bytes, uint32_t len);
 void machine_write(uint32_t file, const void *bytes, uint32_t len);
 
+/* Returns another number at each call. */
+uint32_t machine_random(void);
+
 /* Returns how many bytes of stack were used since the start. */
 uint32_t machine_stack(void);
 

@@ -218,6 +218,27 @@ int bsdudp_ether_receive(struct bsdudp *stack, const void *frame, size_t len)
     return answer_of(core_ether_receive(&it, MEMORY, LINK, lend(&it, frame, len), heard(len)));
 }
 
+static void get_fate(struct bsdudp_fate *fate, const u8 *plain)
+{
+    fate->got = get_u64(plain);
+    fate->lost = get_u64(plain + 8);
+    fate->cause = get_u32(plain + 16);
+    fate->kind = plain[20];
+    fate->completed = plain[21];
+}
+
+int bsdudp_ether_receive_fate(struct bsdudp *stack, const void *frame, size_t len, struct bsdudp_fate *fate)
+{
+    int answer;
+    BEGIN(ether_receive_fate, stack);
+    if (without_link(stack) < 0)
+        return without_link(stack);
+    answer = answer_of(core_ether_receive_fate(&it, MEMORY, LINK, lend(&it, frame, len), heard(len), argument));
+    if (answer == 0)
+        get_fate(fate, plain);
+    return answer;
+}
+
 int bsdudp_ether_transmit(struct bsdudp *stack, void *buffer, size_t len)
 {
     BEGIN(ether_transmit, stack);
@@ -279,41 +300,6 @@ int bsdudp_ether_neighbour(struct bsdudp *stack, uint32_t i, struct bsdudp_neigh
     return 0;
 }
 
-#if BSDUDP_MALLOC
-/* A block of `len` bytes from an aligned place on, or NULL if boot fails in any case: it then returns the error. */
-static u8 *block_of(const struct bsdudp *stack, const struct bsdudp_config *config, size_t len)
-{
-    const int has_sizes = config->mbufs >= 1 && config->mbufs <= 65535 && config->clusters <= 4096;
-    return stack->core.at == 0 && has_sizes ? malloc(len + BSDUDP_ALIGNMENT - 1) : NULL;
-}
-
-/* The block is the stack's, or free again. */
-static int kept(struct bsdudp *stack, u8 *block, int answer)
-{
-    if (answer < 0)
-        free(block);
-    else
-        stack->block = block;
-    return answer;
-}
-
-int bsdudp_boot(struct bsdudp *stack, const struct bsdudp_config *config)
-{
-    const size_t len = bsdudp_memory(config);
-    u8 *block = block_of(stack, config, len);
-    return block == NULL ? bsdudp_boot_in(stack, config, NULL, 0)
-                         : kept(stack, block, boot_at(stack, config, block, len, ARENA_HEAD));
-}
-
-int bsdudp_ether_boot(struct bsdudp *stack, const struct bsdudp_config *config, const struct bsdudp_link *link)
-{
-    const size_t len = BSDUDP_ETHER_MEMORY(config->mbufs, config->clusters);
-    u8 *block = block_of(stack, config, len);
-    return block == NULL ? bsdudp_ether_boot_in(stack, config, link, NULL, 0)
-                         : kept(stack, block, boot_host_at(stack, config, link, block, len));
-}
-#endif
-
 int bsdudp_end(struct bsdudp *stack)
 {
     const struct bsdudp none = BSDUDP_NONE;
@@ -323,9 +309,8 @@ int bsdudp_end(struct bsdudp *stack)
         stack->end_link(stack);
     answer = answer_of(core_end(&it, handle_of(&it)));
     if (answer == 0) {
-#if BSDUDP_MALLOC
-        free(stack->block);
-#endif
+        if (stack->give_back != NULL)
+            stack->give_back(stack->block);
         *stack = none;
     }
     return answer;
@@ -337,6 +322,18 @@ int bsdudp_rx(struct bsdudp *stack, const void *packet, size_t len)
     if (stack->tick_link != NULL)
         return -BSDUDP_EOPNOTSUPP;
     return answer_of(core_rx(&it, handle_of(&it), lend(&it, packet, len), heard(len)));
+}
+
+int bsdudp_rx_fate(struct bsdudp *stack, const void *packet, size_t len, struct bsdudp_fate *fate)
+{
+    int answer;
+    BEGIN(rx_fate, stack);
+    if (stack->tick_link != NULL)
+        return -BSDUDP_EOPNOTSUPP;
+    answer = answer_of(core_rx_fate(&it, handle_of(&it), lend(&it, packet, len), heard(len), argument));
+    if (answer == 0)
+        get_fate(fate, plain);
+    return answer;
 }
 
 int bsdudp_tx(struct bsdudp *stack, void *buffer, size_t len)
@@ -445,18 +442,52 @@ static int set_reuse_port(struct bsdudp *stack, uint32_t fd, u32 on)
     return answer_of(core_set_reuse_port(&it, handle_of(&it), fd, on));
 }
 
-int bsdudp_setsockopt(struct bsdudp *stack, uint32_t fd, int option, int on)
+static int set_receive_limit(struct bsdudp *stack, uint32_t fd, uint16_t limit)
+{
+    BEGIN(set_receive_limit, stack);
+    return answer_of(core_set_receive_limit(&it, handle_of(&it), fd, limit));
+}
+
+static int receive_limit(struct bsdudp *stack, uint32_t fd)
+{
+    BEGIN(receive_limit, stack);
+    return answer_of(core_receive_limit(&it, handle_of(&it), fd));
+}
+
+int bsdudp_setsockopt(struct bsdudp *stack, uint32_t fd, int option, int value)
 {
     struct bsdudp_name name;
     int answer;
     switch (option) {
     case BSDUDP_SO_BROADCAST:
-        return set_broadcast(stack, fd, on != 0);
+        return set_broadcast(stack, fd, value != 0);
     case BSDUDP_SO_REUSEPORT:
-        return set_reuse_port(stack, fd, on != 0);
+        return set_reuse_port(stack, fd, value != 0);
+    case BSDUDP_SO_RCVBUF:
+        if (value > 0 && value <= 65535)
+            return set_receive_limit(stack, fd, (uint16_t)value);
+        /* fall through */
     default: /* a handle without a stack and a wrong descriptor are reported first */
         answer = bsdudp_getsockname(stack, fd, &name);
-        return answer < 0 ? answer : -BSDUDP_ENOPROTOOPT;
+        return answer < 0 ? answer : option == BSDUDP_SO_RCVBUF ? -BSDUDP_EINVAL : -BSDUDP_ENOPROTOOPT;
+    }
+}
+
+int bsdudp_getsockopt(struct bsdudp *stack, uint32_t fd, int option)
+{
+    struct bsdudp_name name;
+    const int answer = bsdudp_getsockname(stack, fd, &name);
+    if (answer < 0)
+        return answer;
+    switch (option) {
+    case BSDUDP_SO_BROADCAST:
+        return name.broadcast;
+    case BSDUDP_SO_REUSEPORT:
+        return name.reuse_port;
+    case BSDUDP_SO_RCVBUF:
+        return receive_limit(stack, fd);
+    default:
+        return -BSDUDP_ENOPROTOOPT;
     }
 }
 

@@ -87,18 +87,27 @@ uint64_t bsdudp_plain_sum(const uint8_t *bytes, uint64_t len)
 /* A sum folded to 16 bits: it's 0 only for 0. */
 uint16_t bsdudp_plain_fold(uint64_t sum)
 {
-    uint32_t low = (uint32_t)sum, high = (uint32_t)(sum >> 32);
-    low = (low & 65535) + (low >> 16) + (high & 65535) + (high >> 16);
-    low = (low & 65535) + (low >> 16);
-    return (uint16_t)((low & 65535) + (low >> 16));
+    const uint32_t low = (uint32_t)(sum % 4294967296), high = (uint32_t)(sum / 4294967296);
+    const uint32_t first = low % 65536 + low / 65536 + high % 65536 + high / 65536;
+    const uint32_t second = first % 65536 + first / 65536, third = second % 65536 + second / 65536;
+    //@ assert sum == low + 4294967296 * high;
+    //@ assert sum == first + 65535 * (low / 65536 + 65537 * (high % 65536) + 4295032833 * (high / 65536));
+    //@ assert first == second + 65535 * (first / 65536) && second == third + 65535 * (second / 65536);
+    //@ assert third <= 65535 && (third == 0 ==> sum == 0);
+    return (uint16_t)third;
 }
 
 /* The index of the first of sixteen ports that equals this one: 16 if none does. */
 uint64_t bsdudp_plain_before(const uint16_t *ports, uint64_t len, uint64_t at, uint16_t port)
 {
+    const uint16_t *from = ports + (uint32_t)at;
     uint32_t k;
     (void)len;
-    for (k = 0; k < 16 && ports[(uint32_t)at + k] != port; k++)
+    //@ assert from == ports + at;
+    /*@ loop invariant k <= 16 && \forall integer i; at <= i < at + k ==> ports[i] != port;
+        loop assigns k;
+        loop variant 16 - k; */
+    for (k = 0; k < 16 && from[k] != port; k++)
         continue;
     return k;
 }

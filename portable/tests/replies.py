@@ -68,7 +68,7 @@ class Random(argparse.Action):
 
     def __call__(self, parser, namespace, values, option=None):
         if not values[0].isdigit():
-            parser.error(f"{option}: {values[0]} is no number")
+            parser.error(f"{option}: {values[0]} isn't a number")
         setattr(namespace, self.dest, (int(values[0]), values[1]))
 
 

@@ -14,8 +14,10 @@ can lose packets; `sweep` runs a scenario for many seeds. The behaviour of the s
 bytes to it and back, and is tested."""
 from ._counters import Counters, MbStat
 from ._errors import NoBuffersError
+from ._fate import Fate
 from ._frame import Frame
 from ._host import Host, Neighbour, Tallies
+from ._library import LIBRARY
 from ._losses import Bursts, Nth, Sent
 from ._notes import IP_PKTINFO, IP_RECVTOS, IP_RECVTTL
 from ._packet import Packet
@@ -27,12 +29,15 @@ from ._unfinished import HeldRange, UnfinishedDatagram
 from ._wire import Carried, UnderWay, Wire
 
 __version__ = "0.5.0"
+# The version of the C library that was loaded, such as "0.5.0", or "0.5.0, unproved build" if it was built with TRIAL=1.
+library_version = LIBRARY.version
 
 __all__ = [
     "Bursts",
     "Carried",
     "Counters",
     "CutDatagramWarning",
+    "Fate",
     "Frame",
     "HeldRange",
     "Host",
@@ -53,5 +58,6 @@ __all__ = [
     "UnfinishedDatagram",
     "Waiting",
     "Wire",
+    "library_version",
     "sweep",
 ]

@@ -23,7 +23,7 @@ def number_of(host: Host) -> int:
     if isinstance(host, ipaddress.IPv4Address):
         return int(host)
     if not isinstance(host, str):
-        raise TypeError(f"an address is a str as '10.0.0.1', and not {type(host).__name__}")
+        raise TypeError(f"an address must be a str such as '10.0.0.1', not {type(host).__name__}")
     return _parsed(host)
 
 
@@ -37,7 +37,7 @@ def _parsed(host: str) -> int:
     try:
         return int(ipaddress.IPv4Address(host))
     except ipaddress.AddressValueError as fault:
-        raise ValueError(f"{host!r} is no IPv4 address: {fault}") from None
+        raise ValueError(f"{host!r} isn't an IPv4 address: {fault}") from None
 
 
 @functools.lru_cache(maxsize=4096)
@@ -50,16 +50,16 @@ def in_range(what: str, value: SupportsIndex, least: int, most: int) -> int:
     """Returns the value as an int. TypeError if it has no `__index__` (numpy's integers have one) or is a bool;
     ValueError if it is not `least` to `most`."""
     if isinstance(value, bool) or not hasattr(value, "__index__"):
-        raise TypeError(f"{what} is an int, and not {type(value).__name__}")
+        raise TypeError(f"{what} must be an int, not {type(value).__name__}")
     number = operator.index(value)
     if not least <= number <= most:
-        raise ValueError(f"{what} is {least} to {most}, and not {number}")
+        raise ValueError(f"{what} must be {least} to {most}, not {number}")
     return number
 
 
 def raw(address: object) -> Raw:
     """Returns an address with its port, for the library. TypeError or ValueError if it is not an `Endpoint`."""
     if not isinstance(address, tuple) or len(address) != 2:
-        raise TypeError("an address is a tuple of a host and a port, as ('10.0.0.1', 7)")
+        raise TypeError("an address must be a tuple of a host and a port, such as ('10.0.0.1', 7)")
     host, port = address
     return Raw(number_of(host), in_range("a port", port, 0, 65_535))

@@ -14,7 +14,7 @@ def octets(data: ReadableBuffer) -> bytes:
     try:
         return bytes(memoryview(data))
     except TypeError:
-        raise TypeError(f"data is bytes, and not {type(data).__name__}") from None
+        raise TypeError(f"data must be bytes, not {type(data).__name__}") from None
 
 
 def room(buffer: WriteableBuffer) -> memoryview:
@@ -22,7 +22,7 @@ def room(buffer: WriteableBuffer) -> memoryview:
     try:
         view = memoryview(buffer).cast("B")
     except TypeError:
-        raise TypeError(f"a buffer of bytes one after another, and not {type(buffer).__name__}") from None
+        raise TypeError(f"the buffer must be contiguous bytes, not {type(buffer).__name__}") from None
     if view.readonly:
-        raise TypeError(f"a buffer that can be written to, and not {type(buffer).__name__}")
+        raise TypeError(f"the buffer must be writable, not {type(buffer).__name__}")
     return view

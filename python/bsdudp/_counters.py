@@ -33,6 +33,7 @@ class Counters(Mapping[str, int]):
     >>> stack = bsdudp.Stack("10.0.0.1")
     >>> before = stack.counters
     >>> stack.rx(b"short")
+    <Fate: dropped, packet shorter than a header>
     >>> stack.counters["ip.toosmall"]
     1
     >>> stack.counters.since(before).causes()

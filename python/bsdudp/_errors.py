@@ -2,6 +2,7 @@
 from __future__ import annotations
 
 import errno
+import functools
 from typing import Dict, Optional, Tuple, Type
 
 from ._library import LIBRARY
@@ -13,14 +14,19 @@ TOO_LONG = -40
 MAX_DATAGRAM = 9_216
 HEADERS = 28  # of IP and UDP
 
+BOUND_ALREADY = "the socket has a local address or port already: bind comes once, and before connect and sendto"
+NOT_OF_HOST = 'the address is not one of this host: "" stands for all of them'
 SAME_FOUR = "another socket has the same two addresses and ports"
 NO_PACKETS = "a host on an Ethernet has frames instead of packets: use receive and transmit"
 
 # The cause of a result that has several causes in the library's own text, by the call that returned it.
 CAUSES: Dict[Tuple[str, int], str] = {
-    ("bind", -22): "the socket has a local address or port already: bind comes once, and before connect and sendto",
+    ("bind", -22): BOUND_ALREADY,
     ("bind", -48): "another socket has this address and port",
-    ("bind", -49): 'the address is not one of this host: "" stands for all of them',
+    ("bind", -49): NOT_OF_HOST,
+    ("bind_random", -22): BOUND_ALREADY,
+    ("bind_random", -48): "other sockets have this address and each port of the range",
+    ("bind_random", -49): NOT_OF_HOST,
     ("connect", -48): SAME_FOUR,
     ("connect", -49): "the port to connect to is 0",
     ("sendto", -48): SAME_FOUR,
@@ -55,11 +61,18 @@ class NoBuffersError(OSError):
         return type(self), (self.errno, self.strerror, self.lack)
 
 
+@functools.lru_cache(maxsize=None)
+def _told(answer: int) -> Tuple[int, str]:
+    """Returns the operating system's number for a negative result, and what the library says of it. There are few, and a
+    program that receives until nothing is left gets one each time."""
+    return getattr(errno, LIBRARY.error_name(answer)), LIBRARY.error_text(answer)
+
+
 def refused(answer: int, call: str = "", cause: Optional[str] = None) -> OSError:
     """Returns the exception for a negative result of a call. OSError chooses its subclass by the number: EWOULDBLOCK is
     a BlockingIOError. Its text is `cause`; without one, it's what the result means for this call."""
-    number = getattr(errno, LIBRARY.error_name(answer))
-    text = cause or CAUSES.get((call.partition("_noted")[0], answer)) or LIBRARY.error_text(answer)
+    number, meaning = _told(answer)
+    text = cause or CAUSES.get((call.partition("_fate")[0], answer)) or meaning
     if answer in (POOL_LACKS, QUEUE_IS_FULL):
         return NoBuffersError(number, text, "pool" if answer == POOL_LACKS else "queue")
     return OSError(number, text)
@@ -68,5 +81,5 @@ def refused(answer: int, call: str = "", cause: Optional[str] = None) -> OSError
 def too_long(length: int, mtu: int) -> str:
     """Returns why a datagram of this length was too long: for any send, or for a broadcast, which is one packet."""
     if length > MAX_DATAGRAM:
-        return f"a datagram has at most {MAX_DATAGRAM:,} bytes, and not {length:,}"
-    return f"a broadcast has at most {mtu - HEADERS:,} bytes at an MTU of {mtu:,}, and not {length:,}"
+        return f"a datagram must have at most {MAX_DATAGRAM:,} bytes, not {length:,}"
+    return f"a broadcast must have at most {mtu - HEADERS:,} bytes at an MTU of {mtu:,}, not {length:,}"

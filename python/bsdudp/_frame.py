@@ -26,11 +26,12 @@ def mac_bytes(mac: Union[str, bytes]) -> bytes:
     """Returns the six bytes of a hardware address, given as "02:00:00:00:00:01" or as six bytes."""
     if isinstance(mac, str):
         if not re.fullmatch(r"[0-9a-fA-F]{2}(:[0-9a-fA-F]{2}){5}", mac):
-            raise ValueError(f'a hardware address is six bytes in hexadecimal, as "02:00:00:00:00:01", and not {mac!r}')
+            form = 'six bytes in hexadecimal, such as "02:00:00:00:00:01"'
+            raise ValueError(f"a hardware address must be {form}, not {mac!r}")
         return bytes.fromhex(mac.replace(":", ""))
     found = octets(mac)
     if len(found) != 6:
-        raise ValueError(f"a hardware address has six bytes, and not {len(found)}")
+        raise ValueError(f"a hardware address must have six bytes, not {len(found)}")
     return found
 
 

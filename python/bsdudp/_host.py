@@ -6,8 +6,9 @@ from typing import Iterator, List, NamedTuple, NoReturn, Optional, SupportsIndex
 
 from . import _addresses
 from ._addresses import in_range, number_of, text_of
-from ._frame import AnyFrame, Frame, frame_bytes, mac_bytes, mac_text
 from ._errors import refused
+from ._fate import Fate
+from ._frame import HEADER, AnyFrame, Frame, frame_bytes, mac_bytes, mac_text
 from ._library import ETHER_ROOM, LIBRARY, NEIGHBOURS, Link, NeighbourOfC, TalliesOfC
 from ._packet import AnyPacket
 from ._socket import Socket
@@ -44,7 +45,7 @@ class Tallies(NamedTuple):
     echoes: int
     """Echo requests that got a reply."""
     unreachable: int
-    """Datagrams for which the host sent "port unreachable" to the sender."""
+    """Datagrams for which the host sent "port unreachable" or "protocol unreachable" to the sender."""
     limited: int
     """Datagrams for which it did not: it sends at most 10 between two ticks."""
     icmp_dropped: int
@@ -74,7 +75,7 @@ class Neighbour(NamedTuple):
 
 class Host(Stack):
     """A simulated host on an Ethernet: a `Stack` that receives and sends frames (RFC 894), with ARP (RFC 826), replies
-    to ping, and "port unreachable" for closed ports (RFC 792).
+    to ping, and "destination unreachable" for closed ports and unknown protocols (RFC 792).
 
     mac      its hardware address, such as "02:00:00:00:00:01" or six bytes; not a group address
     mask     the network mask; the default is "255.255.255.0"
@@ -107,12 +108,12 @@ class Host(Stack):
     ) -> None:
         hardware, self._mask = mac_bytes(mac), number_of(mask)
         if hardware[0] & 1:
-            raise ValueError(f"mac is the hardware address of one card, and {mac_text(hardware)} is a group's")
+            raise ValueError(f"mac must be the hardware address of one card: {mac_text(hardware)} is a group address")
         if not any(hardware):
-            raise ValueError("mac is the hardware address of a card, and no card has 0")
+            raise ValueError("mac must not be 0")
         hosts = ~self._mask & 0xFFFFFFFF
         if hosts & (hosts + 1):
-            raise ValueError(f"mask is ones and then zeros, and {text_of(self._mask)} isn't")
+            raise ValueError(f"mask must be ones followed by zeros, not {text_of(self._mask)}")
         in_range("mtu", mtu, 68, 1500)
         to = 0 if gateway is None else number_of(gateway)
         self._link = Link((ctypes.c_uint8 * 6)(*hardware), self._mask, to, bool(probe))
@@ -126,11 +127,11 @@ class Host(Stack):
     def _boot_in(self, at: int, size: int) -> int:
         own, to = self._config.addr, self._link.gateway
         if self._has_gateway and ((to ^ own) & self._mask or to in (0, own, self._config.bcast)):
-            raise ValueError(f"gateway is a neighbour, on the network of {text_of(own)}: {text_of(to)} isn't")
+            raise ValueError(f"gateway must be a neighbour, on the network of {text_of(own)}, not {text_of(to)}")
         last = own | ~self._mask & 0xFFFFFFFF
         if self._config.bcast != last:
-            why = f"bcast is {text_of(last)}, the last address of the network of mask"
-            raise ValueError(f"{why}, and {text_of(self._config.bcast)} isn't")
+            why = f"bcast must be {text_of(last)}, the last address of mask's network"
+            raise ValueError(f"{why}, not {text_of(self._config.bcast)}")
         config, link = ctypes.byref(self._config), ctypes.byref(self._link)
         self._frame_room = ctypes.create_string_buffer(ETHER_ROOM)
         return LIBRARY.call("ether_boot_in", self._handle, config, link, at, size)
@@ -162,13 +163,13 @@ class Host(Stack):
         has the address; this host then sends nothing."""
         return bool(self._ask("ether_address"))
 
-    def receive(self, frame: AnyFrame) -> None:
+    def receive(self, frame: AnyFrame) -> Optional[Fate]:
         """Passes a frame from the network card to the host: bytes from the Ethernet header on, or a scapy packet with
-        an Ethernet layer. Replies are queued for `transmit`.
+        an Ethernet layer. Replies are queued for `transmit`. Returns what happened to its packet; None if the stack got
+        no packet, for example for ARP.
 
         ValueError if it has more than 65,549 bytes or no Ethernet layer. TypeError if it is not a frame."""
-        data = frame_bytes(frame)
-        self._pass("ether_receive", data)
+        return self._pass("ether_receive_fate", frame_bytes(frame), HEADER)
 
     def transmit(self) -> Optional[Frame]:
         """Returns the next frame for the network card and removes it; None if there is no frame. A card pads a short
@@ -192,7 +193,7 @@ class Host(Stack):
         Raises an OSError with `errno` EBADF if the socket is not open, and a ValueError if it is a socket of another
         stack."""
         if socket._stack is not self:
-            raise ValueError("the socket is one of another stack")
+            raise ValueError("the socket must be one of this host")
         answer = socket._ask("ether_last_error")
         return refused(-answer, "ether_last_error") if answer else None
 
@@ -220,7 +221,7 @@ class Host(Stack):
 
     def rx(self, packet: AnyPacket) -> NoReturn:
         """Raises an OSError with `errno` EOPNOTSUPP: a host receives frames, see `receive`."""
-        self._ask("rx", b"", 0)
+        self._pass("rx_fate", b"")
         raise AssertionError("a host took a packet past its link")
 
     def tx(self) -> NoReturn:

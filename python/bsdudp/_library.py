@@ -21,6 +21,7 @@ NEIGHBOURS = 32
 
 SO_BROADCAST = 0x20
 SO_REUSEPORT = 0x200
+SO_RCVBUF = 0x1002
 
 
 class Handle(ctypes.Structure):
@@ -98,6 +99,18 @@ class Range(ctypes.Structure):
     """`struct bsdudp_range`."""
 
     _fields_ = [("offset", ctypes.c_uint32), ("len", ctypes.c_uint32), ("more", ctypes.c_uint8)]
+
+
+class FateOfC(ctypes.Structure):
+    """`struct bsdudp_fate`."""
+
+    _fields_ = [
+        ("got", ctypes.c_uint64),
+        ("lost", ctypes.c_uint64),
+        ("cause", ctypes.c_uint32),
+        ("kind", ctypes.c_uint8),
+        ("completed", ctypes.c_uint8),
+    ]
 
 
 class Link(ctypes.Structure):
@@ -179,11 +192,12 @@ _size = ctypes.c_size_t
 CALLS: Dict[str, List[Any]] = {
     "boot_in": [ctypes.POINTER(Config), ctypes.c_void_p, _size],
     "end": [],
-    "rx": [_bytes, _size],
+    "rx_fate": [_bytes, _size, ctypes.POINTER(FateOfC)],
     "tx": [ctypes.c_void_p, _size],
     "tick": [],
     "socket": [],
     "bind": [_u32, ctypes.POINTER(Address)],
+    "bind_random": [_u32, ctypes.POINTER(Address), ctypes.c_uint16, _u32],
     "connect": [_u32, ctypes.POINTER(Address)],
     "sendto": [_u32, ctypes.POINTER(Address), _bytes, _size],
     "send": [_u32, _bytes, _size],
@@ -191,6 +205,7 @@ CALLS: Dict[str, List[Any]] = {
     "peek": [_u32, ctypes.c_void_p, _size, ctypes.POINTER(Address)],
     "close": [_u32],
     "setsockopt": [_u32, ctypes.c_int, ctypes.c_int],
+    "getsockopt": [_u32, ctypes.c_int],
     "getsockname": [_u32, ctypes.POINTER(Name)],
     "next": [_u32, ctypes.POINTER(Next)],
     "readable": [ctypes.POINTER(ctypes.c_uint64)],
@@ -202,15 +217,16 @@ CALLS: Dict[str, List[Any]] = {
     "counter": [_u32, ctypes.POINTER(ctypes.c_uint64)],
     "mbstat": [ctypes.POINTER(Usage)],
     "ether_boot_in": [ctypes.POINTER(Config), ctypes.POINTER(Link), ctypes.c_void_p, _size],
-    "ether_receive": [_bytes, _size],
+    "ether_receive_fate": [_bytes, _size, ctypes.POINTER(FateOfC)],
     "ether_transmit": [ctypes.c_void_p, _size],
     "ether_last_error": [_u32],
     "ether_address": [],
     "ether_tallies": [ctypes.POINTER(TalliesOfC)],
     "ether_neighbour": [_u32, ctypes.POINTER(NeighbourOfC)],
     "note_socket": [ctypes.POINTER(NotesOfC), _u32, ctypes.POINTER(Note), _u32],
-    "rx_noted": [ctypes.POINTER(NotesOfC), _u32, _bytes, _size, ctypes.c_uint64],
-    "ether_receive_noted": [ctypes.POINTER(NotesOfC), _u32, _bytes, _size, ctypes.c_uint64],
+    "note_fate": [
+        ctypes.POINTER(NotesOfC), _u32, _bytes, _size, ctypes.c_uint64, ctypes.POINTER(FateOfC)
+    ],
     "recvfrom_noted": [
         ctypes.POINTER(NotesOfC), ctypes.c_void_p, _size, ctypes.POINTER(Address), ctypes.POINTER(Note)
     ],
@@ -226,7 +242,7 @@ def _open() -> ctypes.CDLL:
     except OSError as fault:
         raise ImportError(
             f"{found} can't be loaded ({fault}). In a checkout, `make python TRIAL=1` makes this package with its"
-            " library in a minute, without a proof. Or install the wheel, which has it; or install the library by"
+            " library in a minute or two, without a proof. Or install the wheel, which has it; or install the library by"
             f" `capi/install PREFIX`, and name it by {ENVIRONMENT}=PREFIX/lib/{NAME}"
         ) from None
 
@@ -278,6 +294,14 @@ class Library:
     def call(self, name: str, handle: Handle, *arguments: object) -> int:
         """Makes the call `bsdudp_NAME` with a handle, and returns its result."""
         return int(self._calls[name](ctypes.byref(handle), *arguments))
+
+    def quick(self, name: str, arguments: List[Any]) -> Callable[..., int]:
+        """Returns the call `bsdudp_NAME` without its checks: it keeps the GIL, and takes the address of a handle first. An
+        argument that is a pointer is an address too."""
+        function = ctypes.PyDLL(self._library._name)[f"bsdudp_{name}"]
+        function.argtypes = [ctypes.c_void_p, *arguments]
+        function.restype = ctypes.c_int
+        return function
 
     def memory(self, config: Config) -> int:
         """Returns the size of the memory for a stack with this configuration, in bytes."""

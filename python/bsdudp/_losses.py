@@ -85,7 +85,7 @@ class Bursts:
     def __init__(self, chance: Chance, length: float, seed: SupportsIndex = 1) -> None:
         self._begins = limit_of("chance", chance)
         if not length >= 1:
-            raise ValueError(f"length is a mean number of packets, 1 or more, and not {length}")
+            raise ValueError(f"length must be a mean number of packets, 1 or more, not {length}")
         self._ends = min(EACH, round(EACH / length))
         self._random = Pcg32(in_range("seed", seed, 0, LAST_SEED))
         self._is_in = False

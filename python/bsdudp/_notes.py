@@ -57,7 +57,7 @@ class Notes:
         return twin
 
     def arguments(self, data: bytes) -> Tuple[object, ...]:
-        """Returns the arguments with which a packet or a frame is passed in."""
+        """Returns the arguments, except its fate, with which a packet that arrived is noted."""
         return (self.of, max(self.rings, default=-1) + 1, data, len(data), 0)
 
     def take(self, buffer: object, size: int, sender: Raw, descriptor: int, note: Note) -> Tuple[object, ...]:

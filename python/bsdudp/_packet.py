@@ -127,9 +127,9 @@ def layer_bytes(it: AnyPacket, layer: str, lacks: str, kind: str, most: int) -> 
         try:
             found = octets(it)
         except TypeError:
-            raise TypeError(f"a {kind} is bytes or a scapy packet, and not {type(it).__name__}") from None
+            raise TypeError(f"a {kind} must be bytes or a scapy packet, not {type(it).__name__}") from None
     if len(found) > most:
-        raise ValueError(f"a {kind} has at most {most} bytes, and not {len(found)}")
+        raise ValueError(f"a {kind} must have at most {most} bytes, not {len(found)}")
     return found
 
 

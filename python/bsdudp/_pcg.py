@@ -53,11 +53,11 @@ def limit_of(what: str, chance: Chance) -> int:
     """Returns the limit for a probability from 0 to 1, taken as it is written: 0.05 is exactly one twentieth. An event
     with probability 1 always happens."""
     if isinstance(chance, bool) or not isinstance(chance, (Real, str, Decimal)):
-        raise TypeError(f"{what} is a number, and not {type(chance).__name__}")
+        raise TypeError(f"{what} must be a number, not {type(chance).__name__}")
     try:
         exact = Fraction(str(chance))
     except ValueError:
-        raise ValueError(f"{what} is 0 to 1, and not {chance}") from None
+        raise ValueError(f"{what} must be 0 to 1, not {chance}") from None
     if not 0 <= exact <= 1:
-        raise ValueError(f"{what} is 0 to 1, and not {chance}")
+        raise ValueError(f"{what} must be 0 to 1, not {chance}")
     return int(exact * (1 << 32))

@@ -4,25 +4,33 @@ from __future__ import annotations
 import ctypes
 import threading
 from types import TracebackType
-from typing import Optional, Type
+from typing import Callable, Optional, Type
 
 from ._library import ALIGNMENT
 
 
 class Turn:
-    """The lock of a stack, which a method holds while it runs. It never blocks: a second thread gets a RuntimeError."""
+    """The lock of a stack, which a method holds while it runs. It never blocks: a second thread gets a RuntimeError.
+    `take(False)` and `give` are the lock's own methods, for the calls that are made for each datagram."""
 
-    __slots__ = ("_lock",)
+    __slots__ = ("take", "give")
 
     def __init__(self) -> None:
-        self._lock = threading.Lock()
+        lock = threading.Lock()
+        self.take: Callable[[bool], bool] = lock.acquire
+        self.give: Callable[[], None] = lock.release
+
+    @staticmethod
+    def taken() -> RuntimeError:
+        """Returns the exception for a second thread."""
+        return RuntimeError(
+            "another thread, or what a signal handler stopped, is in this stack or in a copy of it: put a lock"
+            " round the calls, or give each thread a stack of its own"
+        )
 
     def __enter__(self) -> None:
-        if not self._lock.acquire(blocking=False):
-            raise RuntimeError(
-                "another thread, or what a signal handler stopped, is in this stack or in a copy of it: put a lock"
-                " round the calls, or give each thread a stack of its own"
-            )
+        if not self.take(False):
+            raise self.taken()
 
     def __exit__(
         self,
@@ -30,7 +38,7 @@ class Turn:
         fault: Optional[BaseException],
         trace: Optional[TracebackType],
     ) -> None:
-        self._lock.release()
+        self.give()
 
 
 class State:

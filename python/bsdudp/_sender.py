@@ -54,7 +54,7 @@ class Sender(Uncopied):
             self._lost = 0 if callable(value) else limit_of("loss", value)
         except TypeError:
             kinds = "a number of 0 to 1, or a function of a Sent, such as bsdudp.Nth(3)"
-            raise TypeError(f"loss is {kinds}, and not {type(value).__name__}") from None
+            raise TypeError(f"loss must be {kinds}, not {type(value).__name__}") from None
         self._loss = value
 
     @property
@@ -85,7 +85,7 @@ class Sender(Uncopied):
     @delay.setter
     def delay(self, value: Delay) -> None:
         if not isinstance(value, tuple) or len(value) != 2:
-            raise TypeError("delay is a tuple of the smallest and the greatest number of carries, as (0, 3)")
+            raise TypeError("delay must be a tuple of the smallest and the greatest number of carries, such as (0, 3)")
         least = in_range("the shortest delay", value[0], 0, LONGEST_DELAY)
         most = in_range("the longest delay", value[1], least, LONGEST_DELAY)
         self._waits = least, most - least + 1

@@ -7,13 +7,15 @@ import operator
 import os
 import socket as host
 import warnings
+from random import Random
 from types import TracebackType
 from typing import TYPE_CHECKING, List, NamedTuple, NoReturn, Optional, SupportsIndex, Tuple, Type, Union, overload
 
-from ._addresses import Address, Endpoint, in_range, raw, text_of
+from . import _quick
+from ._addresses import Address, Endpoint, Host, in_range, number_of, raw, text_of
 from ._buffers import octets, room
 from ._errors import TOO_LONG, refused, too_long
-from ._library import SO_BROADCAST, SO_REUSEPORT, Name, Next, Note
+from ._library import SO_BROADCAST, SO_RCVBUF, SO_REUSEPORT, Name, Next, Note
 from ._library import Address as Raw
 from ._notes import OPTIONS as NOTED
 from ._notes import Notes
@@ -25,6 +27,7 @@ if TYPE_CHECKING:
     from ._stack import Stack
 
 LONGEST = 65_507
+MOST_OF_QUEUE = 65_535  # the largest value of SO_RCVBUF
 ROOM = 1 << 30  # the largest `bufsize`
 MSG_PEEK = int(host.MSG_PEEK)
 MSG_TRUNC = int(getattr(host, "MSG_TRUNC", 0x20))
@@ -33,6 +36,7 @@ MSG_TRUNC = int(getattr(host, "MSG_TRUNC", 0x20))
 OPTIONS = {
     int(host.SO_BROADCAST): SO_BROADCAST,
     int(getattr(host, "SO_REUSEPORT", 15)): SO_REUSEPORT,
+    int(host.SO_RCVBUF): SO_RCVBUF,
 }
 
 
@@ -89,14 +93,19 @@ NO_DESCRIPTOR = (
 
 def _no_flags(name: str, flags: object) -> None:
     if flags != 0:
-        raise ValueError(f"{name} has no flags here")
+        raise ValueError(f"{name}: flags must be 0")
 
 
 def _has_peek(name: str, flags: object) -> bool:
     """Returns whether the flags are MSG_PEEK. There is no other flag."""
     if flags not in (0, MSG_PEEK):
-        raise ValueError(f"{name} has no flag here but MSG_PEEK")
+        raise ValueError(f"{name}: flags must be 0 or MSG_PEEK")
     return flags == MSG_PEEK
+
+
+def _warn_of_cut(sender: Address, most: int, depth: int) -> None:
+    """Warns that a datagram was truncated. The warning names the line `depth` calls above this one."""
+    warnings.warn(CutDatagramWarning(f"a datagram from {sender[0]} was cut to {most} bytes"), stacklevel=depth)
 
 
 class Socket(Uncopied):
@@ -141,7 +150,7 @@ class Socket(Uncopied):
     def _answer(self, name: str, *arguments: object) -> int:
         """Does the same, and returns the result also if the call failed."""
         if self._descriptor is None or not self._stack._live:
-            raise OSError(errno.EBADF, "the socket is closed")
+            raise OSError(errno.EBADF, _quick.CLOSED)
         return self._stack._answer(name, self._descriptor, *arguments)
 
     @property
@@ -160,6 +169,18 @@ class Socket(Uncopied):
         OSError with `errno` EINVAL if the socket already has a local port or address; EADDRNOTAVAIL if the address is
         not one of the host; EADDRINUSE if another socket uses the address and port."""
         self._ask("bind", ctypes.byref(raw(address)))
+
+    def bind_random(self, address: Host, low: SupportsIndex, high: SupportsIndex, random: Random) -> int:
+        """Binds the socket to a local address and to a port of `low` to `high` that `random` draws. Returns the port. If
+        another socket uses the port, it takes the next free one, and `low` follows `high`. Nobody can guess a port that
+        `random.SystemRandom()` draws; `random.Random(seed)` draws the same one again. Source: RFC 6056, section 3.3.1.
+
+        ValueError if `low` is not 1 to 65535, or `high` is not `low` to 65535. OSError with `errno` EINVAL if the socket
+        already has a local port or address; EADDRNOTAVAIL if the address is not one of the host; EADDRINUSE if other
+        sockets use each port of the range."""
+        first = in_range("low", low, 1, 65_535)
+        last = in_range("high", high, first, 65_535)
+        return self._ask("bind_random", ctypes.byref(Raw(number_of(address), first)), last, random.getrandbits(32))
 
     def connect(self, address: Endpoint) -> None:
         """Connects the socket to a peer: `send` sends to the peer, and the socket receives only from it. A socket that
@@ -194,9 +215,8 @@ class Socket(Uncopied):
         if its `lack` is "pool", nothing was sent."""
         if second is not None:
             _no_flags("sendto", first)
-        to = raw(first if second is None else second)
-        sent = octets(data)
-        return self._sent("sendto", len(sent), ctypes.byref(to), sent, len(sent))
+        to = _quick.endpoint(first if second is None else second)
+        return _quick.sendto(self, octets(data), to)
 
     def send(self, data: "ReadableBuffer", flags: int = 0) -> int:
         """Sends one datagram to the peer of a connected socket, as `sendto` does. OSError with `errno` EDESTADDRREQ if
@@ -215,19 +235,23 @@ class Socket(Uncopied):
         return answer
 
     def _take(self, most: int) -> _Taken:
-        """Removes the oldest datagram. Two calls of the library read its length and its bytes, while the lock is
+        """Removes the oldest datagram."""
+        notes = self._stack._notes
+        if notes is not None and self._descriptor is not None and self._descriptor in notes.wanted:
+            return self._take_noted(most, notes, self._descriptor)
+        data, sender, length = _quick.receive(self, most)
+        return _Taken(data, sender, length > most)
+
+    def _take_noted(self, most: int, notes: Notes, descriptor: int) -> _Taken:
+        """Does the same, with its note. Two calls of the library read its length and its bytes, while the lock is
         held."""
-        found, sender, note = Next(), Raw(), None
+        found, sender, note = Next(), Raw(), Note()
         with self._stack._turn:
             self._call("next", ctypes.byref(found))
-            size, notes = min(most, found.len), self._stack._notes
+            size = min(most, found.len)
             buffer = ctypes.create_string_buffer(max(size, 1))
-            if notes is not None and self._descriptor in notes.wanted:
-                note = Note()
-                taken = notes.take(buffer, size, sender, self._descriptor, note)
-                length = self._stack._call("recvfrom_noted", *taken)
-            else:
-                length = self._call("recvfrom", buffer, size, ctypes.byref(sender))
+            taken = notes.take(buffer, size, sender, descriptor, note)
+            length = self._stack._call("recvfrom_noted", *taken)
         return _Taken(buffer.raw[:length], (text_of(sender.ip), sender.port), found.len > most, note)
 
     def _peek(self, most: int) -> _Taken:
@@ -247,8 +271,7 @@ class Socket(Uncopied):
             return self._peek(most)
         taken = self._take(most)
         if taken.is_cut:
-            warning = CutDatagramWarning(f"a datagram from {taken.sender[0]} was cut to {most} bytes")
-            warnings.warn(warning, stacklevel=depth)
+            _warn_of_cut(taken.sender, most, depth + 1)
         return taken
 
     def _receive_into(self, buffer: "WriteableBuffer", nbytes: SupportsIndex, has_peek: bool) -> Tuple[int, Address]:
@@ -280,7 +303,13 @@ class Socket(Uncopied):
         """Removes the oldest datagram. Returns up to `bufsize` bytes of it, and the sender. If it had more bytes, they
         are lost, with a `CutDatagramWarning`. With the flag MSG_PEEK of Python's `socket`, the datagram stays, and
         nothing is lost. BlockingIOError (EAGAIN) if the receive queue is empty."""
-        taken = self._receive(in_range("bufsize", bufsize, 0, ROOM), _has_peek("recvfrom", flags))
+        most = in_range("bufsize", bufsize, 0, ROOM)
+        if flags == 0 and self._stack._notes is None:
+            data, sender, length = _quick.receive(self, most)
+            if length > most:
+                _warn_of_cut(sender, most, 3)
+            return data, sender
+        taken = self._receive(most, _has_peek("recvfrom", flags))
         return taken.data, taken.sender
 
     def recv(self, bufsize: SupportsIndex = LONGEST, flags: int = 0) -> bytes:
@@ -335,10 +364,16 @@ class Socket(Uncopied):
         return text_of(name.peer_ip), name.peer_port
 
     def setsockopt(self, level: int, option: int, value: SupportsIndex) -> None:
-        """Sets `SO_BROADCAST` or `SO_REUSEPORT` of Python's `socket`, at the level SOL_SOCKET. At the level IPPROTO_IP,
-        IP_PKTINFO, IP_RECVTTL and IP_RECVTOS say which ancillary data `recvmsg` returns: the destination of the
-        datagram's packet, its time to live, and its type of service. Python's `socket` does not have all three names;
-        `bsdudp` has. OSError with `errno` ENOPROTOOPT for any other option."""
+        """Sets `SO_BROADCAST`, `SO_REUSEPORT` or `SO_RCVBUF` of Python's `socket`, at the level SOL_SOCKET. At the level
+        IPPROTO_IP, IP_PKTINFO, IP_RECVTTL and IP_RECVTOS say which ancillary data `recvmsg` returns: the destination of
+        the datagram's packet, its time to live, and its type of service. Python's `socket` does not have all three
+        names; `bsdudp` has.
+
+        SO_RCVBUF is the size of the receive queue in bytes, 1 to 65535, with 16 bytes for each datagram's sender. The
+        mbufs and clusters of its datagrams have at most twice as many bytes, so the queue leaves the rest of the pool
+        to other sockets, whatever arrives. 1,488 bytes are enough for a datagram in one packet of 1,500 bytes.
+
+        ValueError if SO_RCVBUF is not 1 to 65535. OSError with `errno` ENOPROTOOPT for any other option."""
         if level == host.IPPROTO_IP and option in NOTED:
             with self._stack._turn:
                 self._name()  # the socket is open
@@ -346,22 +381,22 @@ class Socket(Uncopied):
                 self._stack._notes.want(self._stack._handle, self.descriptor, option, value)
             return
         known = OPTIONS.get(option, -1) if level == host.SOL_SOCKET else -1
-        self._ask("setsockopt", known, int(operator.index(value) != 0))
+        is_size = known == SO_RCVBUF
+        number = in_range("SO_RCVBUF", value, 1, MOST_OF_QUEUE) if is_size else int(operator.index(value) != 0)
+        self._ask("setsockopt", known, number)
 
     def getsockopt(self, level: int, option: int) -> int:
-        """Returns the value of such an option, 1 or 0. OSError with `errno` ENOPROTOOPT for any other option."""
-        name = self._name_now()
+        """Returns the value of such an option: 1 or 0, or for SO_RCVBUF the size, and 0 if none was set: the queue then
+        holds 41,600 bytes. OSError with `errno` ENOPROTOOPT for any other option."""
         if level == host.IPPROTO_IP and option in NOTED:
+            self._name_now()  # the socket is open
             return int(self._stack._notes is not None and self._stack._notes.has(self.descriptor, option))
-        known = OPTIONS.get(option, -1) if level == host.SOL_SOCKET else -1
-        if known not in OPTIONS.values():
-            raise OSError(errno.ENOPROTOOPT, os.strerror(errno.ENOPROTOOPT))
-        return int(name.broadcast if known == SO_BROADCAST else name.reuse_port)
+        return self._ask("getsockopt", OPTIONS.get(option, -1) if level == host.SOL_SOCKET else -1)
 
     def settimeout(self, value: Optional[float]) -> None:
         """Accepts only 0, because no socket of a stack blocks. ValueError for any other value."""
         if value is None or value != 0:
-            raise ValueError("no socket of this stack blocks: its timeout is 0")
+            raise ValueError("the timeout must be 0: no socket of this stack blocks")
 
     def gettimeout(self) -> float:
         """Returns 0, as for any socket that does not block."""
@@ -370,7 +405,7 @@ class Socket(Uncopied):
     def setblocking(self, flag: bool) -> None:
         """Accepts only False, because no socket of a stack blocks. ValueError for True."""
         if flag:
-            raise ValueError("no socket of this stack blocks")
+            raise ValueError("flag must be False: no socket of this stack blocks")
 
     def getblocking(self) -> bool:
         """Returns False."""

@@ -6,10 +6,12 @@ import weakref
 from types import TracebackType
 from typing import TYPE_CHECKING, Dict, Iterator, List, Mapping, Optional, SupportsIndex, Tuple, Type, TypeVar
 
+from . import _quick
 from ._addresses import Host, in_range, number_of, text_of
 from ._counters import Counters, MbStat
 from ._errors import refused
-from ._library import FIRST_DESCRIPTOR, LIBRARY, Config, Handle, Range, Unfinished, Usage
+from ._fate import Fate, fate_of
+from ._library import FIRST_DESCRIPTOR, LIBRARY, Config, FateOfC, Handle, Range, Unfinished, Usage
 from ._notes import Notes
 from ._packet import AnyPacket, Packet, bytes_of
 from ._place import Place
@@ -24,7 +26,6 @@ Kind = TypeVar("Kind", bound="Stack")
 
 FIRST_ADDRESS, LAST_ADDRESS = 0x0100_0000, 0xDFFF_FFFF
 LOOPBACK_NET = 127
-WHOLE = (b"\0\0", b"\x40\0")  # flags and offset of a packet that isn't a fragment: none, or "don't fragment"
 
 
 def _interface(what: str, host: Host) -> int:
@@ -32,7 +33,7 @@ def _interface(what: str, host: Host) -> int:
     223.255.255.255, or it is in 127.0.0.0/8."""
     number = number_of(host)
     if not FIRST_ADDRESS <= number <= LAST_ADDRESS or number >> 24 == LOOPBACK_NET:
-        raise ValueError(f"{what} is 1.0.0.0 to 223.255.255.255 and not in 127.0.0.0/8: {text_of(number)} isn't")
+        raise ValueError(f"{what} must be 1.0.0.0 to 223.255.255.255 and outside 127.0.0.0/8, not {text_of(number)}")
     return number
 
 
@@ -61,7 +62,10 @@ class Stack(Uncopied):
     2
     <Packet 10.0.0.1 > 10.0.0.2 udp 7 > 7, id 1, 30 bytes>"""
 
-    __slots__ = ("_live", "_sockets", "_config", "_place", "_turn", "_state", "_handle", "_room", "_wires", "_notes")
+    __slots__ = (
+        "_live", "_sockets", "_config", "_place", "_turn", "_state", "_handle", "_handle_at", "_room", "_room_at", "_wires",
+        "_notes",
+    )  # fmt: skip
 
     def __init__(
         self,
@@ -79,7 +83,7 @@ class Stack(Uncopied):
         address = _interface("addr", addr)
         broadcast = address | 0xFF if bcast is None else _interface("bcast", bcast)
         if broadcast == address:
-            raise ValueError(f"bcast is another address than addr, {text_of(address)}")
+            raise ValueError(f"bcast must differ from addr, {text_of(address)}")
         self._config = Config(
             address,
             broadcast,
@@ -94,7 +98,9 @@ class Stack(Uncopied):
         self._place = Place(self._memory_size())
         self._turn, self._state = self._place.turn, self._place.here
         self._handle = Handle()
+        self._handle_at = ctypes.addressof(self._handle)
         self._room = ctypes.create_string_buffer(self.mtu)
+        self._room_at = ctypes.addressof(self._room)
         answer = self._boot_in(self._place.at, self._place.size)
         if answer < 0:
             raise refused(answer)
@@ -109,7 +115,7 @@ class Stack(Uncopied):
         `Wire.copy`."""
         with self._turn:
             if not self._live:
-                raise ValueError("the stack has ended")
+                raise ValueError(_quick.ENDED)
             twin = type(self).__new__(type(self))
             if hasattr(self, "__dict__"):  # of a program's subclass
                 twin.__dict__.update(self.__dict__)
@@ -121,7 +127,9 @@ class Stack(Uncopied):
         twin._config, twin._place, twin._turn = self._config, self._place, self._turn
         twin._state = self._place.copied(self._state)
         twin._handle = Handle.from_buffer_copy(self._handle)
+        twin._handle_at = ctypes.addressof(twin._handle)
         twin._room = ctypes.create_string_buffer(self.mtu)
+        twin._room_at = ctypes.addressof(twin._room)
         twin._wires = []
         twin._notes = None if self._notes is None else self._notes.copied()
         twin._sockets = {descriptor: Socket(twin, descriptor) for descriptor in self._sockets}
@@ -140,12 +148,15 @@ class Stack(Uncopied):
         with self._turn:
             return self._call(name, *arguments)
 
-    def _pass(self, name: str, data: bytes) -> None:
-        """Passes a packet or a frame to the library, with notes if a socket wants them."""
-        if self._notes is None:
-            self._ask(name, data, len(data))
-        else:
-            self._ask(f"{name}_noted", *self._notes.arguments(data))
+    def _pass(self, name: str, data: bytes, head: int = 0) -> Optional[Fate]:
+        """Passes a packet to the library, or a frame with a header of `head` bytes. Adds notes if a socket wants them.
+        Returns what happened to the packet; None if no packet reached the stack."""
+        with self._turn:
+            told = FateOfC()
+            self._call(name, data, len(data), ctypes.byref(told))
+            if self._notes is not None:
+                self._call("note_fate", *self._notes.arguments(data[head:]), ctypes.byref(told))
+            return fate_of(told, self._sockets)
 
     def _call(self, name: str, *arguments: object) -> int:
         """Calls the library, if the stack has not ended. The caller holds the lock."""
@@ -157,7 +168,7 @@ class Stack(Uncopied):
     def _answer(self, name: str, *arguments: object) -> int:
         """Does the same, and returns the result also if the call failed."""
         if not self._live:
-            raise ValueError("the stack has ended")
+            raise ValueError(_quick.ENDED)
         if self._place.here is not self._state:
             self._place.bring(self._state)
         return LIBRARY.call(name, self._handle, *arguments)
@@ -170,11 +181,20 @@ class Stack(Uncopied):
                 wire._may_hold.add(at)
 
     def _sends(self) -> None:
-        """Notes for the wires that packets may be in the output queue."""
+        """Notes for the wires that packets may be in the output queue, and in a receive queue: some go to the stack
+        itself."""
         for of, at in self._wires:
             wire = of()
             if wire is not None:
                 wire._may_send.add(at)
+                wire._may_read.add(at)
+
+    def _gets(self) -> None:
+        """Notes for the wires that a socket got a datagram."""
+        for of, at in self._wires:
+            wire = of()
+            if wire is not None:
+                wire._may_read.add(at)
 
     def end(self) -> None:
         """Ends the stack and closes its sockets. A second call does nothing."""
@@ -212,22 +232,25 @@ class Stack(Uncopied):
         """The longest packet that the stack sends to the link, in bytes."""
         return int(self._config.mtu)
 
-    def rx(self, packet: AnyPacket) -> None:
+    def rx(self, packet: AnyPacket) -> Fate:
         """Passes a packet from the link to the stack: bytes from the IPv4 header on, or a scapy packet with an IP
-        layer. The stack delivers it, keeps it until the other fragments of its datagram arrive, or drops and counts it
-        (see `why`). A drop is not an error.
+        layer. The stack delivers it, keeps it until the other fragments of its datagram arrive, or drops and counts it.
+        Returns which of these happened. A drop is not an error.
 
         ValueError if it has more than 65,535 bytes or no IP layer. TypeError if it is not a packet."""
         data = bytes_of(packet)
-        self._pass("rx", data)
-        if data[6:8] not in WHOLE:
+        fate = _quick.rx(self, data) if self._notes is None else self._pass("rx_fate", data)
+        assert fate is not None
+        if fate.kind == "kept":
             self._holds()
+        elif fate.got:
+            self._gets()
+        return fate
 
     def tx(self) -> Optional[Packet]:
         """Removes the oldest packet from the output queue and returns it; None if the queue is empty."""
-        with self._turn:
-            length = self._call("tx", self._room, self.mtu)
-            return Packet(ctypes.string_at(self._room, length)) if length else None
+        packet = _quick.transmit(self)
+        return Packet(packet) if packet else None
 
     def packets(self) -> Iterator[Packet]:
         """Yields the packets of the output queue, oldest first, and removes them."""

@@ -158,12 +158,12 @@ def sweep(
             return _on_cores(scenario, wanted, None, shown)
         if isinstance(client, str):
             if ":" not in client:
-                raise ValueError(f"{WHERE}, and not {client!r}")
+                raise ValueError(f"{WHERE}, not {client!r}")
             return _on_dask(scenario, wanted, client, shown)
         if isinstance(client, ClusterClient):
             return _on_dask(scenario, wanted, client, shown)
         if isinstance(client, bool) or not hasattr(client, "__index__"):
-            raise TypeError(f"{WHERE}, and not {type(client).__name__}")
+            raise TypeError(f"{WHERE}, not {type(client).__name__}")
         return _on_cores(scenario, wanted, in_range("a number of processes", client, 1, MOST_PROCESSES), shown)
     finally:
         shown.end()

@@ -29,6 +29,7 @@ class UnfinishedDatagram(NamedTuple):
     2000
     >>> first, second = a.packets()
     >>> b.rx(second)
+    <Fate: kept>
     >>> b.unfinished[0].missing
     ((0, 1480),)"""
 

@@ -11,13 +11,21 @@ import pytest
 
 from tests.boards.conftest import BOARD, CC, DRIVER, SANITIZED, STRICT, replies
 from tests.cases import TOP
+from tests.made import made
 from tools import llvm
 
 MODULE = ("rt", "wasm-opt", "cc")
 pytestmark = [pytest.mark.slow, pytest.mark.needs(*MODULE)]
 TARGETS = "cortex-m0 cortex-m3 cortex-m4 cortex-m7 cortex-m33 rv32imac i686 armv7 x86_64 aarch64".split()
+FILES = ["bsdudp-config.cmake", "bsdudp.h", "bsdudp_notes.h", "libbsdudp.a"]
+CMAKE = """cmake_minimum_required(VERSION 3.13)
+project(board C)
+find_package(bsdudp REQUIRED)
+add_executable(first EXAMPLES/first.c)
+target_link_libraries(first bsdudp::bsdudp)
+"""
 RANDOM = 2000
-MOST_OF_SMALL = 36_250  # bytes of the core for small flash, where pointers have 64 bits
+MOST_OF_SMALL = 38_900  # bytes of the core for small flash, where pointers have 64 bits
 
 
 class Host(NamedTuple):
@@ -45,7 +53,7 @@ HOSTS = {
         needs=("aarch64-linux-gnu", "qemu-user"),
     ),
 }  # fmt: skip
-WRAPPED = ["-Wl,--wrap=malloc,--wrap=free"]  # memory.c has malloc and free of its own
+WRAPPED = ["-Wl,--wrap=malloc,--wrap=free,--wrap=bsdudp_ether_boot_in"]  # memory.c has its own
 CALLS, WIDE = pathlib.Path("tests/calls"), TOP / "portable/tests/wide"
 PROGRAMS = {"tests/calls": [], "tests/ether": [], "tests/memory": WRAPPED, "examples/wire": [], WIDE: []}
 
@@ -76,9 +84,19 @@ def test_targets_are_known():
     assert [line.split()[0] for line in said.splitlines()] == TARGETS
 
 
+@pytest.mark.needs("cmake", "arm-none-eabi")
+def test_cmake(core_for, tmp_path):
+    """find_package for another processor, by a toolchain file of CMake."""
+    (tmp_path / "CMakeLists.txt").write_text(CMAKE.replace("EXAMPLES", f"{TOP}/capi/examples"), encoding="utf-8")
+    words = ["-DCMAKE_SYSTEM_NAME=Generic", "-DCMAKE_C_COMPILER=arm-none-eabi-gcc", "-DCMAKE_C_FLAGS=-mcpu=cortex-m3",
+             "-DCMAKE_EXE_LINKER_FLAGS=--specs=nosys.specs", f"-Dbsdudp_DIR={core_for('cortex-m3')}"]  # fmt: skip
+    made("cmake", "-S", tmp_path, "-B", tmp_path / "out", *words)
+    made("cmake", "--build", tmp_path / "out")
+
+
 @pytest.mark.parametrize("target", TARGETS)
 def test_target_is_made(target, core_for):
-    assert sorted(it.name for it in core_for(target).iterdir()) == ["bsdudp.h", "bsdudp_notes.h", "libbsdudp.a"]
+    assert sorted(it.name for it in core_for(target).iterdir()) == FILES
 
 
 @hosts()
@@ -211,12 +229,36 @@ BY_SERIAL, ALONE = [*MACHINE, "stdio"], [*MACHINE, "null"]
 # The most of the columns of bench/board's table, for each level: the library, the echo's text, data, bss and call
 # stack, and the instructions of three lengths.
 COSTS = {
-    "--small": [37_750, 17_000, 16, 52_500, 770, 2_445, 7_630, 22_100],
-    "-Os": [42_900, 21_350, 16, 52_500, 825, 1_785, 6_980, 21_500],
-    "-O2": [73_000, 41_400, 16, 52_500, 765, 1_545, 6_550, 19_200],
+    "--small": [41_600, 17_900, 16, 52_500, 830, 2_480, 7_630, 22_100],
+    "-Os": [47_600, 22_700, 16, 52_500, 1_040, 1_785, 6_980, 21_500],
+    "-O2": [75_500, 42_800, 16, 52_500, 900, 1_545, 6_550, 19_400],
 }
 DATA = 2
 on_board = pytest.mark.needs("arm-none-eabi", "qemu-arm")
+
+
+# The program of the board that runs capi/tests/isolation.c.
+FLOODS = """
+#include "machine.h"
+int floods_pass(void);
+int main(void) { machine_say(floods_pass() == 0 ? "0\\n" : "1\\n"); return 0; }
+"""
+
+
+@on_board
+def test_floods_on_the_board(core_for, tmp_path):
+    """With sizes of the receive queues, no flood of one socket stops another."""
+    (tmp_path / "floods.c").write_text(FLOODS, encoding="utf-8")
+    cc = ["arm-none-eabi-gcc", "-mcpu=cortex-m3", "-mthumb", "-Os", "-std=c99", "-Wall", "-Wextra", "-Werror"]
+    cc += ["-ffreestanding", f"-I{TOP / 'capi/include'}", f"-I{BOARD}"]
+    test = ["-DSAY(...)=(void)0", "-Dmain=floods_pass", "-c", TOP / "capi/tests/isolation.c", "-o", tmp_path / "test.o"]
+    llvm.run(*cc, *test)
+    linked = ["-nostartfiles", f"-T{BOARD / 'machine.ld'}", "-Wl,--gc-sections,-z,noexecstack", "--specs=nano.specs"]
+    linked += ["-Wl,--defsym=MEMORY_SIZE=4194304", "--specs=nosys.specs"]
+    files = [tmp_path / "floods.c", tmp_path / "test.o", BOARD / "machine.c", core_for("cortex-m3") / "libbsdudp.a"]
+    llvm.run(*cc, *files, *linked, "-o", tmp_path / "floods.elf")
+    done = subprocess.run([*ALONE, "-kernel", tmp_path / "floods.elf"], capture_output=True, text=True, check=True)
+    assert done.stdout + done.stderr == "0\n"
 
 
 @on_board

@@ -1,5 +1,7 @@
 """How tools/widths.py finds the functions with numbers that need 64 bits, by the types in small sources, and how
 tools/narrow.py cuts the numbers of all others to 32 bits."""
+import types
+
 import pytest
 
 from tools import crates, narrow, widths
@@ -104,8 +106,9 @@ def library(tmp_path, monkeypatch):
     for name, text in (("low", LOW), ("high", HIGH)):
         (tmp_path / f"crates/{name}/src").mkdir(parents=True)
         (tmp_path / f"crates/{name}/src/lib.rt").write_text(text, encoding="utf-8")
-    monkeypatch.setattr(crates, "TOP", tmp_path)
-    monkeypatch.setattr(crates, "uses", lambda: {"low": [], "high": ["low"]})
+    # Only for widths: other tests' programs may be compiled in a thread of this process.
+    these = types.SimpleNamespace(TOP=tmp_path, uses=lambda: {"low": [], "high": ["low"]}, below=crates.below)
+    monkeypatch.setattr(widths, "crates", these)
     return "".join(
         f'define internal i64 @"{name}"(ptr %a0, i64 %a1) {{\nstart:\n' + "".join(f"  {it}\n" for it in lines) + "}\n"
         for name, lines in CALLS.items()

@@ -14,7 +14,7 @@ from tests.made import made
 
 pytestmark = [pytest.mark.slow, pytest.mark.needs("rt", "wasm-opt", "wasm2c", "cc")]
 ASKED = set("memcpy memmove memset memcmp _GLOBAL_OFFSET_TABLE_".split())
-PROGRAMS = {it: f"tests/{it}.c" for it in ("calls", "ether", "rehost", "mark")} | {"wire": "examples/wire.c"}
+PROGRAMS = {it: f"tests/{it}.c" for it in ("calls", "ether", "rehost", "mark", "fates")} | {"wire": "examples/wire.c"}
 
 
 class Build(NamedTuple):

@@ -13,6 +13,7 @@ import pytest
 
 from tests.bsdplay.runs import of_lines, run, same
 from tests.cases import TOP, other_line
+from tools import tried, version
 
 PLAY = TOP / "examples/play"
 FOLDERS = ("", "wire/", "ether/")
@@ -27,6 +28,12 @@ def same_text(asked, came, wanted):
     if came != wanted:
         at, both = other_line(wanted, came)
         pytest.fail(f"{asked}: line {at + 1}{both}", pytrace=False)
+
+
+def test_a_program_without_a_proof_says_so(bsdplay):
+    """Its version has the mark that the C library's has. No other program has it."""
+    mark = tried.MARK if bsdplay.parent == tried.KEPT else ""
+    assert run(bsdplay, "--version").stdout.decode() == f"bsdplay {version.newest()}{mark}\n"
 
 
 # ---- scripts in each form ------------------------------------------------------------------------------------------

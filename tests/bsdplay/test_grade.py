@@ -362,7 +362,7 @@ def test_want_of_memory_is_no_mark(kilobytes, bsdplay, tmp_path):
 @pytest.mark.parametrize("words", [[], ["--json"], ["--quiet"], ["--color", "always"], ["--strict"]])
 @pytest.mark.parametrize("kilobytes, front, line", [
     (16_000, "", "--mbufs 65535 --clusters 4096"),
-    (72_000, "host a --addr 10.0.0.1\n", "host b --addr 10.0.0.2 --mbufs 65535"),  # 68 MB are for a wire
+    (38_000, "host a --addr 10.0.0.1\n", "host b --addr 10.0.0.2 --mbufs 65535"),  # 34 MB are for a wire
 ])  # fmt: skip
 def test_settings_without_memory_end_with_status_3(kilobytes, front, line, words, bsdplay, tmp_path):
     """The lines after them are played all the same."""

@@ -298,7 +298,7 @@ def test_the_page_shows_what_is_printed(bsdplay):
     """The output has each line of the example in docs/captures.md."""
     printed = run(bsdplay, "why", TOP / "examples/play/faults.pcap").stdout.decode().splitlines()
     page = (TOP / "docs/captures.md").read_text(encoding="utf-8")
-    block = page.split("examples/play`:\n\n")[1].split("\n\nRecord numbers")[0]
+    block = page.split("(../examples/play/faults.pcap):\n\n")[1].split("\n\nRecord numbers")[0]
     same("lines of docs/captures.md", [it for it in block.splitlines() if it.strip() and it[4:] not in printed], [])
 
 

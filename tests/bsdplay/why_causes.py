@@ -1,7 +1,9 @@
 """The capture for a golden file of `bsdplay why`: a packet for each cause, a datagram in overlapping fragments, and two
-datagrams in turns, each in more fragments than a line lists. `python3 -m tests.bsdplay.why_causes` writes it again."""
+datagrams in turns, in one and in two fragments more than a line lists. `python3 -m tests.bsdplay.why_causes` writes it
+again."""
 from __future__ import annotations
 
+import itertools
 import pathlib
 import struct
 
@@ -30,11 +32,11 @@ def overlapping(found: int, ident: int) -> list[bytes]:
 OVERLAPPED = b"A" * 8 + b"C" * 16
 
 
-def many(ident: int) -> list[bytes]:
-    """Returns a datagram with a wrong checksum in 66 fragments."""
-    whole = bytearray(datagram(bytes(range(256)) * 2 + bytes(8), ident=ident))
+def many(ident: int, count: int) -> list[bytes]:
+    """Returns a datagram with a wrong checksum in this number of fragments."""
+    whole = bytearray(datagram((bytes(range(256)) * 3)[: 8 * count - 8], ident=ident))
     whole[26] ^= 1
-    return [fragment(bytes(whole), first, 0) for first in range(66)]
+    return [fragment(bytes(whole), first, 0) for first in range(count)]
 
 
 def packets() -> list[tuple[bytes, int | None]]:
@@ -63,7 +65,7 @@ def packets() -> list[tuple[bytes, int | None]]:
         datagram(b"hello", (5000, 0), ident=4),
         datagram(b"hello", (5000, 0), (PEER, ALL), ident=5),
     ]
-    in_turns = [it for pair in zip(many(60), many(61)) for it in pair]
+    in_turns = [it for pair in itertools.zip_longest(many(60, 66), many(61, 65)) for it in pair if it is not None]
     cut = datagram(bytes(100), ident=6)
     return [(it, None) for it in (*alone, *overlapping(0x1234, 50), *in_turns)] + [(cut, 60)]
 

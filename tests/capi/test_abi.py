@@ -20,16 +20,18 @@ def program(request, library, compiled):
     if request.param == "shared":
         linked = [library.folder / "libbsdudp.so.0", f"-Wl,-rpath,{library.folder}"]
 
-    def of(header):
+    def of(header, clusters=16):
         name = f"abi-{header.replace('/', '-')}"
-        return compiled(name, CC, *PLAIN, f"-I{header}", "tests/abi.c", *linked)
+        return compiled(name, CC, *PLAIN, f"-DCLUSTERS={clusters}", f"-I{header}", "tests/abi.c", *linked)
 
     return of
 
 
-def test_an_old_program_runs(program, runs):
-    """Each call works, in memory of the old size, and the library writes to no byte beyond the old structs."""
-    runs(program(OLD))
+@pytest.mark.parametrize("clusters", [16, 23])
+def test_an_old_program_runs(clusters, program, runs):
+    """Each call works, in memory of the old size, and the library writes to no byte beyond the old structs. With 23
+    clusters that size wasn't a multiple of 16."""
+    runs(program(OLD, clusters))
 
 
 def test_sizes_and_numbers_are_the_same(program):

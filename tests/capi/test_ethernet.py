@@ -11,8 +11,8 @@ import pytest
 from tests.cases import TOP
 from tests.conftest import in_part
 
-pytestmark = [pytest.mark.slow, pytest.mark.needs("cc")]
-ON_LINUX = pytest.mark.needs("netns", "tun", "ip")
+pytestmark = pytest.mark.needs("cc")
+ON_LINUX = [pytest.mark.needs("netns", "tun", "ip"), pytest.mark.slow]
 # Frames that tshark can't read to their end, and wrong checksums in frames that don't come from Linux or a neighbour.
 WRONG = """_ws.malformed || (eth.src[0:3] == 02:00:00 && eth.src != 02:00:00:00:00:02 && eth.src != 02:00:00:00:00:99 &&
 (ip.checksum.status == "Bad" || icmp.checksum.status == "Bad"))"""
@@ -67,7 +67,8 @@ def test_frames_beside_scapys(judged):
     passed(judged)
 
 
-@ON_LINUX
+@ON_LINUX[0]
+@ON_LINUX[1]
 def test_linux_as_the_peer(peer, pytestconfig):
     in_part(pytestconfig, passed(peer))
 

@@ -45,8 +45,8 @@ def test_captures(by_tun, library, compiled, pytestconfig):
 @pytest.mark.parametrize(
     "name, words, wrong",
     [
-        ("tun_echo", ["9000"], "mtu is not 68 to 4352"),
-        ("tap_host", ["tap0", "10.0.0.1", "02:00:00:00:00:01", "10.0.1.1"], "gateway is not a neighbour"),
+        ("tun_echo", ["9000"], "mtu must be 68 to 4352"),
+        ("tap_host", ["tap0", "10.0.0.1", "02:00:00:00:00:01", "10.0.1.1"], "gateway must be a neighbour"),
     ],
 )
 def test_a_wrong_setting_is_named(name, words, wrong, library, compiled):

@@ -9,7 +9,6 @@ import pytest
 from bsdudp_conform import _adapter, cases
 from bsdudp_conform._judge import judge
 
-pytestmark = pytest.mark.needs("scapy")
 
 # An answer is one write, even if PYTHONUNBUFFERED is set: the judge stops reading at an `end`, so it may miss what a
 # later write has.
@@ -29,24 +28,24 @@ for line in sys.stdin:
         print("end", flush=True)
 """
 BAD = {
-    "print('got here')": "which isn't a line of an adapter",
-    "print('nonsense 0')": "which isn't a line of an adapter",
-    "print('got 0 10.0.0.2 5000 00 0 0')": "which isn't a line of an adapter",
-    "print('got 0 10.0.0.2 5000 zz')": "which isn't a line of an adapter",
-    "print('got 7 10.0.0.2 5000 00')": "which isn't a line of an adapter",
+    "print('got here')": "isn't a line of an adapter",
+    "print('nonsense 0')": "isn't a line of an adapter",
+    "print('got 0 10.0.0.2 5000 00 0 0')": "isn't a line of an adapter",
+    "print('got 0 10.0.0.2 5000 zz')": "isn't a line of an adapter",
+    "print('got 7 10.0.0.2 5000 00')": "isn't a line of an adapter",
     "sys.exit(4)": "it ended with status 4",
     "os.kill(os.getpid(), 11)": "it ended by signal 11 (SIGSEGV)",
-    "time.sleep(600)": "it hangs: no end of the answer in 8 s",
+    "time.sleep(600)": "it hangs: no `end` within 8 s",
     "os.close(1); time.sleep(600)": "it closed its standard output or input",
     "[print('note ' + 'x' * 100000) for _ in range(10 ** 6)]": "it floods: more than",
     "print('crash of the stack')": "the stack crashes: of the stack",
-    "print('end'); print('case other')": "it says 'end', which isn't a line of an adapter",
+    "print('end'); print('case other')": "'end' isn't a line of an adapter",
 }
 
 
 NONSENSE = "import time; print('nonsense', flush=True); print('end', flush=True); time.sleep(600)"
-REFUSED = [(["/nonexistent"], "can't be run"), (["true"], "it ended with status 0")]
-REFUSED += [([sys.executable, "-c", NONSENSE], "it answers")]
+REFUSED = [(["/nonexistent"], "can't run /nonexistent: "), (["true"], "it ended with status 0")]
+REFUSED += [([sys.executable, "-c", NONSENSE], "expected `stack NAME`, ")]
 # The time limit of an adapter in seconds. On a busy computer a good one takes 2 to start.
 LIMIT, OF_ONE_THAT_HANGS = 60, 8
 

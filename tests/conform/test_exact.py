@@ -1,4 +1,4 @@
-"""The reference machine with 4.4BSD's settings and the program have the same results in every case, byte for byte: each
+"""The reference machine with bsdudp's settings and the program have the same results in every case, byte for byte: each
 delivery with its step, sender and socket, each packet sent, each refusal."""
 import sys
 from collections import Counter
@@ -21,7 +21,6 @@ def others(wanted, there):
 
 
 @pytest.mark.slow
-@pytest.mark.needs("scapy")
 def test_exact(bsdudp, monkeypatch):
     monkeypatch.setenv("PYTHONPATH", PATHS)
     faults = []

@@ -10,7 +10,7 @@ from bsdudp_conform import cases
 from bsdudp_conform._judge import judge
 from tests.conform.conftest import PATHS
 
-pytestmark = [pytest.mark.slow, pytest.mark.needs("scapy")]
+pytestmark = pytest.mark.slow
 STACK = pathlib.Path(__file__).with_name("small_stack.py")
 RULES = ("frag.hole", "frag.overlap", "frag.time", "frag.key", "udp.ports", "udp.source", "socket.")
 PEER = "it.peer in (None, sender)]"

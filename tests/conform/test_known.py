@@ -11,7 +11,7 @@ import pytest
 from tests.cases import TOP
 from tests.conftest import left_out
 
-pytestmark = [pytest.mark.slow, pytest.mark.needs("scapy")]
+pytestmark = pytest.mark.slow
 KNOWN = TOP / "conform/known"
 ADAPTER = [sys.executable, "-m"]
 ON_LINUX = pytest.mark.needs("netns", "tun", "ip")

@@ -16,7 +16,7 @@ from bsdudp_conform._verdict import FAULT, MUST, NEVER, verdict
 MODULES = {"read": _read, "reassembly": _reassembly, "machine": _machine}
 ABILITIES = frozenset({"out", "send", "mtu", "sockets", "connect", "hold"})
 GRAVE = (FAULT, NEVER, MUST)
-pytestmark = [pytest.mark.slow, pytest.mark.needs("scapy")]
+pytestmark = pytest.mark.slow
 
 
 @functools.lru_cache(maxsize=None)

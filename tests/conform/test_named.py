@@ -11,7 +11,7 @@ from bsdudp_conform._report import text
 from tests.cases import TOP
 from tests.conform.conftest import PATHS
 
-pytestmark = [pytest.mark.slow, pytest.mark.needs("scapy")]
+pytestmark = pytest.mark.slow
 HERE = TOP / "tests/conform"
 RULES = ("icmp.", "hold.lost", "hold.order", "udp.len.", "frag.udp", "frag.options", "ip.version", "ip.padding")
 SCREEN = 24

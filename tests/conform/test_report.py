@@ -3,6 +3,7 @@ that can't be read or written, one line."""
 import functools
 import re
 import sys
+import xml.etree.ElementTree as ElementTree
 
 import pytest
 
@@ -11,11 +12,10 @@ from bsdudp_conform._case import Answer, Case, Connect, Got, Receive
 from bsdudp_conform._html import html
 from bsdudp_conform._judge import Deviation, Judged
 from bsdudp_conform._packets import packet, pieces, udp
-from bsdudp_conform._report import text
+from bsdudp_conform._report import PLAYED, junit, text
 from bsdudp_conform._verdict import verdict
 from tests.cases import TOP
 
-pytestmark = pytest.mark.needs("scapy")
 # An adapter that is there: the template, which isn't filled in.
 TEMPLATE = [sys.executable, str(TOP / "conform/bsdudp_conform/templates/template.py")]
 
@@ -114,7 +114,23 @@ def test_a_file_that_cannot_be_used_is_named_in_one_line(words, said, conform, t
     assert (status, last) == (2, f"bsdudp-conform: {file}{said}") and "Traceback" not in printed
 
 
-# Two builds of one stack: the first delivers each packet, the second none.
+def test_junit_has_the_packets_of_a_failing_case():
+    """All of them, or the first and the last ones of a long case; a case that passes has none."""
+    judged = Judged("a stack", frozenset())
+    for number, count in ((1, 2), (2, 3 * PLAYED), (3, 1)):
+        case = Case("udp.data", number, "a case", (whole(),) * count)
+        answer = Answer(tuple(Got(at, PEER, 5000, b"0123456789") for at in range(count - (number < 3))))
+        judged.cases.append(case)
+        judged.deviations += [Deviation(case, it, answer) for it in verdict(case, answer, frozenset())]
+    few, many, passed = ElementTree.fromstring(junit([judged], set())).iter("testcase")
+    line = f"rx {whole().packet.hex()}"
+    assert few.findtext("system-out").splitlines() == ["case udp.data:1", line, line, "end"]
+    assert many.findtext("system-out").count(line) == 2 * PLAYED - 2
+    assert f".. {PLAYED + 2} more lines .." in many.findtext("system-out")
+    assert few.find("failure") is not None and [it.tag for it in passed] == []
+
+
+# Two builds of one stack: the first delivers each packet, the second none with the reserved flag.
 TWIN = """import sys
 from bsdudp_conform.kit import Adapter, serve
 
@@ -123,7 +139,7 @@ class Twin(Adapter):
     name = "twin 1.0"
 
     def rx(self, packet):
-        if sys.argv[1] == "takes":
+        if sys.argv[1] == "takes" or not packet[6] & 0x80:
             self.got("10.0.0.2", 5000, packet[28:])
 
 
@@ -147,4 +163,4 @@ def test_stacks_of_one_name_are_kept_apart(conform, tmp_path):
 
 def test_an_unknown_rule_names_the_list(conform):
     status, said = conform(sys.executable, "-m", "bsdudp_conform", "run", "--only", "frag.kye", "--", "./none")
-    assert (status, said) == (2, "bsdudp-conform: there is no case of frag.kye: bsdudp-conform run --list has all\n")
+    assert (status, said) == (2, "bsdudp-conform: no case matches frag.kye: bsdudp-conform run --list has all\n")

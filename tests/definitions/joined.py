@@ -23,6 +23,11 @@ FIELDS = {
 # What a wrong definition can break in the law: the fields of a key, or a send.
 LEMMAS = re.compile(rf"Rattle\.{NAME}\.proofs\.(Second\.key_\w+|Recorded\.\S+)")
 LAWS = f"Rattle.{NAME}.proofs.Laws"
+# Files of other laws, which cite what a wrong definition breaks; the law of the wire cites none of them.
+OTHERS = tuple(
+    f"proofs/{it}.antt"
+    for it in ("Keyed", "Progress", "Moves", "Placing", "Accounting", "PlaceTable", "Conserved")
+)
 
 
 class Fault(Exception):
@@ -78,7 +83,8 @@ def make(crates: pathlib.Path, scratch: pathlib.Path) -> None:
         text = file.read_text("utf-8").replace("Rattle.flat_wire.", f"Rattle.{NAME}.")
         text = text.replace(f"Rattle.{NAME}.proofs.laws.", f"Rattle.{NAME}.proofs.wire_laws.")
         text = from_definitions(place, text)
-        names |= cited(text)
+        if place not in OTHERS:
+            names |= cited(text)
         # (a module `laws` and a file Laws can't both be there)
         to = scratch / re.sub(r"\blaws\b", "wire_laws", place)
         if to.name == "Lib.antt":

@@ -142,7 +142,7 @@ TAP, HASTY, BOARD = (
 
 
 @pytest.fixture(scope="session", params=[TAP, BOARD])
-def running(request, flash, tmp_path_factory, core) -> Iterator[Device]:  # each way links the core
+def running(request, flash, tmp_path_factory, library) -> Iterator[Device]:
     folder = tmp_path_factory.mktemp(f"device-{request.param}")
     (folder / "flash").write_bytes(flash)
     it = WAYS[request.param](folder, flash, request)

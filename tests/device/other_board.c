@@ -1,5 +1,5 @@
 /* A port of the device for a board with another memory map: QEMU's netduinoplus2, whose flash begins at 0x08000000. The
-   start code and the seven functions are here, and the linker script is in test_page.py. There is no card: one ARP
+   start code and the eight functions are here, and the linker script is in test_page.py. There is no card: one ARP
    request arrives, and the hardware addresses and the type of each frame that is sent are printed. */
 #include "device.h"
 
@@ -55,13 +55,14 @@ void port_send(const uint8_t *frame, size_t len)
 int port_ticked(void) { return rounds / 10 > ticks ? ++ticks > 0 : 0; }
 int port_wait(void) { return ++rounds < 100; }
 void port_say(const char *text) { semihosting(4, text); } /* SYS_WRITE0 */
+uint32_t port_random(void) { return 7; }
 uint32_t port_stack(void) { return 0; }
 
 int main(void)
 {
     const struct device device = {{BSDUDP_IP(10, 1, 2, 3), 0, 64, 10, 1500, 1},
                                   {{2, 0, 0, 0, 0, 1}, 0xffffff00, 0, 0},
-                                  memory, sizeof memory, flash, 5, ram, sizeof ram, 0};
+                                  memory, sizeof memory, flash, 5, ram, sizeof ram};
     return device_run(&device);
 }
 

@@ -334,8 +334,11 @@ def messages(rng: random.Random, count: int) -> Iterator[bytes]:
         options += [(rng.choice([1, 3, 51, 52, 53, 54, 58]), rng.randbytes(rng.randrange(9)))]
         server = [("server_id", LINUX)] * (rng.random() < 0.9)
         every = [("message-type", kind), *server, ("lease_time", 120), *rng.sample(options, 3), "end"]
-        fields = {"chaddr": bytes.fromhex(MAC.replace(":", "")), "file": rng.randbytes(128), "sname": rng.randbytes(64)}
-        yield bytes(scapy.BOOTP(op=2, yiaddr=address, **fields) / scapy.DHCP(options=every))
+        fields = {"file": rng.randbytes(128), "sname": rng.randbytes(64)}
+        if rng.random() < 0.3:  # options, with OVERLOAD among them, which counts only in the options field
+            fields = {"file": bytes([52, 1, rng.randrange(5), 255]), "sname": b"\1\4" + rng.randbytes(4) + b"\xff"}
+        client = bytes.fromhex(MAC.replace(":", ""))
+        yield bytes(scapy.BOOTP(op=2, yiaddr=address, chaddr=client, **fields) / scapy.DHCP(options=every))
 
 
 def damaged(rng: random.Random, data: bytes) -> bytes:
@@ -385,9 +388,9 @@ def test_malformed(start):
     sends(MALFORMED // 2)
     with dnsmasq(it.folder, "10.0.0.50", "10.0.0.50"):
         it.gets(r"10\.0\.0\.50")
+        until(lambda: {frame.ciaddr for frame in it.messages(REQUEST)} > {NEVER}, "it renewed nothing")
         sends(MALFORMED // 2)
         it.gets(r"10\.0\.0\.50")
-    assert {frame.ciaddr for frame in it.messages(REQUEST)} > {NEVER}, "it renewed nothing"
     assert it.process.poll() is None
 
 
@@ -430,6 +433,137 @@ def test_seconds_of_a_long_wait(library, tmp_path):
          tmp_path / "lonely")  # fmt: skip
     seconds, sent = map(int, run(tmp_path / "lonely").split())
     assert seconds == 0xFFFF and abs(sent - 20 * 3600 // 64) < 20
+
+
+# A client without a network. It obeys lines: `tick`; `frame LENGTH HEX`; `send`. After each one it prints its state, the type of
+# the message that waits, and the frame that it sent.
+STEPS = """
+#include "dhcp.h"
+#include <stdio.h>
+static unsigned char memory[BSDUDP_ETHER_MEMORY(16, 4)] __attribute__((aligned(BSDUDP_ALIGNMENT)));
+static uint8_t frame[BSDUDP_ETHER_ROOM];
+int main(void)
+{
+    static struct bsdudp host;
+    static struct dhcp it = {.host = &host, .config = {0, 0, 16, 4, 1500, 1}, .link = {.mac = {2, 0, 0, 0, 0, 1}},
+                             .memory = memory, .memory_len = sizeof memory};
+    char word[8];
+    unsigned byte;
+    size_t len, k;
+    if (dhcp_start(&it) != 0)
+        return 1;
+    while (scanf("%7s", word) == 1) {
+        len = 0;
+        if (word[0] == 't') {
+            dhcp_tick(&it);
+        } else if (word[0] == 'f') {
+            if (scanf("%zu", &len) != 1 || len > sizeof frame)
+                return 1;
+            for (k = 0; k < len && scanf("%2x", &byte) == 1; k++)
+                frame[k] = (uint8_t)byte;
+            dhcp_receive(&it, frame, len);
+            len = 0;
+        } else {
+            len = dhcp_transmit(&it, frame);
+        }
+        printf("%d %d ", it.state, it.message);
+        for (k = 0; k < len; k++)
+            printf("%02x", frame[k]);
+        printf("\\n");
+        fflush(stdout);
+    }
+    return 0;
+}
+"""
+INIT, SELECTING, REQUESTING, REBOOTING, BOUND = range(5)
+
+
+class Steps:
+    """A client without a network, and what it does next."""
+
+    def __init__(self, program: pathlib.Path) -> None:
+        self.child = subprocess.Popen([program], stdin=subprocess.PIPE, stdout=subprocess.PIPE, text=True)
+        self.state = self.waits = 0
+
+    def does(self, line: str) -> bytes:
+        """Returns the frame that it sent."""
+        self.child.stdin.write(line + "\n")
+        self.child.stdin.flush()
+        state, waits, sent = self.child.stdout.readline().split(" ")
+        self.state, self.waits = int(state), int(waits)
+        return bytes.fromhex(sent)
+
+    def ticks(self) -> None:
+        """Lets time pass until a message waits."""
+        for _ in range(200):
+            self.does("tick")
+            if self.waits:
+                return
+        pytest.fail("no message waits")
+
+    def replies(self, kind: int) -> None:
+        """A server's reply to the last message arrives."""
+        options = [("message-type", kind), ("server_id", LINUX), ("lease_time", 120), ("subnet_mask", "255.0.0.0"), "end"]
+        client = bytes.fromhex(MAC.replace(":", ""))
+        head = scapy.BOOTP(op=2, xid=self.xid, yiaddr="10.0.0.50", chaddr=client)
+        frame = frame_of(bytes(head / scapy.DHCP(options=options)))
+        self.does(f"frame {len(frame)} {frame.hex()}")
+
+    def sends(self) -> int:
+        """Returns the type of the message that it sends, or 0."""
+        frame = self.does("send")
+        if frame[36:38] != b"\x00\x43":
+            return 0
+        self.xid = int.from_bytes(frame[46:50], "big")
+        return option(scapy.Ether(frame), "message-type")
+
+
+@pytest.fixture
+def steps(library, tmp_path) -> Iterator[Steps]:
+    """A client that waits for offers."""
+    (tmp_path / "steps.c").write_text(STEPS, encoding="utf-8")
+    sources = [TOP / f"capi/examples/{it}.c" for it in ("dhcp", "dhcp_message")]
+    words = ["-std=gnu99", "-fsanitize=address,undefined", "-fno-sanitize-recover=all", f"-I{TOP}/capi/examples"]
+    made("cc", *words, f"-I{TOP}/capi/include", tmp_path / "steps.c", *sources, library.archive, "-o", tmp_path / "steps")
+    it = Steps(tmp_path / "steps")
+    with it.child:
+        it.ticks()
+        assert it.sends() == DISCOVER and it.state == SELECTING
+        yield it
+        it.child.stdin.close()
+    assert it.child.returncode == 0
+
+
+@pytest.mark.needs("cc", "asan", "scapy")
+def test_refusal_in_the_round_of_a_request(steps):
+    """A REQUEST that is due again isn't sent after its NAK: it would name neither an address nor a server (4.3.2)."""
+    steps.replies(OFFER)
+    assert steps.sends() == REQUEST and steps.state == REQUESTING
+    steps.ticks()
+    steps.replies(NAK)
+    assert steps.state == INIT and steps.sends() == 0
+
+
+@pytest.mark.needs("cc", "asan", "scapy")
+def test_reply_before_the_request(steps):
+    """An ACK or NAK with the DISCOVER's number, before a REQUEST left, grants and refuses nothing (3.1)."""
+    steps.replies(OFFER)
+    for kind in (ACK, NAK):
+        steps.replies(kind)
+        assert steps.state == REQUESTING and steps.waits == REQUEST
+    assert steps.sends() == REQUEST
+    steps.replies(ACK)
+    assert steps.state == BOUND
+
+
+@pytest.mark.needs("cc", "asan", "scapy")
+def test_grant_in_the_round_of_a_request(steps):
+    """A REQUEST that is due again isn't sent after its ACK."""
+    steps.replies(OFFER)
+    assert steps.sends() == REQUEST
+    steps.ticks()
+    steps.replies(ACK)
+    assert steps.state == BOUND and steps.waits == 0 and steps.sends() == 0
 
 
 READER = """
@@ -485,9 +619,9 @@ def what_it_says(frame: bytes) -> str:
     found, overload = [0, words(data[16:20]), 0, 0, 0, 0, 0, 0], [0]
     if not options_of(data[240:], found, overload) or overload[0] > 3:
         return "none"
-    if overload[0] & 1 and not options_of(data[108:236], found, overload):
+    if overload[0] & 1 and not options_of(data[108:236], found, [0]):
         return "none"
-    if overload[0] & 2 and not options_of(data[44:108], found, overload):
+    if overload[0] & 2 and not options_of(data[44:108], found, [0]):
         return "none"
     return " ".join(map(str, found)) if found[4] else "none"
 

@@ -35,6 +35,11 @@ ROWS = {
     "dist/deb FOLDER": Row("deb", "dist/deb"),
     "dist/deb --judge FOLDER": Row("judge", '"--judge"'),
     "pip install ./conform": Row("judge", "pip install"),
+    "conform/bsdudp-conform template mine": Row("templates", '"template"'),
+    "bsdudp-conform lab": Row("lab", "test_the_page"),
+    "bsdudp-conform lab start handout": Row("lab", '"lab", "start", handout'),
+    "python3 judge.pyz lab check --step 1 .": Row("lab", '"judge.pyz", "lab", "check"'),
+    "bsdudp-conform lab grade --feedback feedback class > grades.csv": Row("lab", '"lab", "grade", "--feedback"'),
     "apt install ./bsdudp_*.deb ./libbsdudp*.deb ./python3-bsdudp_*.deb": Row("deb", "dpkg -i"),
     "man bsdudp": Row("made_pages", "bsdudp.1"),
     "man bsdplay": Row("made_pages", "bsdplay.1"),
@@ -43,10 +48,8 @@ ROWS = {
     "./install ~/.local": Row("dist", 'install"'),
     "python3 -m venv bench && . bench/bin/activate": Row("dist", "venv"),
     "pip install share/bsdudp/bsdudp-*.whl": Row("dist", "bin/pip"),
-    "python3 first.py": Row("dist", "first.py"),
     # the C library
     "capi/install *": Row("capi", "capi/install"),
-    "cc first.c $(pkg-config --cflags --libs bsdudp) && ./a.out": Row("dist", "pkg-config"),
     "cc program.c -I PREFIX/include PREFIX/lib/libbsdudp.a && ./a.out": Row("capi", "lines[0]"),
     "export PKG_CONFIG_PATH=PREFIX/lib/pkgconfig LD_LIBRARY_PATH=PREFIX/lib": Row("capi", "lines[1:3]"),
     "cc program.c $(pkg-config --cflags --libs bsdudp) && ./a.out": Row("capi", "lines[1:3]"),
@@ -101,18 +104,6 @@ class Session(NamedTuple):
 EXAMPLES = {"examples": "examples"}
 KEY = "examples/play/exercise_04_fragments_out.txt"
 SESSIONS = {
-    "installed": Session(
-        "README.md",
-        [
-            "bsdplay /usr/share/doc/bsdudp/examples/play/why_dropped.txt",
-            "bsdplay why /usr/share/doc/bsdudp/examples/play/faults.pcap",
-        ],
-        instead={"/usr/share/doc/bsdudp": str(TOP)},
-        prints=[
-            "dropped wrong version",
-            "The machine is 10.0.0.1, to which 12 of 12 datagrams go; --addr takes another.",
-        ],
-    ),
     "why": Session(
         "docs/captures.md",
         ["bsdplay why capture.pcap"],
@@ -126,7 +117,7 @@ SESSIONS = {
         prints=["A host on an Ethernet judges, with ARP and ICMP."],
     ),
     "scripts": Session(
-        "docs/scripts.md", ["bsdplay examples/play/why_dropped.txt"], EXAMPLES, shown="and what changed:"
+        "docs/scripts.md", ["bsdplay examples/play/why_dropped.txt"], EXAMPLES, shown="and the changes:"
     ),
     "tour": Session(
         "docs/tour.md",
@@ -192,19 +183,6 @@ SESSIONS = {
         ["bsdplay --from-pcap capture.pcap > script.txt"],
         {"capture.pcap": "examples/play/faults.pcap"},
     ),
-    "Wireshark": Session(
-        "docs/captures.md",
-        [
-            "bsdudp run < script.txt | sed -n 's/^packet //p' | "
-            """awk '{ printf "000000"; for (i = 1; i <= length($0); i += 2) printf " %s", substr($0, i, 2); """
-            """print "" }' > dump.txt""",
-            "text2pcap -q -l 101 dump.txt packets.pcap",
-            "tshark -r packets.pcap -V -o ip.check_checksum:TRUE -o udp.check_checksum:TRUE",
-        ],
-        {"script.txt": "socket\nsendto 3 10.0.0.2 7 6869\ntx\n"},
-        prints=["[Header checksum status: Good]", "[Checksum Status: Good]"],
-        needs=["tshark", "editcap"],
-    ),
     "comments": Session(
         "docs/scripts.md",
         [r"sed -e 's/\r$//' -e 's/[[:space:]]*#.*//' -e '/^$/d' mine.txt | bsdudp run"],
@@ -251,21 +229,21 @@ SESSIONS = {
             "YOUR_STACK..": "",
             "--report out": "--report out --only udp.data",
         },
-        shown="reports that no datagram comes:",
+        shown='(`--only` with the rule "udp.data"):',
         statuses={"bsdudp-conform run --report out -- ./adapter": 1},
-        needs=["scapy", "cc"],
+        needs=["cc"],
     ),
 }
 ROWS |= {command: Row("commands", "SESSIONS") for it in SESSIONS.values() for command in it.commands}
 # The commands that no test runs, and why.
 UNTRIED = {
-    "pip install scapy": "it takes the network; Debian's package is tried",
     "nc -u 10.0.0.1 7": "a test of tap_host sends the same datagrams by a socket",
     "tcpdump -e -i tap0": "it shows what a test of tap_host reads by tshark",
     "conform/stacks FOLDER": "tests/conform judges the same stacks, one by one",
     "tcpdump -s 0 -w capture.pcap host 10.0.0.1": "it takes a network card",
     "tcpdump -s 60": "it takes a network card",
     "bench/run.sh stack": "measurements are made by hand",
+    "bench/run.sh peers": "measurements are made by hand",
     "grep -rnw IsUnshared crates/*/specs": "it looks for a word",
     "grep -rnw head_fault crates docs tests": "it looks for a word",
     "rt must-fail *": "it takes minutes for a crate; rt ci of the gate does it",

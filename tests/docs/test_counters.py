@@ -7,7 +7,7 @@ from tools import listed
 
 BEHAVIOUR = "docs/behaviour.md"
 # The definitions whose text has the causes that drop a packet, in the order of the checks.
-CHECKS = ["ComesIn", "head_fault", "Passes", "FragmentArrives", "WholeArrives"]
+CHECKS = ["ComesInAs", "head_fault", "PassesAs", "FragmentArrivesAs", "WholeArrivesAs"]
 
 
 def test_table_of_checks():
@@ -18,7 +18,8 @@ def test_table_of_checks():
         known |= listed.definitions(listed.SPECS / path)
     names, counter_of = dict(listed.named_counters()), dict(listed.causes_counted())
     words = [word for check in CHECKS for word in re.findall(r"\w+", known.get(check, ""))]
-    wanted = [names[counter_of[word]] for word in words if word in counter_of]
+    # A definition has each cause twice: for what is said of the end, and for the state.
+    wanted = list(dict.fromkeys(names[counter_of[word]] for word in words if word in counter_of))
     entries = [Entry(row.place, " ".join(in_code(row.cells[1]))) for row in rows]
     none_of(in_order(place, "the counter of a check", entries, wanted, "crates/flat_model/specs"))
 

@@ -81,6 +81,24 @@ def test_calls_on_the_way_of_a_packet():
     none_of(faults)
 
 
+def test_functions_in_the_picture_of_a_packet():
+    """A line of the picture begins with a function of the crate that it names, of the line above it that has less
+    indentation, or of net_stack."""
+    faults, section, above = [], "", []
+    for place, line in lines(ARCHITECTURE):
+        section = line if line.startswith("## ") else section
+        it = re.match(r"    [ |\\]{0,20}(\w+(?:::\w+)*)", line)
+        if section != "## The path of a packet" or not it:
+            continue
+        above = [(column, crate) for column, crate in above if column < it.start(1)]
+        first, *_, name = it[1].split("::") if "::" in it[1] else ("", it[1])
+        crate = first if first in sources() else above[-1][1] if above else "net_stack"
+        above.append((it.start(1), crate))
+        if not re.search(rf"\bfn {name}\b", sources()[crate]):
+            faults.append(Fault(place, f"{crate} has no function {name}"))
+    none_of(faults)
+
+
 # ---- mutants -------------------------------------------------------------------------------------------------------
 
 
@@ -92,7 +110,8 @@ def refused_by_security() -> list[str]:
 
 def always_tried() -> list[str]:
     """Returns the mutants in the table of mistakes that the gate always tries."""
-    _, rows = table("docs/maintain/testing.md", "Mistakes that the gate always tries", "Mistake", "Mutants")
+    heads = ["Mistake", "Mutants", "Seen in"]
+    _, rows = table("docs/maintain/testing.md", "Mistakes that the gate always tries", *heads)
     return [name for row in rows for name in in_code(row.cells[1])]
 
 

@@ -1,5 +1,5 @@
-"""What pages say about examples/: a row for each script, and the output that docs/tour.md shows. README's two programs
-are files."""
+"""What pages say about examples/: a row for each script, and the output that docs/tour.md shows. README's program is a
+file, and its output of `why` is in a golden file."""
 import re
 import textwrap
 
@@ -19,13 +19,21 @@ def test_each_example_has_a_line():
     assert sorted(scripts) == sorted(rows)
 
 
-@pytest.mark.parametrize(
-    "path, begins", [("capi/examples/first.c", "#include <bsdudp.h>"), ("python/examples/first.py", "import bsdudp")]
-)
-def test_readmes_program_is_a_file(path, begins):
+def test_readmes_program_is_a_file():
     """The file has README's program after a comment."""
-    (shown,) = re.findall(rf"(?m)^    {re.escape(begins)}\n(?:    .*\n)+", read("README.md"))
-    assert read(path).partition(f"\n{begins}\n")[2] == textwrap.dedent(shown).removeprefix(f"{begins}\n")
+    begins = "import bsdudp"
+    (shown,) = re.findall(rf"(?m)^    {begins}\n(?:    .*\n)+", read("README.md"))
+    there = read("python/examples/first.py").partition(f"\n{begins}\n")[2]
+    assert there == textwrap.dedent(shown).removeprefix(f"{begins}\n")
+
+
+def test_readmes_output_of_why_is_in_a_golden_file():
+    """Each line that README shows of `make why` is printed for its capture, in this order."""
+    shown = re.search(r"(?m)^    2  .*\n(?:    .*\n)+", read("README.md"))[0]
+    (golden,) = (it for it in goldens.of_transcript(goldens.OPTIONS) if it.words == ["why", "examples/play/faults.pcap"])
+    there = iter(goldens.text_lines(golden.text))
+    lacking = [it for it in textwrap.dedent(shown).splitlines() if it not in there]
+    assert not lacking
 
 
 def quoted():

@@ -32,10 +32,27 @@ def test_manual_page(page, manual):
 @pytest.mark.parametrize("program", ["bsdudp", "bsdplay"])
 def test_synopsis(program, manual):
     """It has each form of the command line that docs/scripts.md has, word for word."""
-    forms = re.findall(rf"(?m)^    {program} (.*)", part("docs/scripts.md", f"## The command line of {program}\n", "\n| "))
+    said = part("docs/scripts.md", f"## The command line of {program}\n", "\n| ").replace("\n        [", " [")
+    forms = re.findall(rf"(?m)^    {program} (.*)", said)
+    assert forms and synopsis(manual, program) == forms
+
+
+def synopsis(manual, program):
+    """Returns the forms of the command line that a manual page has."""
     text = (manual / f"{program}.1").read_text(encoding="utf-8").replace("\\-", "-").replace("\\ ", " ")
-    came = re.findall(rf"(?m)^\.SY {program}\n(.*)\n\.YS$", text)
-    assert forms and came == forms
+    return re.findall(rf"(?m)^\.SY {program}\n(.*)\n\.YS$", text)
+
+
+@pytest.mark.parametrize("table, form", [("OPTIONS", "--"), ("WHY_OPTIONS", "why ")])
+def test_options_of_bsdplay(table, form, manual):
+    """The manual page's synopsis and a table of a page have each option of the program's help, and no others; the
+    completion reads the help."""
+    of_help = set(re.findall(r'long: "([a-z-]+)"', part("crates/bsdplay/src/options.rt", f" {table}: [", "\n];")))
+    forms = " ".join(it for it in synopsis(manual, "bsdplay") if it.startswith("why ") == (form == "why "))
+    assert set(re.findall(r"--([a-z-]+)", forms)) == of_help | ({"quiet"} if form == "--" else set())
+    pages = {"why ": ["captures"], "--": ["scripts", "captures", "teaching"]}[form]
+    told = "".join((TOP / f"docs/{it}.md").read_text(encoding="utf-8") for it in pages)
+    assert not {it for it in of_help if f"`--{it}" not in told}
 
 
 @pytest.mark.needs("groff")

@@ -129,11 +129,6 @@ def definitions_of_pages() -> Iterator[tuple[str, tuple[str, str, str]]]:
     for place, line in lines("docs/book.md"):
         if line.startswith("| ") and line.count("|") == 4:
             yield from ((place, it) for it in named_definitions(line.split("|")[3]))
-    for place, line in lines("docs/tour.md"):
-        if re.match(r"\| \d", line):
-            cell = line.split("|")[4]
-            crate = "chain_script" if "chain_script" in cell else "flat_model"
-            yield from ((place, it) for it in named_definitions(cell.partition(" in ")[0], crate))
     for place, line in lines("docs/model.md"):
         for it in re.findall(r"\[(`[^\]]+)\](?!\()", line):
             yield from ((place, one) for one in named_definitions(it, "flat_model"))

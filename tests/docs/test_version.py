@@ -19,7 +19,6 @@ PLACES = {
     "docs/c.md": r"find_package\(bsdudp (\d+\.\d+) ",
     "python/bsdudp/__init__.py": rf'^__version__ = "{NUMBER}"$',
     "python/pyproject.toml": rf'^version = "{NUMBER}"$',
-    "tests/bsdplay/goldens/options.transcript": rf"^bsdplay {NUMBER}$",
     "tools/editors/vscode/package.json": rf'^  "version": "{NUMBER}",$',
 }
 

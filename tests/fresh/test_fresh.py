@@ -34,15 +34,17 @@ def packages():
 
 
 def blocks(kind):
-    """Returns README's blocks of this kind below "Try it": the commands, or their output."""
-    text = README.partition("## Try it\n")[2].partition("\n## ")[0]
+    """Returns README's blocks of this kind: the commands, or output and programs."""
     if kind == "commands":
-        return re.findall(r"(?ms)^```sh\n(.*?)^```$", text)
-    return [re.sub("(?m)^    ", "", it) for it in re.findall(r"(?m)(?:^    .*\n)+", text)]
+        return re.findall(r"(?ms)^```sh\n(.*?)^```$", README)
+    return [re.sub("(?m)^    ", "", it) for it in re.findall(r"(?m)(?:^    .*\n)+", README)]
 
 
 TRIAL = """
-PYTHONPATH=out/python python3 -c "from bsdudp._library import LIBRARY; print(LIBRARY.version)"
+PYTHONPATH=out/python python3 -c "import bsdudp; print(bsdudp.library_version)"
+printf '#include <bsdudp.h>\\n#include <stdio.h>\\nint main(void) { return puts(bsdudp_version()) < 0; }\\n' > version.c
+TRIAL=1 portable/core x86_64 out/core
+for library in out out/core; do cc -Icapi/include version.c $library/libbsdudp.a -o version && ./version; done
 make page TRIAL=1
 grep -oE "An unproved build|a proved program|runs proved Rattle code|<!--IF" page/out/unproved/bsdudp.html
 """
@@ -51,48 +53,46 @@ grep -oE "An unproved build|a proved program|runs proved Rattle code|<!--IF" pag
 def test_readme_without_a_proof():
     """The second block, in a clone: the library, the Python package and the page are built without a proof and say
     so. The page claims no proof anywhere."""
-    readme = README.partition("## Try it\n")[2]
-    # libc6-dev comes with gcc, because gcc recommends it; here nothing recommended is installed
-    installed = ",".join([packages(), *re.findall(r"`apt-get install ([^`]+)`", readme)[1:], "libc6-dev"])
+    # libc6-dev comes with gcc, because gcc recommends it; here nothing recommended is installed. The page needs binaryen
+    installed = ",".join([packages(), "binaryen", *re.findall(r"`apt-get install ([^`]+)`", README)[1:], "libc6-dev"])
     first, second = blocks("commands")
-    clone = first.partition("make run\n")[0]
+    clone = first.partition("make why\n")[0]
     status, printed, said = machine("--with", installed, f"set -e\n{clone}{second}{TRIAL}")
     assert status == 0, f"status {status}:\n{printed[-2000:]}\n{said[-2000:]}"
     number = re.search(r"version (\d+\.\d+\.\d+)", README)[1]
     assert [it for it in printed.splitlines() if not it.startswith(("made: ", "export "))] == [
         "2 bytes, from port 7",
         "(b'hi', ('10.0.0.1', 1024)) Counters(ip.total=1)",
-        f"{number}, unproved build",
+        *[f"{number}, unproved build"] * 3,
         "An unproved build",
     ], printed
 
 
 def passes(commands, *words):
-    """Commands of README's block pass at the first try, and print what README shows."""
-    played, summary = blocks("prints")
+    """README's first block and `make test` pass at the first try, and print what README shows."""
+    summary = re.search(r"`(N passed, 0 failed, N skipped)`", README)[1]
     status, printed, said = machine(*words, "--with", packages(), f"set -e\n{commands}")
     tail = f"status {status}:\n{printed[-3000:]}\n{said[-1000:]}"
     assert status == 0, tail
-    assert printed.startswith(played), tail
+    there = iter(printed.splitlines())
+    assert not [it for it in blocks("prints")[0].splitlines() if it not in there], tail
     last = printed.splitlines()[-1]
-    assert re.fullmatch(summary.strip().replace("N", r"\d+"), last), tail
+    assert re.fullmatch(summary.replace("N", r"\d+"), last), tail
     skipped = sum(map(int, re.findall(r"(?m)^skipped \((\d+)\): ", printed)))
     assert skipped == int(last.split()[-2]), f"the reasons above the last line count {skipped} skips: {tail}"
     assert "Traceback" not in printed + said, tail
 
 
 def test_readme():
-    """A new user pastes the first block, word for word."""
-    passes(blocks("commands")[0])
+    """A new user pastes the first block, word for word, and runs the tests."""
+    passes(f"{blocks('commands')[0]}make test\n")
 
 
 def test_readme_as_root():
     """What differs for root: `rt` doesn't let root run what it compiles, and some tools are there only for root (such
     as network namespaces). So of `make test` only the tests with the marker `needs` are played, without `rt`. Nearly
     all are skipped, and each must be counted with its reason. The new user plays the others."""
-    commands, _ = blocks("commands")
-    assert "\nmake test\n" in commands
-    passes(commands.replace("\nmake test\n", "\nrm /usr/local/bin/rt\nmake test K=needs\n"), "--root")
+    passes(f"{blocks('commands')[0]}rm /usr/local/bin/rt\nmake test K=needs\n", "--root")
 
 
 # ---- missing tools -------------------------------------------------------------------------------------------------

@@ -21,7 +21,7 @@ SANITIZED += ["-DCMAKE_CXX_FLAGS=-O1 -g1 -fsanitize=address,undefined -fno-sanit
 # Refused configurations, and their error texts.
 REFUSED = {
     "frame": "its MTU is 1501: set one of 68 to 1500",
-    "gateway": "gateway is not a neighbour",
+    "gateway": "gateway must be a neighbour",
     "mtu": "its MTU is 9000: set one of 68 to 4352",
     "device": "node 0 has a bsdudp stack already",
     "stack": "node 0 has another stack already",

@@ -6,7 +6,6 @@ import re
 import shlex
 import shutil
 import subprocess
-import textwrap
 
 import pytest
 
@@ -23,16 +22,10 @@ ON_A_MACHINE = pytest.mark.needs("root", "overlay", "debootstrap", "rt", "git")
 BESIDE = "man-db,gcc,g++,libc6-dev,pkg-config,python3,python3-scapy"
 PACKAGES = "bsdudp bsdudp-conform python3-bsdudp libbsdudp-dev libbsdudp0"
 DOCUMENTS = "/usr/share/doc"
-README = (TOP / "README.md").read_text(encoding="utf-8")
 HI = "(b'hi', ('10.0.0.1', 1024))"
 FLAGS = "$(pkg-config --cflags --libs bsdudp)"
 WIRE = f"cp {DOCUMENTS}/libbsdudp-dev/examples/wire.c . &&"
 STATIC = "$(pkg-config --cflags bsdudp) -Wl,-Bstatic -lbsdudp -Wl,-Bdynamic"
-
-
-def program_of(first):
-    """Returns README's program that begins with this line."""
-    return textwrap.dedent(re.search(rf"(?m)^    {re.escape(first)}\n(?:(?:    .*)?\n)*", README)[0])
 
 
 def checks():
@@ -49,12 +42,11 @@ def checks():
     yield f"{WIRE} gcc -std=c99 wire.c {STATIC} -o wire && ./wire", None
     portable = "/usr/share/bsdudp/bsdudp_portable.c"
     yield f"[ ! -e {portable} ] || gcc -std=c99 -c {portable}", None
-    # README's first steps: each command that names something that a package installs
-    for line in re.findall(r"(?m)^\| [^|]* \| `([^`]*)` \|", README.partition("| You are |")[2].partition("\n\n")[0]):
-        if line.startswith("python3"):
-            yield f"{line} | cut -d' ' -f1-3", HI
-        else:
-            yield line, "2 bytes, from port 7" if line.startswith("cc") else None
+    yield f"bsdplay why {examples}/play/faults.pcap", None
+    yield f"bsdplay {examples}/play/why_dropped.txt", None
+    yield f"cc first.c {FLAGS} && ./a.out", "2 bytes, from port 7"
+    yield "python3 first.py | cut -d' ' -f1-3", HI
+    yield "bsdudp-conform template mine", None
     yield "python3 -I page.py | tail -1", HI
     yield "bsdudp-conform run --list --only ip.version | wc -l", "15"
 
@@ -114,8 +106,8 @@ def outcomes(debs):
     for pattern in ("bsdudp*.deb", "libbsdudp*.deb", "python3-*.deb"):
         for it in debs.glob(pattern):
             shutil.copy(it, files)
-    (files / "first.c").write_text(program_of("#include <bsdudp.h>"), encoding="utf-8")
-    (files / "first.py").write_text(program_of("import bsdudp"), encoding="utf-8")
+    for it in ("capi/examples/first.c", "python/examples/first.py"):
+        shutil.copy(TOP / it, files)
     page = (TOP / "docs/python.md").read_text(encoding="utf-8")
     (files / "page.py").write_text(re.search(r"(?s)```python\n(.*?)```", page)[1], encoding="utf-8")
     lines = " ".join(shlex.quote(line) for line, _ in CHECKS)

@@ -1,6 +1,7 @@
 """bsdudp-conform by itself, with pytest's option --packages, on an empty Debian 12 without a network
 (tests/fresh/machine): from its Debian package, which depends on nothing of the stack, and by pip from its folder. An
-author's three commands give a first verdict, and play a case of a sweep again."""
+author's three commands give a first verdict, and play a case of a sweep again. A course's skeleton is handed out, tried
+and graded."""
 import shutil
 import subprocess
 
@@ -14,7 +15,7 @@ pytestmark = [
     pytest.mark.needs("root", "overlay", "debootstrap", "rt", "debhelper"),
     pytest.mark.xdist_group("packages"),
 ]
-BESIDE = "python3,python3-scapy,gcc,libc6-dev"
+BESIDE = "python3,gcc,libc6-dev"
 INSTALL = {
     "deb": (BESIDE, "dpkg -i /srv/files/*.deb > /dev/null"),
     "pip": (
@@ -33,6 +34,11 @@ cc -Imine mine/template.c -o adapter
 bsdudp-conform run --report out --only udp.data -- ./adapter | head -2 || true
 echo $(ls out)
 bsdudp-conform run --seeds 1-2 -- ./adapter | head -1 || true
+bsdudp-conform lab start hand > /dev/null
+(cd hand && python3 judge.pyz lab check --step 4 . | head -1) || true
+mkdir -p class/ann
+cp "$(python3 -c 'import bsdudp_conform; print(*bsdudp_conform.__path__)')"/lab/solution/c/*.c class/ann
+bsdudp-conform lab grade class | tail -1
 """
 
 
@@ -48,8 +54,9 @@ def test_an_author_needs_nothing_of_the_stack(how, tmp_path):
     if done.returncode == 77:
         pytest.skip(done.stderr.strip())
     assert done.returncode == 0, done.stdout[-1000:] + done.stderr[-2000:]
-    summary, cause, files, sweep = done.stdout.strip().splitlines()
-    assert summary == "my stack 1.0: 510 cases, 510 deviate, by 1 cause"
-    assert cause == "  must 502, should 8: a datagram doesn't come (udp.data:1 and 509 more)"
+    summary, cause, files, sweep, check, grades = done.stdout.strip().splitlines()
+    assert summary == "my stack 1.0: 533 cases, 533 deviate, by 1 cause"
+    assert cause == "  must 511, should 23: a datagram doesn't come (udp.data:1 and 532 more)"
     assert files.split() == ["junit.xml", "my-stack-1.0", "report.html", "report.txt"]
     assert sweep.startswith("./adapter: 2 seeds, ") and "causes" in sweep
+    assert check == "step 4, sending: 0 of 15" and grades == "ann,15,15,20,15,15,20,100,"

@@ -12,9 +12,9 @@ import pytest
 from tests.cases import TOP
 from tests.made import module, page  # noqa: F401 (fixtures)
 
-# The widths of a phone, another phone, a window of 1,280 pixels at a zoom of 200 %, a tablet, a laptop and a large
-# screen, and the heights of their windows.
-HEIGHTS = {360: 740, 390: 844, 640: 450, 768: 1024, 1280: 800, 1600: 1000}
+# The widths of a phone, another phone, a window of 1,280 pixels at a zoom of 200 %, a tablet, a projector (or a zoom of
+# 125 %), a laptop and a large screen, and the heights of their windows.
+HEIGHTS = {360: 740, 390: 844, 640: 450, 768: 1024, 1024: 768, 1280: 800, 1600: 1000}
 DOUBLE = 640
 UNTIL_READY = """new Promise(done => {
     const look = () => (document.body && document.body.dataset.ready ? done() : setTimeout(look, 20));
@@ -23,7 +23,7 @@ UNTIL_READY = """new Promise(done => {
 PROGRAMS = ["chromium", "chromium-browser", "google-chrome"]
 # The time limit in seconds for a reply of Chromium.
 END = 1200
-KEYS = {"Tab": 9, "Enter": 13, "Escape": 27, "ArrowLeft": 37, "ArrowRight": 39, "ArrowDown": 40}
+KEYS = {"Tab": 9, "Enter": 13, "Escape": 27, "ArrowLeft": 37, "ArrowUp": 38, "ArrowRight": 39, "ArrowDown": 40}
 
 
 class Browser:
@@ -61,9 +61,9 @@ class Browser:
             raise RuntimeError(fault.get("exception", {}).get("description", fault["text"]))
         return got["result"].get("value")
 
-    def open(self, file: pathlib.Path) -> None:
-        """Opens the page, with the functions of in_page.js."""
-        self.ask("Page.navigate", url=file.resolve().as_uri())
+    def open(self, file: pathlib.Path, more: str = "") -> None:
+        """Opens the page, with the functions of in_page.js. `more` is what follows the file in the address."""
+        self.ask("Page.navigate", url=file.resolve().as_uri() + more)
         self.run(UNTIL_READY)
         self.run((TOP / "page/test/in_page.js").read_text(encoding="utf-8"))
 
@@ -125,5 +125,5 @@ def chromium(page: pathlib.Path, started: Browser) -> Iterator[Browser]:  # noqa
 def page_at_width(chromium: Browser) -> Callable[[int], Browser]:
     """at_width(WIDTH) opens the page at a width, without anything of yours."""
     chromium.run("document.querySelectorAll('dialog[open]').forEach(it => it.close())")
-    chromium.run("localStorage.clear(); setTheme('light'); showStart(false)")
+    chromium.run("localStorage.clear(); setTheme('light'); setSize('normal'); fold(true); showStart(false)")
     return chromium.resize

@@ -8,7 +8,7 @@ import pytest
 
 from tests.cases import TOP
 from tests.packets import datagram, left_to_card
-from tests.page.conftest import HEIGHTS
+from tests.page.conftest import DOUBLE, HEIGHTS
 from tests.pcaps import header, record
 
 pytestmark = [pytest.mark.needs("rt", "wasm-opt", "chromium"), pytest.mark.slow]
@@ -119,6 +119,111 @@ def test_the_buttons_of_the_head_fill_two_rows_at_most(width, at_width):
     assert rows <= 2 and height <= 96, f"the buttons fill {rows} rows, and the head is {height} pixels high"
 
 
+# ---- what is on the screen without scrolling
+
+# The steps of a script whose figure, or for many hosts whose wire, isn't on the screen with this many pixels. For a
+# packet that was dropped the checks and the headers come first.
+OFF_SCREEN = """(least => page.steps.flatMap((step, i) => {
+    if (page.mode === "run" && step.packet && step.drops.length) return [];
+    scrollTo(0, 0);
+    stepTo(i);
+    const it = document.querySelector("#look .mbuf-figure svg, #look .segment");
+    if (!it) return [];
+    const { top, bottom } = it.getBoundingClientRect();
+    return Math.min(bottom, top + least) <= innerHeight ? [] : [`${page.at + 1}: at ${top} to ${bottom}`];
+}))"""
+ON_SCREEN = [(1024, 120, *it) for it in LESSONS] + [(DOUBLE, 40, *it) for it in LESSONS if it[0] != "wire"]
+
+
+@pytest.mark.parametrize("width, least, mode, name", ON_SCREEN)
+def test_the_figure_is_on_the_screen_at_each_step(width, least, mode, name, at_width):
+    browser = at_width(width)
+    opened(browser, mode, name)
+    browser.run("revealAll()")
+    assert browser.run(f"{OFF_SCREEN}({least})") == []
+
+
+@pytest.mark.parametrize("mode, name", LESSONS)
+def test_on_a_phone_the_line_is_in_the_first_300_pixels(mode, name, at_width):
+    browser = at_width(360)
+    opened(browser, mode, name)
+    for place in ("0", "page.firstQuestion"):
+        browser.run(f"select({place}); scrollTo(0, 0)")
+        assert browser.run("document.querySelector('#look .lead h3').getBoundingClientRect().bottom") <= 300
+
+
+def test_on_a_phone_the_lines_are_unfolded_by_a_button_and_a_choice_folds_them(at_width):
+    browser = at_width(390)
+    opened(browser, "run", "05_fragments_and_a_hole")
+    seen = "[byId('rows'), byId('edit')].map(it => it.getClientRects().length)"
+    assert browser.run(seen) == [0, 0]
+    browser.run("byId('fold').click()")
+    assert browser.run(f"[{seen}, byId('fold').getAttribute('aria-expanded')]") == [[1, 1], "true"]
+    browser.run("byId('rows').children[3].firstChild.click()")
+    assert browser.run(f"[page.at, {seen}, document.activeElement.id]") == [3, [0, 0], "forth"]
+    browser.run("seeForms()")
+    assert browser.run("byId('script').getClientRects().length") == 1
+
+
+TWO_COLUMNS = "byId('left').getBoundingClientRect().right <= byId('right').getBoundingClientRect().left"
+
+
+def test_large_texts_leave_two_columns_on_a_laptop_and_are_kept(page, at_width):
+    browser = at_width(1280)
+    opened(browser, "run", "05_fragments_and_a_hole")
+    sizes = "['.row .what', '.note', '.mbuf-figure figcaption'].map(it => " \
+        "parseFloat(getComputedStyle(document.querySelector(it)).fontSize))"
+    browser.run("select(3); revealAll()")
+    width_of_box = "document.querySelector('.mbuf-figure .box').getBoundingClientRect().width"
+    before, wide = browser.run(sizes), browser.run(width_of_box)
+    browser.run("byId('size').click()")
+    assert browser.run(TWO_COLUMNS)
+    assert browser.run(sizes) == pytest.approx([1.25 * it for it in before])
+    assert browser.run(width_of_box) == pytest.approx(1.25 * wide, rel=0.02)
+    browser.open(page)
+    assert browser.run("[document.documentElement.dataset.size, byId('size').ariaPressed]") == ["large", "true"]
+    browser.run("byId('size').click()")
+    browser.open(page)
+    assert browser.run("document.documentElement.dataset.size") == "normal"
+
+
+@pytest.mark.parametrize("width", [640, 1280])
+def test_embedded_in_another_page_it_has_no_head_and_a_link_to_the_whole_page(width, page, at_width):
+    browser = at_width(width)
+    browser.run("localStorage.clear()")
+    browser.open(page, "?embed#mode=run&name=05_fragments_and_a_hole&line=4")
+    try:
+        hidden = "['header', '#start', '#skip'].map(it => document.querySelector(it).getClientRects().length)"
+        assert browser.run(hidden) == [0, 0, 0]
+        assert browser.run("[page.known.name, page.at, byId('whole').textContent]") == [
+            "05_fragments_and_a_hole", 3, "Whole page"
+        ]
+        browser.run("byId('forth').click()")
+        link = browser.run("byId('whole').href")
+        assert link == page.resolve().as_uri() + "#mode=run&name=05_fragments_and_a_hole&line=5"
+        assert browser.run("faultsOf(tryLayout)") == []
+        assert browser.run("localStorage.getItem('bsdudp.last')") is None
+        browser.run("byId('script').value += 'stat'; later(); select(0)")
+        assert "#mode=run&line=1&script=" in browser.run("byId('whole').href")
+    finally:
+        browser.open(page)
+    assert browser.run("byId('whole').getClientRects().length") == 0
+
+
+@pytest.mark.parametrize("width", [1024, 1280])
+def test_the_editor_is_wide_enough_for_a_line_with_its_expectation(width, at_width):
+    browser = at_width(width)
+    line = 'sendto 3 255.255.255.255 520 "all" => error EACCES'
+    browser.run(f"open('run', {{ text: {json.dumps(line)} }}); showLeft('edit')")
+    assert browser.run("byId('script').scrollWidth <= byId('script').clientWidth") and browser.run(TWO_COLUMNS)
+
+
+def test_the_opening_text_fills_a_quarter_of_a_laptop_at_most(at_width):
+    browser = at_width(1280)
+    browser.run("open('run', { name: '01_a_datagram' }); showStart(true)")
+    assert browser.run("byId('start').getBoundingClientRect().height") <= HEIGHTS[1280] / 4
+
+
 OPENED = "open('{}', {{ name: '{}', place: {} }}); revealAll()"
 # Views with a selected line, which are printed, too.
 LINES = [
@@ -143,6 +248,8 @@ VIEWS = {
     "start": "open('run', { name: '01_a_datagram' }); showStart(true)",
     "question": "open('run', { name: '01_a_datagram', place: 2 })",
     "hidden": "open('run', { name: '01_a_datagram', place: 5 })",
+    "lines": "open('run', { name: '05_fragments_and_a_hole', place: 8 }); revealAll(); fold(false)",
+    "large": "open('run', { name: '05_fragments_and_a_hole', place: 8 }); revealAll(); setSize('large')",
     "editor": "open('run', { name: '01_a_datagram' }); showLeft('edit')",
     "all queues": "open('run', { name: '09_broadcast_to_two', place: 6 }); page.drawsAll = true; revealAll()",
     "exercise": EXERCISE,

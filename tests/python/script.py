@@ -84,7 +84,11 @@ class Scripted:
         self._say(f"close {fd}", call)
 
     def rx(self, packet):
-        self._say(f"rx {hex_of(packet)}", lambda: self.stack.rx(packet) or "ok")
+        def call():
+            self.stack.rx(packet)
+            return "ok"
+
+        self._say(f"rx {hex_of(packet)}", call)
 
     def tx(self):
         taken = []

@@ -19,7 +19,7 @@ def objects():
     it.sendto(bytes(3000), ("10.0.0.2", 7))
     packets = list(stack.packets())
     with bsdudp.Stack("10.0.0.2") as other:
-        other.rx(packets[0])
+        fate = other.rx(packets[0])
         unfinished = other.unfinished[0]
     it.sendto(b"hi", ("10.0.0.1", 7))
     wire = bsdudp.Wire([stack], delay=(1, 1))
@@ -31,7 +31,7 @@ def objects():
     found = [
         stack, host, it, wire, wire.sender(stack), wire.carried, wire.under_way[0], packets[0], unfinished,
         unfinished.ranges[0], it.waiting, stack.counters, stack.mbstat, frame, host.tallies, host.neighbours[0],
-        bsdudp.Nth(1), bsdudp.Bursts(0.1, 2), bsdudp.Sent(1, stack, packets[0], 0),
+        bsdudp.Nth(1), bsdudp.Bursts(0.1, 2), bsdudp.Sent(1, stack, packets[0], 0), fate,
     ]  # fmt: skip
     return {type(each).__name__: each for each in found}
 
@@ -47,7 +47,7 @@ SETTABLE = {"Wire": {"loss", "repeat", "reorder", "delay", "pcap", "on_loss"}, "
 
 @pytest.mark.parametrize("name", sorted({
     "Stack", "Host", "Socket", "Wire", "Sender", "Carried", "UnderWay", "Packet", "UnfinishedDatagram", "HeldRange",
-    "Waiting", "Counters", "MbStat", "Frame", "Tallies", "Neighbour", "Nth", "Bursts", "Sent",
+    "Waiting", "Counters", "MbStat", "Frame", "Tallies", "Neighbour", "Nth", "Bursts", "Sent", "Fate",
 }))  # fmt: skip
 def test_no_attribute_is_set_in_silence(name):
     it = objects()[name]

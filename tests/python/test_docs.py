@@ -93,7 +93,7 @@ def test_sweep(tmp_path):
     assert ran.stdout.splitlines() == PRINTED.findall(piece)
 
 
-@pytest.mark.parametrize("name", EXPORTED)
+@pytest.mark.parametrize("name", [it for it in EXPORTED if it == "sweep" or it[0].isupper() and not it.isupper()])
 def test_docstring(name):
     """Each class, and `sweep`, has an example, which prints the output shown."""
     finder = doctest.DocTestFinder(recurse=False)

@@ -110,7 +110,7 @@ def test_what_others_report_is_returned_once():
         with pytest.raises(OSError) as refused:
             host.last_error(sock)
         assert refused.value.errno == errno.EBADF
-        with pytest.raises(ValueError, match="another stack"):
+        with pytest.raises(ValueError, match="one of this host"):
             host.last_error(bsdudp.Stack().socket())
 
 
@@ -119,7 +119,7 @@ def test_packets_dont_pass_the_link_by():
     for call in (lambda: host.rx(bytes(20)), host.tx, lambda: list(host.packets())):
         with pytest.raises(OSError) as refused:
             call()
-        assert refused.value.errno == errno.EOPNOTSUPP
+        assert refused.value.errno == errno.EOPNOTSUPP and "receive and transmit" in refused.value.strerror
 
 
 @pytest.mark.parametrize(

@@ -5,6 +5,7 @@ import errno
 import gc
 import importlib
 import pickle
+import random
 import resource
 import socket as host
 import tracemalloc
@@ -47,7 +48,7 @@ def stack():
 
 
 def test_package_and_library_are_one_version():
-    assert bsdudp._library.LIBRARY.version == bsdudp.__version__
+    assert bsdudp.library_version == bsdudp.__version__
 
 
 def test_nothing_waits(stack):
@@ -70,6 +71,28 @@ def test_bind(stack):
     assert second.getsockname() == ("0.0.0.0", 1024)
 
 
+def test_bind_random(stack):
+    """A port of the range, by Python's random numbers: the same one at the same seed."""
+    first, second = stack.socket(), stack.socket()
+    for low, high in [(0, 9), (7, 6), (7, 65536), (-1, 7)]:
+        with pytest.raises(ValueError):
+            first.bind_random("", low, high, random.Random(1))
+    refused(errno.EADDRNOTAVAIL, first.bind_random, "10.0.0.9", 7, 9, random.Random(1), text="not one of this host")
+    assert first.getsockname() == ("0.0.0.0", 0)
+    port = first.bind_random("", 49152, 65535, random.Random(1))
+    assert first.getsockname() == ("0.0.0.0", port)
+    assert port == 49152 + random.Random(1).getrandbits(32) % 16384
+    refused(errno.EINVAL, first.bind_random, "", 7, 9, random.Random(1), text="has a local address or port already")
+    refused(errno.EADDRINUSE, second.bind_random, "", port, port, random.Random(1), text="each port of the range")
+    assert second.bind_random("10.0.0.1", port, min(port + 1, 65535), random.SystemRandom()) == port + 1
+    assert second.getsockname() == ("10.0.0.1", port + 1)
+    ports = set()
+    for seed in range(200):
+        with stack.socket() as it:
+            ports.add(it.bind_random("", 7, 10, random.Random(seed)))
+    assert ports == {7, 8, 9, 10}
+
+
 def test_connect(stack):
     it = stack.socket()
     refused(errno.ENOTCONN, it.getpeername)
@@ -83,14 +106,14 @@ def test_connect(stack):
 def test_send(stack):
     it = stack.socket()
     refused(errno.EDESTADDRREQ, it.send, b"hi")
-    refused(errno.EMSGSIZE, it.sendto, bytes(9217), ("10.0.0.2", 7), text="at most 9,216 bytes, and not 9,217")
+    refused(errno.EMSGSIZE, it.sendto, bytes(9217), ("10.0.0.2", 7), text="at most 9,216 bytes, not 9,217")
     refused(errno.EADDRNOTAVAIL, it.sendto, b"hi", ("10.0.0.2", 0), text="the port to send to is 0")
     refused(errno.EHOSTUNREACH, it.sendto, b"hi", ("224.0.0.1", 7))
     refused(errno.EACCES, it.sendto, b"hi", ("10.0.0.255", 7))
     it.setsockopt(host.SOL_SOCKET, host.SO_BROADCAST, 1)
     assert it.getsockopt(host.SOL_SOCKET, host.SO_BROADCAST) == 1
     assert it.sendto(b"hi", ("10.0.0.255", 7)) == 2
-    text = "at most 1,472 bytes at an MTU of 1,500, and not 1,473"
+    text = "at most 1,472 bytes at an MTU of 1,500, not 1,473"
     refused(errno.EMSGSIZE, it.sendto, bytes(1473), ("10.0.0.255", 7), text=text)
     it.connect(("10.0.0.2", 7))
     refused(errno.EISCONN, it.sendto, b"hi", ("10.0.0.2", 7))
@@ -101,6 +124,40 @@ def test_option(stack):
     it = stack.socket()
     refused(errno.ENOPROTOOPT, it.setsockopt, host.SOL_SOCKET, host.SO_KEEPALIVE, 1)
     refused(errno.ENOPROTOOPT, it.getsockopt, host.SOL_SOCKET, host.SO_KEEPALIVE)
+    refused(errno.ENOPROTOOPT, it.getsockopt, host.IPPROTO_IP, host.SO_BROADCAST)
+    for name in (host.SO_BROADCAST, host.SO_REUSEPORT):
+        assert it.getsockopt(host.SOL_SOCKET, name) == 0
+        it.setsockopt(host.SOL_SOCKET, name, 7)
+        assert it.getsockopt(host.SOL_SOCKET, name) == 1
+        it.setsockopt(host.SOL_SOCKET, name, 0)
+        assert it.getsockopt(host.SOL_SOCKET, name) == 0
+
+
+def test_size_of_a_queue(stack):
+    """A size that is refused changes nothing. A queue of 512 bytes holds three datagrams of 128 bytes: 3 * (16 + 128)
+    bytes, and in 3 * (1 + 2) mbufs of 128 bytes, which is more than 2 * 512. So it holds two."""
+    it, other = stack.socket(), stack.socket()
+    assert it.getsockopt(host.SOL_SOCKET, host.SO_RCVBUF) == 0
+    for wrong in (0, -1, 65536, 1 << 40):
+        with pytest.raises(ValueError, match="SO_RCVBUF must be 1 to 65535"):
+            it.setsockopt(host.SOL_SOCKET, host.SO_RCVBUF, wrong)
+    for wrong in (True, 512.0, "512", None):
+        with pytest.raises(TypeError):
+            it.setsockopt(host.SOL_SOCKET, host.SO_RCVBUF, wrong)
+    assert it.getsockopt(host.SOL_SOCKET, host.SO_RCVBUF) == 0
+    for size in (1, 65535, 512):
+        it.setsockopt(host.SOL_SOCKET, host.SO_RCVBUF, size)
+        assert it.getsockopt(host.SOL_SOCKET, host.SO_RCVBUF) == size
+    assert other.getsockopt(host.SOL_SOCKET, host.SO_RCVBUF) == 0
+    it.bind(("", 7))
+    for _ in range(4):
+        other.sendto(bytes(128), ("10.0.0.1", 7))
+    assert (it.waiting.datagrams, stack.counters["udp.fullsock"]) == (2, 2)
+    twin = stack.copy()
+    assert twin.sockets[it.descriptor].getsockopt(host.SOL_SOCKET, host.SO_RCVBUF) == 512
+    it.close()
+    again = stack.socket()
+    assert (again.descriptor, again.getsockopt(host.SOL_SOCKET, host.SO_RCVBUF)) == (3, 0)
 
 
 def test_buffers_lack():
@@ -191,6 +248,7 @@ def test_after_close_and_end(stack):
         lambda who: who.send(b"hi"),
         lambda who: who.sendto(b"hi", ("10.0.0.2", 7)),
         lambda who: who.bind(("", 7)),
+        lambda who: who.bind_random("", 7, 9, random.Random(1)),
         lambda who: who.connect(("10.0.0.2", 7)),
         lambda who: who.recvfrom(),
         lambda who: who.recv_into(buffer),
@@ -199,6 +257,8 @@ def test_after_close_and_end(stack):
         lambda who: who.getpeername(),
         lambda who: who.setsockopt(host.SOL_SOCKET, host.SO_BROADCAST, 1),
         lambda who: who.getsockopt(host.SOL_SOCKET, host.SO_BROADCAST),
+        lambda who: who.setsockopt(host.SOL_SOCKET, host.SO_RCVBUF, 512),
+        lambda who: who.getsockopt(host.SOL_SOCKET, host.SO_RCVBUF),
         lambda who: who.waiting,
     ]
     for call in calls:

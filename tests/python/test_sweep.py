@@ -66,7 +66,7 @@ def test_processes():
 @pytest.mark.parametrize("client, fault", [("all", ValueError), (0, ValueError), (True, TypeError), (1.5, TypeError)])
 def test_where_it_runs(client, fault):
     """The error says what `client` may be."""
-    with pytest.raises(fault, match='"cores", a number of processes|a number of processes is 1 to'):
+    with pytest.raises(fault, match='"cores", a number of processes|a number of processes must be 1 to'):
         bsdudp.sweep(squared, range(3), client)
 
 

@@ -2,6 +2,7 @@
 import importlib
 import socket as host
 import subprocess
+import sys
 
 import pytest
 
@@ -68,9 +69,9 @@ def test_arguments():
             bsdudp.Wire([stack, other])
         wire = bsdudp.Wire([stack])
         for name, wrong, kind, message in [
-            ("loss", [3], TypeError, "loss is a number of 0 to 1, or a function of a Sent, .*, and not list"),
-            ("delay", (-1, 3), ValueError, "the shortest delay is 0 to 1000000, and not -1"),
-            ("delay", (5, 1), ValueError, "the longest delay is 5 to 1000000, and not 1"),
+            ("loss", [3], TypeError, "loss must be a number of 0 to 1, or a function of a Sent, .*, not list"),
+            ("delay", (-1, 3), ValueError, "the shortest delay must be 0 to 1000000, not -1"),
+            ("delay", (5, 1), ValueError, "the longest delay must be 5 to 1000000, not 1"),
         ]:
             with pytest.raises(kind, match=message):
                 setattr(wire, name, wrong)
@@ -197,7 +198,7 @@ def test_settings_for_one_stack(pair):
         wire.loss
     with bsdudp.Stack("10.0.0.2") as stranger, pytest.raises(ValueError, match="is not on this wire"):
         wire.sender(stranger)
-    with pytest.raises(TypeError, match="is a Stack, and not int"):
+    with pytest.raises(TypeError, match="must be a Stack, not int"):
         wire.sender(0)
 
 
@@ -314,7 +315,7 @@ def test_a_reply_leaves_in_the_next_millisecond(pair):
 
 
 def test_what_a_wire_joins():
-    with pytest.raises(ValueError, match="one stack or more"):
+    with pytest.raises(ValueError, match="at least one stack"):
         bsdudp.Wire([])
     with bsdudp.Stack() as one, bsdudp.Stack("10.0.0.2") as other, pytest.raises(TypeError, match=r"Wire\(\[a, b\]\)"):
         bsdudp.Wire(one, other)
@@ -322,7 +323,7 @@ def test_what_a_wire_joins():
         bsdudp.Wire([host])
     with bsdudp.Stack() as one, bsdudp.Stack() as other, pytest.raises(ValueError, match=r"the address 10\.0\.0\.1"):
         bsdudp.Wire([one, other])
-    with pytest.raises(TypeError, match="joins Stacks, and not str"):
+    with pytest.raises(TypeError, match="joins only Stacks, not str"):
         bsdudp.Wire(["10.0.0.1"])
     with bsdudp.Stack() as stack:
         assert bsdudp.Wire(iter([stack])).stacks == (stack,)
@@ -394,3 +395,138 @@ def test_every_stack_that_holds_fragments_ages(pair):
     assert [held.ticks for held in other.unfinished] == [58]
     wire.advance(29_000)
     assert other.unfinished == [] and other.counters["ip.fragtimeout"] == 2
+
+
+def bound_to(stack, port):
+    socket = stack.socket()
+    socket.bind(("", port))
+    return socket
+
+
+def bound(stack):
+    return bound_to(stack, 7)
+
+
+def test_ancillary_data_over_a_wire():
+    """A datagram that a wire brought has the notes that its socket wants: the time to live of its packet."""
+    a, b = bsdudp.Stack("10.0.0.1"), bsdudp.Stack("10.0.0.2")
+    wire, socket = bsdudp.Wire([a, b]), bound(b)
+    socket.setsockopt(host.IPPROTO_IP, bsdudp.IP_RECVTTL, 1)
+    a.socket().sendto(b"hi", ("10.0.0.2", 7))
+    assert wire.run()
+    data, messages, flags, sender = socket.recvmsg(100, 100)
+    assert (data, flags, sender) == (b"hi", 0, ("10.0.0.1", 1024))
+    assert messages == [(host.IPPROTO_IP, host.IP_TTL, (64).to_bytes(4, sys.byteorder))]
+
+
+def test_a_broadcast_and_two_networks():
+    """Each stack on the wire gets it. That of another network isn't a router, so it drops and counts it."""
+    stacks = [bsdudp.Stack(addr) for addr in ("10.0.0.1", "10.0.0.2", "10.0.1.1")]
+    sockets = [bound(stack) for stack in stacks]
+    sockets[0].setsockopt(host.SOL_SOCKET, host.SO_BROADCAST, 1)
+    sockets[0].sendto(b"all", ("10.0.0.255", 7))
+    wire = bsdudp.Wire(stacks)
+    assert wire.run()
+    assert [socket.waiting is not None for socket in sockets] == [True, True, False]
+    assert wire.carried.delivered == 2
+    assert [stack.counters["ip.cantforward"] for stack in stacks] == [0, 0, 1]
+
+
+def test_an_address_that_another_stack_broadcasts_to():
+    """It's joined. What the first sends there is a broadcast, which each other stack gets."""
+    stacks = [bsdudp.Stack("10.0.0.1", bcast="10.0.0.2"), bsdudp.Stack("10.0.0.2"), bsdudp.Stack("10.0.0.3")]
+    to = bound(stacks[1])
+    sender = stacks[0].socket()
+    sender.setsockopt(host.SOL_SOCKET, host.SO_BROADCAST, 1)
+    sender.sendto(b"hi", ("10.0.0.2", 7))
+    wire = bsdudp.Wire(stacks)
+    assert wire.run()
+    assert to.recv() == b"hi"
+    assert wire.carried.delivered == 2
+    assert stacks[2].counters["ip.cantforward"] == 1
+
+
+def test_a_subclass_on_a_wire():
+    """A wire calls the methods of a subclass for each packet."""
+
+    class Watched(bsdudp.Stack):
+        def __init__(self, addr):
+            super().__init__(addr)
+            self.received, self.sent = [], []
+
+        def rx(self, packet):
+            self.received.append(len(packet))
+            super().rx(packet)
+
+        def packets(self):
+            for packet in super().packets():
+                self.sent.append(len(packet))
+                yield packet
+
+    a, b = Watched("10.0.0.1"), Watched("10.0.0.2")
+    wire, socket = bsdudp.Wire([a, b]), bound(b)
+    a.socket().sendto(b"hi", ("10.0.0.2", 7))
+    assert wire.run()
+    assert socket.recv() == b"hi"
+    assert (a.sent, a.received, b.sent, b.received) == ([30], [], [], [30])
+
+
+def test_a_stack_that_ended_on_a_wire():
+    """A packet for it raises the exception that any call on it raises."""
+    a, b = bsdudp.Stack("10.0.0.1"), bsdudp.Stack("10.0.0.2")
+    wire = bsdudp.Wire([a, b], delay=(1, 1))
+    a.socket().sendto(b"hi", ("10.0.0.2", 7))
+    assert wire.carry() == 0
+    b.end()
+    with pytest.raises(ValueError, match="the stack has ended"):
+        wire.carry()
+
+
+def test_ready():
+    """The sockets that have a datagram, whatever brought it: the wire, a call of rx, or the stack itself."""
+    stacks = [bsdudp.Stack(f"10.0.0.{at}") for at in (1, 2, 3)]
+    sockets = [bound(stack) for stack in stacks]
+    wire = bsdudp.Wire(stacks)
+    assert wire.ready() == []
+    sockets[2].sendto(b"over the wire", ("10.0.0.2", 7))
+    assert wire.ready() == []
+    assert wire.run()
+    assert wire.ready() == [sockets[1]]
+    sockets[0].sendto(b"to itself", ("10.0.0.1", 7))
+    assert wire.ready() == sockets[:2]
+    assert [socket.recv() for socket in wire.ready()] == [b"to itself", b"over the wire"]
+    assert wire.ready() == []
+    sockets[0].sendto(b"by hand", ("10.0.0.3", 7))
+    stacks[2].rx(stacks[0].tx())
+    second = bound_to(stacks[2], 8)
+    sockets[1].sendto(b"again", ("10.0.0.3", 8))
+    assert wire.run()
+    assert wire.ready() == [sockets[2], second]
+    twin = wire.copy()
+    assert [socket.recv() for socket in twin.ready()] == [b"by hand", b"again"]
+    assert (twin.ready(), wire.ready()) == ([], [sockets[2], second])
+    stacks[2].end()
+    assert wire.ready() == []
+
+
+def test_ready_asks_only_stacks_that_received():
+    """It's for many stacks: one that received nothing isn't asked again."""
+    asked = []
+
+    class Asked(bsdudp.Stack):
+        def readable(self):
+            asked.append(self.addr)
+            return super().readable()
+
+    stacks = [Asked(f"10.0.0.{at}") for at in range(1, 9)]
+    sockets = [bound(stack) for stack in stacks]
+    wire = bsdudp.Wire(stacks)
+    assert (wire.ready(), len(asked)) == ([], 8)
+    asked.clear()
+    sockets[3].sendto(b"hi", ("10.0.0.2", 7))
+    assert wire.run()
+    assert wire.ready() == [sockets[1]]
+    assert asked == ["10.0.0.2", "10.0.0.4"]
+    asked.clear()
+    assert wire.ready() == [sockets[1]]
+    assert asked == ["10.0.0.2"]

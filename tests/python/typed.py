@@ -2,6 +2,7 @@
 error that its comment names; a comment without an error is an error too. This file isn't run."""
 import array
 import ipaddress
+import random
 import socket
 from typing import List, Optional, Tuple
 
@@ -10,6 +11,7 @@ import bsdudp
 
 def right(stack: bsdudp.Stack, it: bsdudp.Socket, buffer: bytearray) -> None:
     it.bind(("", 7))
+    port: int = it.bind_random(ipaddress.IPv4Address("10.0.0.1"), 7, 9, random.SystemRandom())
     it.connect((ipaddress.IPv4Address("10.0.0.2"), 7))
     sent: int = it.sendto(b"hi", ("10.0.0.2", 7)) + it.sendto(array.array("B", [1]), 0, ("10.0.0.2", 7))
     sent += it.send(memoryview(b"hi"))
@@ -23,7 +25,10 @@ def right(stack: bsdudp.Stack, it: bsdudp.Socket, buffer: bytearray) -> None:
     it.settimeout(0)
     it.setblocking(False)
     packet: Optional[bsdudp.Packet] = stack.tx()
-    stack.rx(packet or b"")
+    fate: bsdudp.Fate = stack.rx(packet or b"")
+    cause: Optional[str] = fate.cause
+    is_kept: bool = fate.kind == "kept"
+    readers: List[bsdudp.Socket] = list(fate.got + fate.lost)
     held: List[bsdudp.UnfinishedDatagram] = stack.unfinished
     total: int = stack.counters["ip.total"]
     results: List[int] = bsdudp.sweep(lambda seed: seed * 2, range(3))
@@ -57,7 +62,7 @@ def wrong_of_a_wire(stack: bsdudp.Stack, wire: bsdudp.Wire) -> None:
 
 def right_of_a_host(host: bsdudp.Host) -> None:
     frame: Optional[bsdudp.Frame] = host.transmit()
-    host.receive(frame or memoryview(b""))
+    fate: Optional[bsdudp.Fate] = host.receive(frame or memoryview(b""))
     known: List[Optional[str]] = [near.mac for near in host.neighbours]
     echoes: int = host.tallies.echoes
     machine: bsdudp.Stack = bsdudp.Host("10.0.0.1", b"123456", gateway=ipaddress.IPv4Address("10.0.0.2"))
@@ -76,6 +81,8 @@ def wrong(stack: bsdudp.Stack, it: bsdudp.Socket) -> None:
     it.sendto(b"a")  # type: ignore[call-overload]
     it.send("a")  # type: ignore[arg-type]
     it.bind("10.0.0.2")  # type: ignore[arg-type]
+    it.bind_random("", 7, 9, 3)  # type: ignore[arg-type]
+    it.setsockopt(0, 0, "512")  # type: ignore[arg-type]
     it.connect((7, 7))  # type: ignore[arg-type]
     it.recv("7")  # type: ignore[arg-type]
     it.settimeout("0")  # type: ignore[arg-type]
@@ -87,3 +94,4 @@ def wrong(stack: bsdudp.Stack, it: bsdudp.Socket) -> None:
     bsdudp.Wire([stack], loss=None)  # type: ignore[arg-type]
     bsdudp.sweep(lambda seed: seed, range(3), client=0.7)  # type: ignore[arg-type]
     text: str = it.recv()  # type: ignore[assignment]
+    stack.rx(b"").kind == "lost"  # type: ignore[comparison-overlap]

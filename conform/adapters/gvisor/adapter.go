@@ -140,7 +140,7 @@ func (h *host) read(socket, count int) {
 			return
 		}
 		if err != nil {
-			fmt.Fprintf(out, "note socket %d: %s\n", socket, strings.ReplaceAll(err.String(), "\n", " "))
+			fmt.Fprintf(out, "note socket %d: %s\nrefused %d\n", socket, strings.ReplaceAll(err.String(), "\n", " "), h.step)
 			continue
 		}
 		fmt.Fprintf(out, "got %d %s %d %s", h.step, got.RemoteAddr.Addr, got.RemoteAddr.Port, hexOf(data.Bytes()))

@@ -89,8 +89,9 @@ class Bsdudp(Adapter):
         def handler(reply: str) -> None:
             if reply.startswith("from "):
                 _, address, port, data = reply.split()
-                self.step = step
+                now, self.step = self.step, step
                 self.got(address, int(port), bytes_of(data), socket)
+                self.step = now
 
         return handler
 
@@ -128,9 +129,7 @@ class Bsdudp(Adapter):
         )
         for _ in range(QUEUE + 1):
             self.program.later("tx", replies.append)
-        step = self.step
         self.program.flush()
-        self.step = step
         for reply in replies[1:]:
             if reply.startswith("packet "):
                 self.out(bytes_of(reply.split()[1]))

@@ -119,7 +119,7 @@ class Linux(Adapter):
             except BlockingIOError:
                 return number > 0
             except OSError as fault:
-                print(f"note a socket's error: {fault}")
+                print(f"note a socket's error: {fault}\nrefused {self.step}")
         return True
 
     def read_tun(self) -> List[bytes]:

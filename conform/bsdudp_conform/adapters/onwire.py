@@ -54,7 +54,7 @@ class Wire:
             if self.device:
                 break
         else:
-            sys.exit(f"nobody on {interface} answers ARP for {text_of(HOST)}")
+            sys.exit(f"no device on {interface} replies to ARP for {text_of(HOST)}")
         for peer in (PEER, PEER2):  # so that the device has resolved both
             self.put(made_packet(udp(b"first", source=peer), source=peer, id=0xFFF1))
         self.frames(0.3)

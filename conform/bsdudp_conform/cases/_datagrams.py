@@ -9,6 +9,10 @@ from .._packets import checksum, even_cuts, packet, pieces, udp, with_checksum
 from .._read import UDP, fold
 from ._builder import Builder
 
+# Each length up to three fragments on an Ethernet, and with --long up to 9,216: 8 KB of a file system with its headers.
+WHOLE_DATA = 1472
+EACH_LENGTH, LONG_LENGTH, LENGTHS_OF_A_CASE = 4415, 9216, 64
+
 
 def add_datagrams(to: Builder) -> None:
     add_udp_lengths(to)
@@ -90,6 +94,16 @@ def add_data_and_ports(to: Builder) -> None:
         to.one("udp.ports", f"destination port {port}", packet(udp(data, dport=port)))
     for protocol in (0, 1, 6, 16, 18, 136, 255):
         to.one("udp.proto", f"protocol {protocol}", packet(udp(data), proto=protocol))
+
+
+def add_lengths(to: Builder, most: int = EACH_LENGTH, begin: int = 0) -> None:
+    """Data of each length, one after the other on one stack. Neighbouring lengths are in one case."""
+    for first in range(begin, most + 1, LENGTHS_OF_A_CASE):
+        last = min(first + LENGTHS_OF_A_CASE - 1, most)
+        datagrams = [udp(to.data(length)) for length in range(first, last + 1)]
+        steps = [it for made in datagrams for it in pieces(made, even_cuts(len(made), 1480), id=to.id)]
+        rule = "udp.data" if first < WHOLE_DATA else "frag.large"
+        to.add(rule, f"each length from {first} to {last} bytes", steps)
 
 
 def lengths_of_all_sizes() -> List[int]:

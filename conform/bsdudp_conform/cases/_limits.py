@@ -4,6 +4,7 @@ from __future__ import annotations
 from typing import List
 
 from .._addresses import BROADCAST, PEER2, address
+from .._freedom import FLOODS, TOGETHER
 from .._packets import MORE, even_cuts, packet, pieces, udp, with_checksum
 from ._builder import Builder, Given, both_ways
 
@@ -93,7 +94,7 @@ def begun(to: Builder, count: int, spread: bool = False) -> List[bytes]:
 
 
 def add_floods(to: Builder) -> None:
-    for count in (4, 10, 16, 40, 64, 256, 1024, 4000):
+    for count in FLOODS:
         to.add("frag.many", f"{count} begun, then a whole one", [*begun(to, count), to.whole(id=to.id)])
         to.add("frag.many", f"{count} begun, then two fragments", [*begun(to, count), *to.halves()])
         one, other = to.halves()
@@ -103,7 +104,7 @@ def add_floods(to: Builder) -> None:
             f"{count} begun by as many senders, then a whole one",
             [*begun(to, count, True), to.whole(id=to.id)],
         )
-    for count in (4, 10, 40):
+    for count in TOGETHER:
         many = [to.halves() for _ in range(count)]
         steps = [it[0] for it in many] + [it[1] for it in many]
         to.add("frag.many", f"{count} datagrams at once, firsts and then lasts", steps)

@@ -251,6 +251,11 @@ def add_sends(to: Builder) -> None:
         to.add("send.cut", f"3000 bytes at MTU {mtu}", [sent(to, 3000)], mtu)
 
 
+def add_many_sends(to: Builder) -> None:
+    """More cut sends than an identification of 8 bits distinguishes."""
+    to.add("send.id", "300 cut sends", [sent(to, 1600) for _ in range(300)])
+
+
 def add_sums_and_numbers(to: Builder) -> None:
     for size in (2, 3, 8, 100, 1001):
         data = data_with_sum_zero(size, HOST, PEER, 7, 5000)

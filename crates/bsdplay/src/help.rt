@@ -16,27 +16,31 @@ const LINES: &str =
     "Lines, also after a time (+0.5s tx); docs/scripts.md and man bsdplay explain them:
 ";
 
+/// Appends the form of a command, as a line.
+fn add_form(text: &mut String, command: Command) -> Result<(), AllocError> {
+    text.push_str("  ")?;
+    text.push_str(command.row().form)?;
+    text.push_str("\n")
+}
+
 /// Appends the forms of commands, a line for each.
 fn add_forms(text: &mut String, commands: &[Command]) -> Result<(), AllocError> {
     for command in commands {
-        text.push_str("  ")?;
-        text.push_str(command.row().form)?;
-        text.push_str("\n")?;
-        if matches!(*command, Command::Rx) {
-            add_forms_of_rx(text)?;
+        add_form(text, *command)?;
+        for other in other_forms(*command) {
+            add_form(text, *other)?;
         }
     }
     Ok(())
 }
 
-/// Appends the forms of `rx` that have words of their own.
-fn add_forms_of_rx(text: &mut String) -> Result<(), AllocError> {
-    for command in [Command::RxPcap, Command::RxUdp, Command::RxRaw] {
-        text.push_str("  ")?;
-        text.push_str(command.row().form)?;
-        text.push_str("\n")?;
+/// Returns the further forms of a command, which have words of their own.
+fn other_forms(command: Command) -> &'static [Command] {
+    match command {
+        Command::SetSockOpt => &[Command::SetRcvBuf],
+        Command::Rx => &[Command::RxPcap, Command::RxUdp, Command::RxRaw],
+        _ => &[],
     }
-    Ok(())
 }
 
 /// Returns the statuses, and the forms of all lines.

@@ -13,12 +13,13 @@ use Rattle.flat_model.specs.declared.address.Addr.{Addr}
 use Rattle.flat_model.specs.declared.config.Config.{Config}
 use Rattle.flat_model.specs.declared.counter.Counter.TheVariants.{IpLocalout}
 use Rattle.flat_model.specs.declared.counters.Counters.{Counters}
+use Rattle.flat_wire.specs.Ever.{IsShortSend}
 use Rattle.flat_wire.specs.Wire.{ComesFrom, WasSent, packet_in, packet_out}
 use Rattle.net_stack.specs.Stack.{StackView, state_of}
 use Rattle.net_stack.specs.Runs.{AreCalls}
-use Rattle.net_stack.specs.Wire.{AreOnOneWire}
+use Rattle.net_stack.specs.Wire.{AreOnOneWire, AreOnOneWireWhole}
 use Rattle.callers.specs.declared.laws_on_a_wire.TheConstants.{FIRST, SECOND, SOCKET, PORT}
-use Rattle.callers.specs.Received.{HasGiven, IsReceivedInOrder, packet_comes, events, receives, send_event}
+use Rattle.callers.specs.Received.{AreShort, HasGiven, IsReceivedInOrder, packet_comes, events, receives, send_event}
 
 pub then_calls : (a b c : StackView) (xs ys : List Turn) → AreCalls a xs b → AreCalls b ys c → AreCalls a (xs ++ ys) c
 then_calls a b c [] ys same later = subst (λ (s : StackView). AreCalls s ys c) same later
@@ -70,6 +71,20 @@ ReceivedBy =
     → AreOnOneWire first second sent
     (before ++ record { event = Receive fd most; reply = Received sender bytes } ∷ after) s t → sender.ip ≡ first.addr
     → WasSent exact_ledger exact_ledger first second sent before (state_of s) fd most sender bytes
+
+abbrev pub ReceivedWhole : Type 0
+ReceivedWhole =
+    (first second : Config) (sent before after : List Turn) (s t : StackView) (fd most : ℕ) (sender : Addr)
+    (bytes : List ℕ)
+    → AreOnOneWireWhole first second sent
+    (before ++ record { event = Receive fd most; reply = Received sender bytes } ∷ after) s t → sender.ip ≡ first.addr
+    → WasSent exact_ledger exact_ledger first second sent before (state_of s) fd most sender bytes
+
+-- what holds of each event holds of each turn
+of_events : (P : Event → Type 0) (turns : List Turn) → Each P (events turns)
+    → Each (λ (turn : Turn). P turn.event) turns
+of_events P [] h = tt
+of_events P (turn ∷ turns) h = (h.0, of_events P turns h.1)
 
 -- no packet arrives by a call that receives
 came_before : (before : List Turn) (most : ℕ) (reply : Reply)
@@ -155,12 +170,12 @@ both a a1 b b1 b2 {a2} {a3} {a4} {a5} {a6} {s} {b3} {b4} {mid} {opened} {bound} 
       came = (λ from. early_out from.long, (λ from. late_out from.long, (λ from. early_out from.long, tt)));
     }
 
-pub all_received : (calls : CallsLaw) (received : ReceivedBy) → IsConfig FIRST → IsConfig SECOND
+pub all_received : (calls : CallsLaw) (received : ReceivedBy) (whole : ReceivedWhole) → IsConfig FIRST → IsConfig SECOND
     → {a s b mid : StackView} (t : StackView) {lost late early : List ℕ} → AreBoth a s b mid lost late early
     → {most count : ℕ} {reply : Reply} → Step (state_of mid) (Receive SOCKET most) reply (state_of t)
     → value_of IpLocalout s.counters ≡ count → IsReceivedInOrder lost late early most count reply
-all_received calls received boots_first boots_second {a} {s} {b} {mid} t {lost} {late} {early} w {most} {count} {reply} last
-    counts = record {
+all_received calls received whole boots_first boots_second {a} {s} {b} {mid} t {lost} {late} {early} w {most} {count}
+    {reply} last counts = record {
       sent = w.sent;
       before = w.before;
       s = s;
@@ -177,6 +192,10 @@ all_received calls received boots_first boots_second {a} {s} {b} {mid} t {lost} 
           received FIRST SECOND w.sent w.before [] s t SOCKET most sender bytes
           (subst (λ (r : Reply). AreOnOneWire FIRST SECOND w.sent (w.before ++ receives most r ∷ []) s t) is
           (on_wire few)) from;
+      was_sent_whole = λ short sender bytes is from.
+          whole FIRST SECOND w.sent w.before [] s t SOCKET most sender bytes
+          (subst (λ (r : Reply). AreOnOneWireWhole FIRST SECOND w.sent (w.before ++ receives most r ∷ []) s t) is
+          (on_wire_whole short)) from;
     }
   where
     all : AreCalls b (w.before ++ receives most reply ∷ []) t
@@ -203,5 +222,26 @@ all_received calls received boots_first boots_second {a} {s} {b} {mid} t {lost} 
       not_addr = omega arith;
       not_bcast = omega arith;
       few = omega (arith, counts, few);
+      wire = came_all;
+    }
+
+    on_wire_whole : AreShort lost late early
+        → AreOnOneWireWhole FIRST SECOND w.sent (w.before ++ receives most reply ∷ []) s t
+    on_wire_whole short = record {
+      first_boots = boots_first;
+      second_boots = boots_second;
+      first_start = a;
+      second_start = b;
+      first_starts = w.first_starts;
+      second_starts = w.second_starts;
+      first_calls = w.first_calls;
+      second_calls = all;
+      not_addr = omega arith;
+      not_bcast = omega arith;
+      whole =
+          All-from_recursion (λ (turn : Turn). IsShortSend FIRST.mtu turn.event) w.sent
+          (of_events (IsShortSend FIRST.mtu) w.sent
+          (subst (Each (IsShortSend FIRST.mtu)) (sym w.first_events)
+          (tt, (short.first, (short.second, (short.third, (tt, (tt, (tt, tt)))))))));
       wire = came_all;
     }

@@ -1,1 +1,3 @@
+pub mod Limited
 pub mod Received
+pub mod Runs

@@ -1,5 +1,6 @@
 -- What the caller in `src/laws_on_a_wire.rt` knows of two stacks on one wire (this project's own).
-use Rattle.std.specs.Prelude.{◌≡◌, ◌<◌, ◌≤◌, ◌^◌, ℕ, List, [], ◌∷◌, ◌++◌, length, map, Some}
+use Rattle.std.specs.Prelude.{◌≡◌, ◌+◌, ◌<◌, ◌≤◌, ◌^◌, ℕ, List, [], ◌∷◌, ◌++◌, length, map, Some}
+use Rattle.params.specs.declared.TheConstants.{IP_UDP_HEADERS}
 use Rattle.flat_model.specs.Machine.Count.{value_of}
 use Rattle.flat_model.specs.Machine.Event.{Event, Reply, Open, Bind, Send, Receive, Comes, Transmit, Done, Received}
 use Rattle.flat_model.specs.Machine.Ledger.{exact_ledger}
@@ -36,6 +37,12 @@ pub record HasGiven (old new : StackView) (packet : List ℕ) : Type 0 where
   pub calls : AreCalls old (turn ∷ []) new
   pub out : 16 ≤ length packet → packet_out turn ≡ Some packet
 
+-- each of them fits into a packet
+pub record AreShort (lost late early : List ℕ) : Type 0 where
+  pub first : length lost + IP_UDP_HEADERS ≤ FIRST.mtu
+  pub second : length late + IP_UDP_HEADERS ≤ FIRST.mtu
+  pub third : length early + IP_UDP_HEADERS ≤ FIRST.mtu
+
 -- The calls on two hosts, from their boot on, and their results. The first sent three datagrams, and the link took its
 -- packets three times. At the second arrived one packet, another, and the first of the two again; then a datagram was
 -- requested from it, with this reply. The replies of each are those of a run. If the first has counted fewer than
@@ -57,5 +64,9 @@ pub record IsReceivedInOrder (lost late early : List ℕ) (most count : ℕ) (re
   pub counts : value_of IpLocalout s.counters ≡ count
   pub wire : count < 2 ^ 16 → AreOnOneWire FIRST SECOND sent (before ++ receives most reply ∷ []) s t
   pub was_sent : count < 2 ^ 16 → (sender : Addr) (bytes : List ℕ) → reply ≡ Received sender bytes
+      → sender.ip ≡ FIRST.addr
+      → WasSent exact_ledger exact_ledger FIRST SECOND sent before (state_of s) SOCKET most sender bytes
+  -- and so it did, however often it has sent, if each of the three datagrams is one packet
+  pub was_sent_whole : AreShort lost late early → (sender : Addr) (bytes : List ℕ) → reply ≡ Received sender bytes
       → sender.ip ≡ FIRST.addr
       → WasSent exact_ledger exact_ledger FIRST SECOND sent before (state_of s) SOCKET most sender bytes

@@ -1,13 +1,21 @@
 //! Two stacks on a wire that loses, repeats and exchanges packets, and the laws of their runs.
-ghost use Rattle.std.specs.Prelude.{◌≡◌, ◌≤◌, ◌∷◌, [], length, take, IfOk};
+ghost use Rattle.std.specs.Prelude.{◌≡◌, ◌≤◌, ◌∷◌, [], length, take, IfOk, All, List, Some, ℕ, ◌<◌};
 ghost use Rattle.flat_model.specs.Machine.Event.{Reply};
-ghost use Rattle.flat_model.specs.Machine.Replies.{received_reply};
-ghost use Rattle.net_stack.specs.Runs.{AreCalls};
+ghost use Rattle.flat_model.specs.Machine.Replies.{received_reply, given_reply};
+ghost use Rattle.net_stack.specs.Runs.{AreCalls, PassedCall, turns_of_calls};
 ghost use Rattle.callers.specs.Received.{HasGiven, IsReceivedInOrder, packet_comes, send_event};
-ghost use Rattle.params.specs.declared.TheConstants.{IP_MAX_PACKET};
+ghost use Rattle.params.specs.declared.TheConstants.{IP_MAX_PACKET, MAX_MTU, OUTPUT_QUEUE_PACKETS};
+ghost use Rattle.flat_model.specs.Machine.State.{Unfinished};
+ghost use Rattle.flat_model.specs.declared.config.Config.{Config};
+ghost use Rattle.flat_model.specs.Machine.Ledger.{exact_ledger};
+ghost use Rattle.flat_model.specs.Runs.Run.{Turn};
+ghost use Rattle.flat_wire.specs.Ever.{AreAllSent};
+ghost use Rattle.net_stack.specs.Stack.{StackView, state_of};
+ghost use Rattle.callers.specs.Runs.{AreFirstGiven, AreOnOnePacedWire, AreTwoParts, IsAccountedFor, IsReceivedUnlessLacking};
 
-use flat_model::{Addr, Config, Counter, Errno};
-use net_stack::{BootFault, Stack, calls_are_run, stacks_on_a_wire};
+use flat_model::{Addr, Config, Counter, Counters, Errno, Fate, states_are_consistent};
+use flat_wire::{age_law, conservation_law, pace_law, progress_law, queue_law};
+use net_stack::{BootFault, Stack, calls_are_run, stacks_on_a_wire, stacks_on_a_wire_for_ever};
 use params::MAX_MTU;
 use std::alloc::Global;
 
@@ -123,7 +131,104 @@ pub fn receive_out_of_order(
     let sends = first.counters().value(Counter::IpLocalout);
     calls_are_run();
     stacks_on_a_wire();
+    stacks_on_a_wire_for_ever();
     let _ = first.end();
     let _ = second.end();
     Ok(Received { sends, answer })
+}
+
+/// What `account_for` returns.
+#[derive(Drop)]
+pub struct Accounted {
+    /// What became of the packet.
+    pub fate: Fate,
+    /// The counters after it.
+    pub counters: Counters,
+}
+
+/// Boots a host that receives at port 7, and passes it a packet. Each counter of a cause then has what the packet's
+/// place counts, and the place agrees with its fate: `conservation_law`.
+///
+/// # Errors
+///
+/// `Memory` if the host memory can't be allocated.
+pub fn account_for(alloc: Global, packet: &[u8]) -> Result<Accounted, BootFault>
+    requires { length packet.now ≤ IP_MAX_PACKET }
+    ensures { IfOk result (λ r. IsAccountedFor r.fate r.counters) }
+{
+    let mut stack = Stack::boot(alloc, FIRST)?;
+    let _ = stack.socket();
+    let _ = stack.bind(SOCKET, Addr { ip: 0, port: PORT });
+    let fate = stack.rx_told(packet);
+    let counters = stack.counters();
+    states_are_consistent();
+    conservation_law();
+    let _ = stack.end();
+    Ok(Accounted { fate, counters })
+}
+
+/// Takes a packet for the link, passes the stack another one, and takes a packet again. If both times one waited, these
+/// are the first two packets that waited before the call: `queue_law`.
+pub fn take_two(
+    stack: &mut Stack,
+    one: &mut [u8],
+    packet: &[u8],
+    two: &mut [u8],
+) -> (Option<usize>, Option<usize>)
+    requires room { MAX_MTU ≤ length one.old }
+    requires more_room { MAX_MTU ≤ length two.old }
+    requires short { length (state_of stack.old).output ≤ OUTPUT_QUEUE_PACKETS }
+    requires packet { length packet.now ≤ IP_MAX_PACKET }
+    ensures { AreFirstGiven (state_of stack.old).output (given_reply result.0 one.new) (given_reply result.1 two.new) }
+{
+    stack.laws();
+    let first = stack.tx(one);
+    stack.rx(packet);
+    stack.laws();
+    let second = stack.tx(two);
+    queue_law();
+    (first, second)
+}
+
+/// Boots a host, passes it a packet, and ticks its clock once. A datagram that is unfinished then is kept for 59 more
+/// ticks: `age_law`.
+///
+/// # Errors
+///
+/// `Memory` if the host memory can't be allocated.
+pub fn one_tick_later(alloc: Global, packet: &[u8]) -> Result<Stack, BootFault>
+    requires { length packet.now ≤ IP_MAX_PACKET }
+    ensures { IfOk result (λ s. All (λ (u : Unfinished). u.ticks ≡ 59) (state_of s).unfinished) }
+{
+    let mut stack = Stack::boot(alloc, FIRST)?;
+    stack.rx(packet);
+    stack.tick();
+    calls_are_run();
+    age_law();
+    Ok(stack)
+}
+
+/// Passes a stack the two fragments of a datagram for it, the second one first. Unless buffers lacked, the datagram is
+/// then in the queue of the socket that matches, or was counted: `progress_law`.
+pub fn pass_both(stack: &mut Stack, first: &[u8], second: &[u8])
+    requires parts { AreTwoParts (state_of stack.old) first.now second.now }
+    requires first { length first.now ≤ IP_MAX_PACKET }
+    requires second { length second.now ≤ IP_MAX_PACKET }
+    ensures { IsReceivedUnlessLacking first.now second.now (state_of stack.old) (state_of stack.new) }
+{
+    stack.rx(second);
+    stack.rx(first);
+    progress_law();
+}
+
+/// Two stacks on a wire, of which the first paces its sends: the most sends in the life of a packet, and the most in 60
+/// of the second's ticks, are together at most 65,536. Then what waits in the second's queues was sent, for ever: by
+/// `pace_law` and `stacks_on_a_wire_for_ever`.
+pub fn paced_stacks()
+    ensures { (first second : Config) (sent : List PassedCall) (came : List Turn) (s t : StackView) (born made : ℕ → ℕ)
+        (life pace : ℕ) → AreOnOnePacedWire first second sent came s t born made life pace
+        → AreAllSent exact_ledger first second (turns_of_calls sent) (state_of s) (state_of t) }
+{
+    pace_law();
+    stacks_on_a_wire_for_ever();
 }

@@ -8,13 +8,19 @@ use flat_model::Addr;
 use mbuf_chain::{Chain, Pool};
 use sockbuf::SockBuf;
 
-/// Returns whether a datagram fits into a queue. A datagram that doesn't is freed.
-pub fn is_queued(pool: &mut Pool, queue: &mut SockBuf, sender: Addr, chain: Chain) -> bool
+/// Returns whether a datagram fits into a queue, which has this limit. A datagram that doesn't is freed.
+pub fn is_queued(
+    pool: &mut Pool,
+    queue: &mut SockBuf,
+    limit: u16,
+    sender: Addr,
+    chain: Chain,
+) -> bool
     requires ready { IsSockBuf pool.old queue.old }
     requires live { IsLive pool.old chain }
     requires apart { times_among chain (chains_of pool.old queue.old) ≡ 0 }
 {
-    match queue.append_addr(pool, sender, chain) {
+    match queue.append_addr(pool, limit, sender, chain) {
         Ok(()) => true,
         Err((chain, _)) => {
             pool.free_chain(chain); // the queue is full, or no mbuf is free for the address

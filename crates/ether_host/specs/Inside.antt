@@ -16,6 +16,7 @@ link_seen l = record {
   answer = packets_left l.answer;
   answer_hop = l.answer_hop;
   answer_id = l.answer_id;
+  firsts = l.firsts.items;
   errors = l.errors.items;
   claim = l.claim;
   unreachables = l.unreachables;

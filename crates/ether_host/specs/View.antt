@@ -1,11 +1,16 @@
 -- What a host shows, and the state that it means (this project's own).
-use Rattle.std.specs.Prelude.{◌≡◌, ℕ, ◌==◌, Bool, true, false}
+use Rattle.std.specs.Prelude.{◌≡◌, ℕ, ◌==◌, Bool, true, false, List, Option, Some, None}
 use Rattle.std.specs.List.{count_by}
 use Rattle.std.specs.Borrow.{Lends, MutBor, Fml}
+use Rattle.flat_model.specs.Machine.Fate.{Fated}
 use Rattle.flat_model.specs.declared.config.Config.{Config}
+use Rattle.flat_model.specs.declared.fate.Fate.{Fate}
+use Rattle.flat_ether.specs.Frames.{body_of, kind_of}
 use Rattle.flat_ether.specs.Hosts.{Host}
 use Rattle.flat_ether.specs.Links.{LinkState, WaitingPacket}
 use Rattle.flat_ether.specs.Routes.{is_link}
+use Rattle.flat_ether.specs.declared.link.FrameKind.{FrameKind}
+use Rattle.flat_ether.specs.declared.link.FrameKind.TheVariants.{Packet}
 use Rattle.flat_ether.specs.declared.link.Link.{Link}
 use Rattle.net_stack.specs.Boots as boots
 use Rattle.net_stack.specs.Stack.{StackView, state_of}
@@ -30,6 +35,15 @@ halves s l = record { machine = state_of s; link = l }
 -- the host that it means
 abbrev pub host_of : HostView → Host
 host_of v = record { machine = state_of v.stack; link = v.link }
+
+-- what is told of a frame that arrives: the fate of its packet, or nothing if it has none for the stack
+abbrev pub TellsKind : FrameKind → List ℕ → Option Fate → Host → Host → Type 0
+TellsKind Packet f (Some fate) old new = Fated old.machine (body_of f) fate new.machine
+TellsKind Packet f None old new = ⊥
+TellsKind _ f told old new = told ≡ None
+
+abbrev pub TellsFrame : List ℕ → Option Fate → Host → Host → Type 0
+TellsFrame f told old new = TellsKind (kind_of old.link.config old.link.link.mac f) f told old new
 
 -- the host ends with the last value of the reference as its stack
 abbrev pub LendsStack : MutBor EtherHost → MutBor StackView → Fml

@@ -1,7 +1,7 @@
 //! ICMP replies (`icmp_reflect` and `icmp_error` of volume 2, chapter 11).
 ghost use Rattle.std.specs.Prelude.{◌≡◌, ◌≤◌, ◌∷◌, length, true};
 ghost use Rattle.params.specs.declared.TheConstants.{IP_HEADER};
-ghost use Rattle.flat_ether.specs.Icmp.{answer_by, carried_in, echo_reply, is_answerable, is_echo, is_single, port_unreachable};
+ghost use Rattle.flat_ether.specs.Icmp.{answer_to, carried_in, echo_reply, error_for, is_answerable, is_echo, is_no_protocol, is_single, unreachable_reply};
 ghost use Rattle.flat_model.specs.Packets.Checksum.{checksum};
 ghost use Rattle.flat_model.specs.Packets.Header.{two_bytes};
 ghost use Rattle.ether_host.specs.Answers.{CanAnswer};
@@ -12,8 +12,9 @@ use crate::bytes::put_bytes;
 use crate::reply::Reply;
 use flat_ether::{
     Answer, ECHO_REPLY, ECHO_REQUEST, ICMP_HEADER, PROTOCOL_ICMP, UNREACHABLE, UNREACHABLE_PORT,
+    UNREACHABLE_PROTOCOL,
 };
-use flat_model::Config;
+use flat_model::{Config, Why};
 use in_cksum::{Sum, sum_slice};
 use ip_out::{u16_at, u32_at};
 use params::{FIRST_MULTICAST, IP_HEADER, IP_UDP_HEADERS, LOOPBACK};
@@ -34,17 +35,10 @@ fn is_single(config: &Config, ip: u32) -> bool
 }
 
 /// Whether the header of a packet allows a reply.
-fn is_answerable(config: &Config, came: &[u8]) -> bool
+pub(crate) fn is_answerable(config: &Config, came: &[u8]) -> bool
     ensures { result ≡ is_answerable config.now came.now }
 {
-    if came.len() < HEADER || u32_at(came, 16) != config.addr {
-        return false;
-    }
-    let flags = u16_at(came, 6);
-    if flags / 8192 % 2 != 0 || flags % 8192 != 0 {
-        return false;
-    }
-    is_single(config, u32_at(came, 12))
+    came.len() >= HEADER && u32_at(came, 16) == config.addr && is_single(config, u32_at(came, 12))
 }
 
 /// What a packet carries, up to its total length.
@@ -67,21 +61,47 @@ fn is_echo(body: &[u8]) -> bool
         && sum_slice(body) == u16::MAX
 }
 
-/// The reply to a packet, given what the stack counted for it.
-pub(crate) fn answer_by(config: &Config, came: &[u8], no_port: bool, no_protocol: bool) -> Answer
-    ensures is { result ≡ answer_by config.now came.now no_port no_protocol }
+/// Whether a packet was dropped because its protocol is unknown.
+pub(crate) fn is_no_protocol(why: Why) -> bool
+    ensures { result ≡ is_no_protocol why }
+{
+    match why {
+        Why::NoProtocol => true,
+        _ => false,
+    }
+}
+
+/// The error for a datagram that was dropped, by a packet of it; none for ICMP.
+pub(crate) fn error_for(came: &[u8], why: Why) -> Answer
+    requires { IP_HEADER ≤ length came.now }
+    ensures is { result ≡ error_for came.now why }
+    ensures can { CanAnswer result came.now }
+{
+    match why {
+        Why::UdpNoPort => Answer::Unreachable(UNREACHABLE_PORT),
+        Why::NoProtocol => {
+            if came[9] == PROTOCOL_ICMP {
+                Answer::Silence
+            } else {
+                Answer::Unreachable(UNREACHABLE_PROTOCOL)
+            }
+        }
+        _ => Answer::Silence,
+    }
+}
+
+/// The reply to a whole packet that was dropped.
+pub(crate) fn answer_to(config: &Config, came: &[u8], why: Why) -> Answer
+    ensures is { result ≡ answer_to config.now came.now why }
     ensures can { CanAnswer result came.now }
 {
     if !is_answerable(config, came) {
         return Answer::Silence;
     }
-    if no_port {
-        return Answer::Unreachable;
-    }
-    if came[9] == PROTOCOL_ICMP && no_protocol && is_echo(carried(came)) {
+    if is_no_protocol(why) && came[9] == PROTOCOL_ICMP && is_echo(carried(came)) {
         return Answer::Echo;
     }
-    Answer::Silence
+    error_for(came, why)
 }
 
 /// The first four bytes of an ICMP message, with its checksum.
@@ -106,15 +126,15 @@ pub(crate) fn echo_reply(reply: &mut Reply, config: &Config, id: u16, came: &[u8
     reply.put(config, id, came, message_head(ECHO_REPLY, 0, rest), rest);
 }
 
-/// "Port unreachable" to the sender of a datagram, with an identification.
-pub(crate) fn port_unreachable(reply: &mut Reply, config: &Config, id: u16, came: &[u8])
+/// "Destination unreachable" with a code to the sender of a packet, with an identification.
+pub(crate) fn unreachable_reply(reply: &mut Reply, config: &Config, id: u16, code: u8, came: &[u8])
     requires { IP_HEADER ≤ length came.now }
-    ensures { packets_left reply.new ≡ port_unreachable config.now id came.now }
+    ensures { packets_left reply.new ≡ unreachable_reply config.now id code came.now }
 {
     let quoted = came.len().min(IP_UDP_HEADERS as usize);
     let mut rest = [0; 32];
     put_bytes(&mut rest, 4, &came[..quoted]);
     let rest = &rest[..4 + quoted];
-    let front = message_head(UNREACHABLE, UNREACHABLE_PORT, rest);
+    let front = message_head(UNREACHABLE, code, rest);
     reply.put(config, id, came, front, rest);
 }

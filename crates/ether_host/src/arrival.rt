@@ -4,15 +4,16 @@ ghost use Rattle.params.specs.declared.TheConstants.{IP_HEADER};
 ghost use Rattle.flat_ether.specs.Frames.{arp_of};
 ghost use Rattle.flat_ether.specs.Icmp.{carried_in, is_echo};
 ghost use Rattle.ether_host.specs.Answers.{CanAnswer};
-ghost use Rattle.flat_ether.specs.Links.{answers_by, answers_now, answers_with, asks, counts_conflict, counts_icmp_dropped, receives_arp, ignores, is_busy, is_conflict, learns, makes_way, puts_echo, puts_unreachable, queues_reply, is_sound_arp, refuses, reports_unreachable};
+ghost use Rattle.flat_ether.specs.Links.{answers_by, answers_dropped, answers_fate, answers_now, answers_with, asks, counts_conflict, counts_icmp_dropped, receives_arp, ignores, is_busy, is_conflict, learns, makes_way, puts_echo, puts_unreachable, queues_reply, is_sound_arp, refuses, reports_unreachable};
 
-use crate::answer::{echo_reply, port_unreachable};
+use crate::answer::{answer_to, echo_reply, is_no_protocol, unreachable_reply};
 use crate::frames::read_arp;
 use crate::layer::LinkLayer;
 use crate::table::{mac_of, place_of, put};
 use flat_ether::{
     ARP_KEEP_TICKS, ARP_REQUEST, Answer, Arp, Neighbour, PENDING_REPLIES, PendingReply, Route,
 };
+use flat_model::{Fate, Why};
 use ip_out::u32_at;
 
 impl LinkLayer {
@@ -165,29 +166,29 @@ impl LinkLayer {
         self.tallies.echoes = self.tallies.echoes.saturating_add(1);
     }
 
-    /// A "port unreachable" by way of a next hop takes the place for replies.
-    fn put_unreachable(&mut self, hop: u32, came: &[u8])
+    /// A "destination unreachable" by way of a next hop takes the place for replies.
+    fn put_unreachable(&mut self, hop: u32, code: u8, came: &[u8])
         requires long { IP_HEADER ≤ length came.now }
         requires some { 0 < self.old.unreachables }
-        ensures { link_seen self.new ≡ puts_unreachable hop came.now (link_seen self.old) }
+        ensures { link_seen self.new ≡ puts_unreachable hop code came.now (link_seen self.old) }
     {
-        port_unreachable(&mut self.answer, &self.config, self.answer_id, came);
+        unreachable_reply(&mut self.answer, &self.config, self.answer_id, code, came);
         self.unreachables -= 1;
         self.ask_for_answer(hop);
         self.tallies.unreachable = self.tallies.unreachable.saturating_add(1);
     }
 
-    /// A "port unreachable" by way of a next hop takes the place for replies, if the limit isn't reached.
-    fn report_unreachable(&mut self, hop: u32, came: &[u8])
+    /// A "destination unreachable" by way of a next hop takes the place for replies, if the limit isn't reached.
+    fn report_unreachable(&mut self, hop: u32, code: u8, came: &[u8])
         requires { IP_HEADER ≤ length came.now }
-        ensures { link_seen self.new ≡ reports_unreachable hop came.now (link_seen self.old) }
+        ensures { link_seen self.new ≡ reports_unreachable hop code came.now (link_seen self.old) }
     {
         if self.unreachables == 0 {
             self.tallies.limited = self.tallies.limited.saturating_add(1);
             return;
         }
         self.make_way();
-        self.put_unreachable(hop, came);
+        self.put_unreachable(hop, code, came);
     }
 
     /// A reply by way of a next hop takes the place for replies.
@@ -200,7 +201,7 @@ impl LinkLayer {
                 self.make_way();
                 self.put_echo(hop, came);
             }
-            Answer::Unreachable => self.report_unreachable(hop, came),
+            Answer::Unreachable(code) => self.report_unreachable(hop, code, came),
             Answer::Silence => {}
         }
     }
@@ -229,8 +230,30 @@ impl LinkLayer {
     {
         match answer {
             Answer::Echo => self.answer_now(Answer::Echo, came),
-            Answer::Unreachable => self.answer_now(Answer::Unreachable, came),
+            Answer::Unreachable(code) => self.answer_now(Answer::Unreachable(code), came),
             Answer::Silence => {}
+        }
+    }
+
+    /// A whole packet was dropped: it may get a reply, or report an error.
+    fn answer_dropped(&mut self, came: &[u8], why: Why)
+        ensures { link_seen self.new ≡ answers_dropped came.now why (link_seen self.old) }
+    {
+        let answer = answer_to(&self.config, came, why);
+        self.answer_with(answer, came);
+        self.add_error(is_no_protocol(why), came);
+    }
+
+    /// What the link does with a packet to this host, by what became of it in the stack.
+    pub(crate) fn answer_fate(&mut self, came: &[u8], fate: Fate)
+        ensures { link_seen self.new ≡ answers_fate came.now fate (link_seen self.old) }
+    {
+        match fate {
+            Fate::Delivered(_) => {}
+            Fate::Kept => self.keep_first(came),
+            Fate::Completed(Ok(_)) => {}
+            Fate::Completed(Err(why)) => self.answer_whole(came, why),
+            Fate::Dropped(why) => self.answer_dropped(came, why),
         }
     }
 }

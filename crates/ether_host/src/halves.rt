@@ -5,29 +5,34 @@ ghost use Rattle.flat_ether.specs.Claims.{address_state};
 ghost use Rattle.flat_ether.specs.Hosts.{TakesFrame, gives, gives_drained, last_error};
 ghost use Rattle.flat_ether.specs.declared.sizes.TheConstants.{ETHER_HEADER, ETHER_MTU};
 ghost use Rattle.ether_host.specs.Fronts.{buffer_front};
-ghost use Rattle.ether_host.specs.View.{halves, held_for};
+ghost use Rattle.ether_host.specs.View.{TellsFrame, halves, held_for};
 
 use crate::frames::{body_of, kind_of};
 use crate::layer::LinkLayer;
 use crate::packets::{drain, take_packet};
 use flat_ether::{AddressState, FrameKind, Link, Neighbour, NetFault, Tallies};
-use flat_model::Errno;
+use flat_model::{Errno, Fate};
 use net_stack::Stack;
 
 impl LinkLayer {
     ghost use Rattle.ether_host.specs.Inside.{link_seen};
 
-    /// A frame arrives: see `EtherHost::receive`.
-    pub fn receive(&mut self, stack: &mut Stack, frame: &[u8])
+    /// A frame arrives: see `EtherHost::receive`. Returns what became of its packet, or `None` if it has none for the
+    /// stack.
+    pub fn receive(&mut self, stack: &mut Stack, frame: &[u8]) -> Option<Fate>
         requires { length frame.now ≤ ETHER_HEADER + IP_MAX_PACKET }
-        ensures { TakesFrame frame.now (halves stack.old (link_seen self.old)) (halves stack.new (link_seen self.new)) }
+        ensures takes { TakesFrame frame.now (halves stack.old (link_seen self.old))
+            (halves stack.new (link_seen self.new)) }
+        ensures fate { TellsFrame frame.now result (halves stack.old (link_seen self.old))
+            (halves stack.new (link_seen self.new)) }
     {
         match kind_of(&self.config, self.link.mac, frame) {
-            FrameKind::Packet => take_packet(stack, self, frame),
+            FrameKind::Packet => return Some(take_packet(stack, self, frame)),
             FrameKind::Martian => self.refuse(),
             FrameKind::Arp => self.receive_arp(body_of(frame)),
             FrameKind::Other => self.ignore(),
         }
+        None
     }
 
     /// The stack's packets, and then the requests for those that wait because of them.

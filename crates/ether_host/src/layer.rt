@@ -3,11 +3,12 @@ ghost use Rattle.std.specs.Prelude.{◌≡◌, ◌≤◌, IfOk, vec_capacity};
 ghost use Rattle.flat_ether.specs.declared.sizes.TheConstants.{HELD_PACKETS};
 
 use crate::buffer::PacketBuffer;
+use crate::fragments::QUOTE;
 use crate::reply::Reply;
 use arrayvec::ArrayVec;
 use flat_ether::{
-    Claim, HELD_PACKETS, Link, NEIGHBOURS, Neighbour, PENDING_REPLIES, PendingReply, SOCKET_ERRORS,
-    SocketError, Tallies, UNREACHABLES,
+    Claim, FIRST_FRAGMENTS, HELD_PACKETS, Link, NEIGHBOURS, Neighbour, PENDING_REPLIES,
+    PendingReply, SOCKET_ERRORS, SocketError, Tallies, UNREACHABLES,
 };
 use flat_model::Config;
 use std::alloc::{AllocError, Global};
@@ -23,6 +24,7 @@ pub struct LinkLayer {
     pub(crate) answer: Reply,
     pub(crate) answer_hop: u32,
     pub(crate) answer_id: u16,
+    pub(crate) firsts: ArrayVec<[u8; QUOTE], FIRST_FRAGMENTS>,
     pub(crate) errors: ArrayVec<SocketError, SOCKET_ERRORS>,
     pub(crate) claim: Claim,
     pub(crate) unreachables: u8,
@@ -49,6 +51,7 @@ impl LinkLayer {
             answer: Reply::blank(),
             answer_hop: 0,
             answer_id: config.first_id,
+            firsts: ArrayVec::new(),
             errors: ArrayVec::new(),
             claim: Claim::new(link.probe),
             unreachables: UNREACHABLES,

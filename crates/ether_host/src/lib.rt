@@ -7,6 +7,7 @@ mod arrival;
 mod buffer;
 mod bytes;
 mod errors;
+mod fragments;
 mod frames;
 mod halves;
 mod host;

@@ -1,8 +1,8 @@
 -- The invariant of a host's link still holds after one more frame has arrived.
-use Rattle.std.proofs.Common.{◌≡◌, ◌≢◌, ℕ, Bool, true, false, cond, List, ◌∷◌, Option, Some, None, refl, sym, ap, ◌∙◌}
+use Rattle.std.proofs.Common.{◌≡◌, ◌≢◌, ℕ, Bool, true, false, cond, List, [], ◌∷◌, Option, Some, None, refl, sym, ap, ◌∙◌}
 use Rattle.std.specs.Prelude.{Contains, ◌==◌, ◌&&◌, ◌||◌, not, is_some}
 use Rattle.std.specs.List.{AllByRecursion as Each}
-use Rattle.std.proofs.lemmas.List.Elements.{All-contains_itself, All-head}
+use Rattle.std.proofs.lemmas.List.Elements.{All-contains_itself, All-head, Contains-append_right}
 use Rattle.std.proofs.lemmas.Bool.{and_parts, eq-eqb, eqb-false, eqb-true, false≢true, ne_eqb, not-true}
 use Rattle.flat_model.specs.declared.config.Config.{Config}
 use Rattle.flat_model.proofs.Laws.{each-both, each-weaker}
@@ -49,6 +49,8 @@ module _ (c : Config) (l : Link) (F G : List (List ℕ)) (f : List ℕ) where
     held = each-weaker (λ x is. record { made = is.made; route = is.route }) s.held good.held;
     answered = each-weaker (λ p is. record { made = later_made c F G f p is.made; route = is.route }) s.answer
         good.answered;
+    quotes =
+        each-weaker (λ q is. (is.0, Contains-append_right (f ∷ []) F is.0 is.1, is.2)) s.firsts good.quotes;
   }
 
   known_later : (n : Neighbour) → ((mac : Mac) → n.mac ≡ Some mac → Learned n.ip ≡ last_given c l n.ip F)

@@ -1,7 +1,7 @@
 -- How often a running host dropped a martian, and how many replies it accepted: no other act on the host changes these
 -- counts, and the identification of the next reply is one more after each reply.
 use Rattle.std.proofs.Common.{◌≡◌, ◌⊎◌, inl, inr, ℕ, ◌+◌, ◌-◌, ◌%◌, ◌^◌, ◌<◌, ◌≤◌, min, Bool, true, false, cond, List, [], ◌∷◌, length, Option, Some, None, refl, sym, ap, ◌∙◌, subst, arith}
-use Rattle.std.specs.Prelude.{◌==◌, ◌&&◌, not, All, Result, is_some, nat_lt, position, slice_get}
+use Rattle.std.specs.Prelude.{◌==◌, ◌&&◌, not, All, Result, Ok, Err, is_some, nat_lt, position, slice_get}
 use Rattle.std.specs.List.{AllByRecursion as Each}
 use Rattle.std.proofs.lemmas.List.Elements.{All-from_recursion}
 use Rattle.flat_model.specs.Amounts.Weight.{Item}
@@ -10,15 +10,17 @@ use Rattle.flat_model.specs.Packets.Header.{head_of, u16_at}
 use Rattle.flat_model.specs.Machine.State.{IsConfig, Socket, socket_at}
 use Rattle.flat_model.specs.declared.address.Addr.{Addr}
 use Rattle.flat_model.specs.declared.config.Config.{Config}
-use Rattle.flat_model.specs.declared.counter.Counter.TheVariants.{IpNoproto}
+use Rattle.flat_model.specs.declared.counters.Why.{Why}
+use Rattle.flat_model.specs.declared.fate.Fate.{Fate}
+use Rattle.flat_model.specs.declared.fate.Fate.TheVariants.{Delivered, Kept, Completed, Dropped}
 use Rattle.flat_model.specs.declared.errno.Errno.{Errno}
 use Rattle.flat_ether.specs.Claims.{claim_due, is_claimed}
 use Rattle.flat_ether.specs.Errors.{error_at, error_in}
 use Rattle.flat_ether.specs.Frames.{arp_of, body_of, is_addressed, is_martian, kind_of, packet_kind}
 use Rattle.flat_ether.specs.Hosts.{HostAct, AreHostActs, Asks_error, Ages, Calls, Clock, Comes_in, Drained, Goes_out, ReceivesKind, Host, IsHostAct, drained, error_of_socket, gives, gives_claimed, gives_drained, gives_probe, host_up, is_to_us, or_drains}
-use Rattle.flat_ether.specs.Icmp.{answer_to, counted_more, echo_reply, port_unreachable}
+use Rattle.flat_ether.specs.Icmp.{answer_to, echo_reply, error_for, is_first, is_no_protocol, unreachable_reply}
 use Rattle.flat_ether.specs.Laws.{martian_if, martian_in, martians_in, packet_if, packets_in}
-use Rattle.flat_ether.specs.Links.{Gives, WaitingPacket, LinkState, ages, answers_by, answers_now, answers_on, answers_with, asks, asks_at, by_route, claim_frame, drops_first, counts_conflict, first_ready, gives_answer, gives_claim, gives_held, gives_own, gives_reply, gives_request, receives_arp, holds_packet, is_answering, is_asked, is_busy, is_conflict, is_request_due, is_learned, is_sound_arp, learns, limits, mac_of, makes_way, puts_answer, puts_unreachable, adds_error_if, adds_error, or_then, queues_reply, neighbour_place, replies_to, route_of, sends, sends_answer, sends_at, sends_held, takes_at, takes_error, ticks, to_hop}
+use Rattle.flat_ether.specs.Links.{Gives, WaitingPacket, LinkState, ages, answers_by, answers_fate, answers_first, answers_now, answers_on, answers_with, asks, asks_at, by_route, claim_frame, drops_first, counts_conflict, first_ready, gives_answer, gives_claim, gives_held, gives_own, gives_reply, gives_request, receives_arp, holds_packet, is_answering, is_asked, is_busy, is_conflict, is_request_due, is_learned, is_sound_arp, learns, limits, mac_of, makes_way, puts_answer, puts_unreachable, quote_for, adds_error_if, adds_error, or_then, queues_reply, neighbour_place, replies_to, route_of, sends, sends_answer, sends_at, sends_held, takes_at, takes_error, ticks, to_hop}
 use Rattle.flat_ether.specs.Routes.{route}
 use Rattle.flat_ether.specs.declared.answer.Answer.{Answer}
 use Rattle.flat_ether.specs.declared.answer.Answer.TheVariants.{Echo, Unreachable, Silence}
@@ -99,11 +101,11 @@ by_next hop Echo came s =
     let t : LinkState = makes_way s in
     inr (inl (ap (λ (x : Tally). (x.0, x.1, x.2, x.3, more_by 1 x.4, x.5))
     (puts_next hop (echo_reply t.config t.answer_id came) t) ∙ ap echoed (way_same s)))
-by_next hop Unreachable came s =
+by_next hop (Unreachable code) came s =
     let t : LinkState = makes_way s in
-    next_cond (nat_lt 0 s.unreachables) s (puts_unreachable hop came t) (limits s)
+    next_cond (nat_lt 0 s.unreachables) s (puts_unreachable hop code came t) (limits s)
     (inr (inr (ap (λ (x : Tally). (x.0, x.1, x.2, x.3, x.4, more_by 1 x.5))
-    (puts_next hop (port_unreachable t.config t.answer_id came)
+    (puts_next hop (unreachable_reply t.config t.answer_id code came)
     (record t { unreachables = t.unreachables - 1 })) ∙ ap reported (way_same s)))) (inl refl)
 
 now_next : (a : Answer) (came : List ℕ) (s : LinkState) → IsNext (tally s) (tally (answers_now a came s))
@@ -118,7 +120,7 @@ now_next a came s =
 answers_next : (a : Answer) (came : List ℕ) (s : LinkState) → IsNext (tally s) (tally (answers_with a came s))
 answers_next Silence came s = inl refl
 answers_next Echo came s = now_next Echo came s
-answers_next Unreachable came s = now_next Unreachable came s
+answers_next (Unreachable code) came s = now_next (Unreachable code) came s
 
 adds_error_if_same : (b : Bool) (came : List ℕ) (s : LinkState) → tally (adds_error_if b came s) ≡ tally s
 adds_error_if_same b came s = by_cond b s _ _ (go (error_in s.config came)) refl
@@ -308,13 +310,25 @@ module _ (c : Config) (l : Link) where
     most = omega (arith, is.most);
   })
 
-  taken_next : (b : Bool) (f : List ℕ) (a : Answer) (no_protocol : Bool) (s : LinkState)
-      → IsNext (tally s)
-      (tally (cond b (adds_error_if no_protocol (body_of f) (answers_with a (body_of f) s)) s))
-  taken_next true f a no_protocol s =
-      subst (IsNext (tally s)) (sym (adds_error_if_same no_protocol (body_of f) (answers_with a (body_of f) s)))
-      (answers_next a (body_of f) s)
-  taken_next false f a no_protocol s = inl refl
+  first_next : (quote : Option (List ℕ)) (why : Why) (s : LinkState)
+      → IsNext (tally s) (tally (answers_first quote why s))
+  first_next None why s = inl refl
+  first_next (Some quote) why s = answers_next (error_for quote why) quote s
+
+  fate_next : (came : List ℕ) (fate : Fate) (s : LinkState) → IsNext (tally s) (tally (answers_fate came fate s))
+  fate_next came (Delivered reached) s = inl refl
+  fate_next came Kept s = next_cond (is_first s.config came) s _ _ (inl refl) (inl refl)
+  fate_next came (Completed (Ok reached)) s = inl refl
+  fate_next came (Completed (Err why)) s = first_next (quote_for came s) why s
+  fate_next came (Dropped why) s =
+      subst (IsNext (tally s))
+      (sym (adds_error_if_same (is_no_protocol why) came (answers_with (answer_to s.config came why) came s)))
+      (answers_next (answer_to s.config came why) came s)
+
+  taken_next : (b : Bool) (came : List ℕ) (fate : Fate) (s : LinkState)
+      → IsNext (tally s) (tally (cond b (answers_fate came fate s) s))
+  taken_next true came fate s = fate_next came fate s
+  taken_next false came fate s = inl refl
 
   received_counts : (k : ℕ) (f : List ℕ) (old new : Host) (kind : FrameKind) → Counts k old → ReceivesKind kind f old
       new
@@ -323,8 +337,7 @@ module _ (c : Config) (l : Link) where
       subst (λ (n : ℕ). Counted n (tally new.link)) (omega (arith))
       (subst (λ (s : LinkState). Counted k (tally s)) (sym h.link)
       (next_counts k (tally old.link) _ is
-      (taken_next (is_to_us old.link f) f (answer_to old.link.config (body_of f) old.machine new.machine)
-      (counted_more IpNoproto old.machine new.machine) old.link)))
+      (taken_next (is_to_us old.link f) (body_of f) h.fate old.link)))
   received_counts k f old new Martian is h =
       subst (λ (x : Host). Counted (k + 1) (tally x.link)) (sym h) (record {
         config = is.config;

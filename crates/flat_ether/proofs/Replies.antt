@@ -1,13 +1,14 @@
 -- The packets of an ICMP reply: each has a whole header, with the addresses and the identification of the reply.
-use Rattle.std.proofs.Common.{◌≡◌, ℕ, ◌+◌, ◌*◌, ◌/◌, ◌%◌, Bool, true, false, cond, List, [], ◌∷◌, length, map, refl, ap, ◌∙◌, arith}
-use Rattle.std.specs.Prelude.{All, nat_lt}
+use Rattle.std.proofs.Common.{◌≡◌, ℕ, ◌+◌, ◌*◌, ◌/◌, ◌%◌, Bool, true, false, cond, List, [], ◌∷◌, ◌<◌, length, map, refl, ap, ◌∙◌, arith}
+use Rattle.std.specs.Prelude.{All, nat_lt, slice_index}
 use Rattle.std.specs.List.{AllByRecursion as Each}
 use Rattle.std.proofs.lemmas.Bool.{ltb-true}
+use Rattle.std.proofs.lemmas.List.{get_or-take, take-take}
 use Rattle.std.proofs.lemmas.List.Elements.{All-from_recursion}
 use Rattle.flat_model.specs.Fragments.Cuts.{Part, cuts}
 use Rattle.flat_model.specs.Packets.Header.{Head, head_of, packet, u32_at}
 use Rattle.flat_model.specs.declared.config.Config.{Config}
-use Rattle.flat_ether.specs.Icmp.{answer_mtu, echo_message, echo_reply, part_packet, port_unreachable, reflected, unreachable_message}
+use Rattle.flat_ether.specs.Icmp.{answer_mtu, echo_message, echo_reply, message, part_packet, part_packets, quote_of, unreachable_reply, reflected, unreachable_message}
 use Rattle.flat_ether.specs.Laws.{HasId}
 use Rattle.flat_ether.specs.Links.{route_to}
 use Rattle.flat_ether.specs.Routes.{route}
@@ -44,6 +45,27 @@ reply_route c l id came body hop e = go (cuts (length body) (answer_mtu c))
     go [] = tt
     go (p ∷ ps) = (packet_route c l _ _ ∙ e, go ps)
 
+-- ---- an error that quotes a packet is one about the packet
+
+quoted : (i : ℕ) (came : List ℕ) → i < 28 → slice_index (quote_of came) i ≡ slice_index came i
+quoted i came h = get_or-take 28 came i 0 h
+
+pub quoted_source : (came : List ℕ) → (head_of (quote_of came)).source ≡ (head_of came).source
+quoted_source came =
+    let a = quoted 12 came (omega arith) in
+    let b = quoted 13 came (omega arith) in
+    let d = quoted 14 came (omega arith) in
+    let e = quoted 15 came (omega arith) in
+    omega (arith, a, b, d, e)
+
+pub quoted_reply : (c : Config) (id code : ℕ) (came : List ℕ)
+    → unreachable_reply c id code (quote_of came) ≡ unreachable_reply c id code came
+quoted_reply c id code came =
+    ap (λ (source : ℕ). part_packets c.addr id source (unreachable_message code (quote_of came)) (answer_mtu c))
+    (quoted_source came)
+    ∙ ap (λ (quote : List ℕ). part_packets c.addr id (head_of came).source
+    (message 3 code (0 ∷ 0 ∷ 0 ∷ 0 ∷ quote)) (answer_mtu c)) (take-take 28 28 came (omega arith))
+
 -- ---- its identification
 
 two : (n : ℕ) → 256 * (n / 256) + n % 256 ≡ n
@@ -64,6 +86,8 @@ pub echo_numbered : (c : Config) (id : ℕ) (came : List ℕ) → All (HasId id)
 echo_numbered c id came =
     All-from_recursion (HasId id) (echo_reply c id came) (numbered c id came (echo_message came))
 
-pub unreachable_numbered : (c : Config) (id : ℕ) (came : List ℕ) → All (HasId id) (port_unreachable c id came)
-unreachable_numbered c id came =
-    All-from_recursion (HasId id) (port_unreachable c id came) (numbered c id came (unreachable_message came))
+pub unreachable_numbered : (c : Config) (id code : ℕ) (came : List ℕ)
+    → All (HasId id) (unreachable_reply c id code came)
+unreachable_numbered c id code came =
+    All-from_recursion (HasId id) (unreachable_reply c id code came)
+    (numbered c id came (unreachable_message code came))

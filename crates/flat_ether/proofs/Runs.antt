@@ -9,17 +9,16 @@ use Rattle.flat_model.specs.Machine.Ledger.{exact_ledger}
 use Rattle.flat_model.specs.Machine.State.{State, Socket, socket_at}
 use Rattle.flat_model.specs.Runs.Run.{Turn, Leads}
 use Rattle.flat_model.specs.declared.config.Config.{Config}
-use Rattle.flat_model.proofs.Laws.{each-weaker}
+use Rattle.flat_model.specs.declared.fate.Fate.{Fate}
+use Rattle.flat_model.proofs.Laws.{each-weaker, fated_step}
 use Rattle.flat_wire.specs.Wire.{packet_in, packet_out}
 use Rattle.flat_ether.specs.Claims.{is_claimed}
 use Rattle.flat_ether.specs.Frames.{body_of, kind_of}
 use Rattle.flat_ether.specs.Hosts.{HostAct, AreHostActs, Comes_in, Drained, Goes_out, Clock, Calls, CallsMachine, Asks_error, Ages, Host, ReceivesKind, IsHostAct, drained, error_of_socket, gives, gives_after, gives_claimed, gives_drained, gives_probe, host_up, is_to_us, or_drains, with_output_left}
-use Rattle.flat_ether.specs.Icmp.{answer_to, counted_more}
 use Rattle.flat_ether.specs.declared.error.NetFault.{NetFault}
-use Rattle.flat_model.specs.declared.counter.Counter.TheVariants.{IpNoproto}
 use Rattle.flat_model.specs.declared.errno.Errno.{Errno}
 use Rattle.flat_ether.specs.Laws.{AreSent, IsFrameSent, MakesTurns, arp_if, frame_out, frames_then, packet_if, packets_in, packets_to}
-use Rattle.flat_ether.specs.Links.{Gives, LinkState, answers_with, gives_claim, gives_own, adds_error_if, ignores, receives_arp, refuses, sends, takes_error, ticks}
+use Rattle.flat_ether.specs.Links.{Gives, LinkState, answers_fate, gives_claim, gives_own, ignores, receives_arp, refuses, sends, takes_error, ticks}
 use Rattle.flat_ether.specs.declared.link.Link.{Link}
 use Rattle.flat_ether.specs.declared.link.FrameKind.{FrameKind}
 use Rattle.flat_ether.specs.declared.link.FrameKind.TheVariants.{Packet, Martian, Arp, Other}
@@ -45,6 +44,7 @@ module _ (c : Config) (l : Link) where
     answered =
         each-weaker (λ p is. record { made = Sent.more_made c l F G G' p is.made; route = is.route }) s.answer
         good.answered;
+    quotes = good.quotes;
   }
 
   -- An act on a machine and its link, after these frames arrived and these packets were given: `then'` are the frames
@@ -207,17 +207,10 @@ module _ (c : Config) (l : Link) where
       wider : arp_if (kind_of c l.mac f) f ≡ None → Good (f ∷ F) (G ++ []) old.link
       wider e = same (f ∷ F) G old.link (Arrived.quiet_good c l F G f old.link good e)
 
-      taken : Good (f ∷ F) (G ++ []) old.link → (b : Bool)
-          → Good (f ∷ F) (G ++ []) (cond b
-          (adds_error_if (counted_more IpNoproto old.machine new.machine) (body_of f)
-          (answers_with (answer_to old.link.config (body_of f) old.machine new.machine) (body_of f)
-          old.link)) old.link)
-      taken wide true =
-          Sent.adds_error_if_good c l (f ∷ F) (G ++ []) (counted_more IpNoproto old.machine new.machine) (body_of f)
-          (answers_with (answer_to old.link.config (body_of f) old.machine new.machine) (body_of f) old.link)
-          (Sent.answers_good c l (f ∷ F) (G ++ []) f (answer_to old.link.config (body_of f) old.machine new.machine)
-          old.link wide here)
-      taken wide false = wide
+      taken : (fate : Fate) → Good (f ∷ F) (G ++ []) old.link → (b : Bool)
+          → Good (f ∷ F) (G ++ []) (cond b (answers_fate (body_of f) fate old.link) old.link)
+      taken fate wide true = Sent.fate_good c l (f ∷ F) (G ++ []) f fate old.link wide here
+      taken fate wide false = wide
 
       still : (link : LinkState) → new ≡ record old { link = link } → Good (f ∷ F) (G ++ []) link
           → Makes F G (f ∷ F) old.machine new.machine new.link [] []
@@ -239,11 +232,16 @@ module _ (c : Config) (l : Link) where
               → Makes F G (f ∷ F) old.machine new.machine new.link (packet_if s f) []
           by Packet k h = record {
             turns = record { event = Comes (body_of f); reply = Done } ∷ [];
-            leads = ((bytes_of_body f is.0, short_body f is.1), new.machine, h.machine, refl);
+            leads = (
+              (bytes_of_body f is.0, short_body f is.1),
+              new.machine,
+              fated_step old.machine new.machine (body_of f) h.fate h.machine,
+              refl,
+            );
             in' = refl;
             good =
                 subst (Good (f ∷ F) (G ++ [])) (sym h.link)
-                (taken (wider (ap (λ (x : FrameKind). arp_if x f) k)) (is_to_us old.link f));
+                (taken h.fate (wider (ap (λ (x : FrameKind). arp_if x f) k)) (is_to_us old.link f));
             sent = tt;
           }
           by Martian k h =
@@ -339,6 +337,7 @@ module _ (c : Config) (l : Link) where
         replies = tt;
         held = tt;
         answered = tt;
+        quotes = tt;
       }
 
   -- the machine gave each packet that waits

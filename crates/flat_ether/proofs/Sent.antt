@@ -1,13 +1,19 @@
 -- The frames that a host sends: the source of each packet, and its destination on the link.
 use Rattle.std.proofs.Common.{◌≡◌, ◌⊎◌, inl, inr, ℕ, Bool, true, false, cond, List, [], ◌∷◌, ◌++◌, length, take, drop, Option, Some, None, refl, sym, ap, ◌∙◌, subst, zero, suc, ◌+◌, ◌-◌, ◌%◌, add-one, get_or}
-use Rattle.std.specs.Prelude.{Contains, ◌&&◌, not, filter, is_some, map, nat_lt, position, slice_get, remove}
+use Rattle.std.specs.Prelude.{Contains, ◌==◌, ◌&&◌, not, filter, is_some, map, nat_lt, position, slice_get, slice_index, remove, Ok, Err}
 use Rattle.std.specs.List.{AllByRecursion as Each}
 use Rattle.std.proofs.lemmas.List.Elements.{All-contains_itself, Contains-append_left, Contains-append_right, recursion_from_All}
 use Rattle.std.proofs.lemmas.List.Quantifiers.{position-Some}
 use Rattle.std.proofs.lemmas.Option.{none-some, same_Some}
 use Rattle.std.proofs.lemmas.Bool.{and_parts, eqb-true}
 use Rattle.flat_model.specs.declared.config.Config.{Config}
+use Rattle.flat_model.specs.declared.counters.Why.{Why}
+use Rattle.flat_model.specs.declared.counters.Why.TheVariants.{NoProtocol, UdpNoPort}
+use Rattle.flat_model.specs.declared.fate.Fate.{Fate}
+use Rattle.flat_model.specs.declared.fate.Fate.TheVariants.{Delivered, Kept, Completed, Dropped}
+use Rattle.flat_model.specs.Machine.Arrival.{key_of}
 use Rattle.flat_model.specs.Machine.Count.{more_by}
+use Rattle.flat_model.specs.Machine.State.{Key}
 use Rattle.flat_model.specs.Packets.Header.{head_of}
 use Rattle.flat_model.proofs.Laws.{each-append, each-both, each-filter, each-map, each-take, each-weaker}
 use Rattle.flat_ether.specs.Claims.{claim_due}
@@ -15,9 +21,9 @@ use Rattle.flat_ether.specs.Errors.{error_at, error_in}
 use Rattle.flat_ether.specs.declared.error.SocketError.{SocketError}
 use Rattle.flat_model.specs.declared.address.Addr.{Addr}
 use Rattle.flat_ether.specs.Frames.{arp_bytes, arp_of, body_of, ether_broadcast, frame, is_arp, is_host_mac, kind_of, no_mac, same_mac}
-use Rattle.flat_ether.specs.Icmp.{echo_message, echo_reply, port_unreachable, reflected, unreachable_message}
+use Rattle.flat_ether.specs.Icmp.{answer_to, echo_message, echo_reply, error_for, is_answerable, is_first, is_no_protocol, is_ping, is_quote_of, quote_of, unreachable_reply, reflected, unreachable_message}
 use Rattle.flat_ether.specs.Laws.{IsMade, IsReply, IsRoute, IsFrameSent, arp_if, last_given, is_arp_from, given_in}
-use Rattle.flat_ether.specs.Links.{Gives, WaitingPacket, LinkState, ages, neighbour_aged, answers_by, answers_now, answers_on, answers_with, asked_at, asks, asks_at, by_route, claim_frame, drops_first, counts_too_long, counts_icmp_dropped, first_ready, gives_answer, gives_claim, gives_held, gives_own, gives_reply, gives_request, is_resolvable, has_ip, holds_packet, is_answering, is_asked, is_busy, is_request_due, is_sound_arp, limits, makes_way, mac_known, mac_in, adds_error_if, adds_error, takes_at, takes_error, mac_of, or_then, queues_reply, neighbour_place, put, puts_answer, puts_echo, puts_unreachable, ready_or, replies_to, sends, sends_answer, sends_at, sends_held, neighbour_stays, takes_place, ticks, to_hop, unknown, route_of, route_to}
+use Rattle.flat_ether.specs.Links.{Gives, WaitingPacket, LinkState, ages, neighbour_aged, answers_by, answers_dropped, answers_fate, answers_first, answers_now, answers_on, answers_whole, answers_with, asked_at, asks, asks_at, by_route, claim_frame, drops_first, counts_too_long, counts_icmp_dropped, first_ready, gives_answer, gives_claim, gives_held, gives_own, gives_reply, gives_request, is_resolvable, has_ip, holds_packet, is_answering, is_asked, is_busy, is_request_due, is_sound_arp, keeps_first, limits, makes_way, mac_known, mac_in, adds_error_if, adds_error, takes_at, takes_error, mac_of, or_then, queues_reply, neighbour_place, put, puts_answer, puts_echo, puts_unreachable, quote_in, quote_for, quote_with, ready_or, replies_to, sends, sends_answer, sends_at, sends_held, neighbour_stays, takes_place, ticks, to_hop, unknown, route_of, route_to}
 use Rattle.flat_ether.specs.Routes.{is_neighbour, route}
 use Rattle.flat_ether.specs.declared.answer.Answer.{Answer}
 use Rattle.flat_ether.specs.declared.answer.Answer.TheVariants.{Echo, Unreachable, Silence}
@@ -30,7 +36,7 @@ use Rattle.flat_ether.specs.declared.link.Route.TheVariants.{All, Hop, NoRoute}
 use Rattle.flat_ether.specs.declared.mac.Mac.{Mac}
 use Rattle.flat_ether.specs.declared.neighbour.Neighbour.{Neighbour}
 use Rattle.flat_ether.specs.declared.neighbour.PendingReply.{PendingReply}
-use Rattle.flat_ether.proofs.Replies.{reply_route}
+use Rattle.flat_ether.proofs.Replies.{quoted_reply, reply_route}
 use Rattle.flat_ether.proofs.Tables.{AreDistinct, distinct_again, distinct_stays, each-drop, each_again, put_distinct, put_each}
 
 each-remove : {X : Type 0} (P : X → Type 0) (xs : List X) (i : ℕ) → Each P xs → Each P (remove xs i)
@@ -75,6 +81,10 @@ module _ (c : Config) (F G : List (List ℕ)) (f : List ℕ) where
   later_made p (inr (reply, (g, came, id, is), in')) =
       inr (reply, (g, Contains-append_right (f ∷ []) F g came, id, is), in')
 
+-- what an error quotes of the packet of a frame that arrived
+abbrev pub IsQuote : List (List ℕ) → List ℕ → Type 0
+IsQuote F quote = (f : List ℕ) × Contains F f × (quote ≡ quote_of (body_of f))
+
 abbrev pub IsFromHost : PendingReply → Type 0
 IsFromHost o = is_host_mac o.mac ≡ true
 
@@ -113,7 +123,7 @@ module _ (c : Config) (l : Link) (F G : List (List ℕ)) where
     pub route : route_to c l p ≡ Hop hop
 
   pub record Parts (own : Config) (link : Link) (ns : List Neighbour) (rs : List PendingReply) (hs : List WaitingPacket)
-      (hop : ℕ) (answer : List (List ℕ)) : Type 0 where
+      (hop : ℕ) (answer firsts : List (List ℕ)) : Type 0 where
     pub config : own ≡ c
     pub link_is : link ≡ l
     pub neighbours : Each IsKnown ns
@@ -121,15 +131,16 @@ module _ (c : Config) (l : Link) (F G : List (List ℕ)) where
     pub replies : Each IsFromHost rs
     pub held : Each IsWaiting hs
     pub answered : Each (IsAnswer hop) answer
+    pub quotes : Each (IsQuote F) firsts
 
   -- by parts, so that a change of anything else needs no proof
   abbrev pub IsGood : LinkState → Type 0
-  IsGood s = Parts s.config s.link s.neighbours s.replies s.held s.answer_hop s.answer
+  IsGood s = Parts s.config s.link s.neighbours s.replies s.held s.answer_hop s.answer s.firsts
 
   with_parts : {own : Config} {link : Link} {ns ns' : List Neighbour} {rs rs' : List PendingReply}
-      {hs hs' : List WaitingPacket} {hop hop' : ℕ} {answer answer' : List (List ℕ)}
-      → Parts own link ns rs hs hop answer → Each IsKnown ns' → AreDistinct ns' → Each IsFromHost rs'
-      → Each IsWaiting hs' → Each (IsAnswer hop') answer' → Parts own link ns' rs' hs' hop' answer'
+      {hs hs' : List WaitingPacket} {hop hop' : ℕ} {answer answer' firsts : List (List ℕ)}
+      → Parts own link ns rs hs hop answer firsts → Each IsKnown ns' → AreDistinct ns' → Each IsFromHost rs'
+      → Each IsWaiting hs' → Each (IsAnswer hop') answer' → Parts own link ns' rs' hs' hop' answer' firsts
   with_parts good neighbours distinct replies held answered = record {
     config = good.config;
     link_is = good.link_is;
@@ -138,6 +149,7 @@ module _ (c : Config) (l : Link) (F G : List (List ℕ)) where
     replies = replies;
     held = held;
     answered = answered;
+    quotes = good.quotes;
   }
 
   pub record IsGiven (g : Gives) : Type 0 where
@@ -475,55 +487,145 @@ module _ (c : Config) (l : Link) (F G : List (List ℕ)) where
       asks_good hop (record s { answer = packets; answer_hop = hop; answer_id = (s.answer_id + 1) % 65536 })
       (with_parts good good.neighbours good.distinct good.replies good.held is)
 
-  answered : (hop id : ℕ) (f body : List ℕ) → IsReply c F (reflected c id (body_of f) body)
-      → route c l (head_of (body_of f)).source ≡ Hop hop
-      → Each (IsAnswer hop) (reflected c id (body_of f) body)
-  answered hop id f body is e =
-      let reply : List (List ℕ) = reflected c id (body_of f) body in
+  -- a reply to this packet is one to the packet of a frame that arrived
+  abbrev pub CanReply : Answer → List ℕ → Type 0
+  CanReply Silence came = Unit {0}
+  CanReply Echo came = (id : ℕ) → IsReply c F (echo_reply c id came)
+  CanReply (Unreachable code) came = (id : ℕ) → IsReply c F (unreachable_reply c id code came)
+
+  answered : (hop id : ℕ) (came body : List ℕ) → IsReply c F (reflected c id came body)
+      → route c l (head_of came).source ≡ Hop hop → Each (IsAnswer hop) (reflected c id came body)
+  answered hop id came body is e =
+      let reply : List (List ℕ) = reflected c id came body in
       each-both (λ p in' to. record { made = inr (reply, is, in'); route = to }) reply
-      (recursion_from_All _ reply (All-contains_itself reply)) (reply_route c l id (body_of f) body hop e)
+      (recursion_from_All _ reply (All-contains_itself reply)) (reply_route c l id came body hop e)
 
-  echo_good : (hop : ℕ) (f : List ℕ) (s : LinkState) → IsGood s → Contains F f
-      → route c l (head_of (body_of f)).source ≡ Hop hop → IsGood (puts_echo hop (body_of f) s)
-  echo_good hop f s good came e =
-      puts_good hop (echo_reply s.config s.answer_id (body_of f)) s good
-      (subst (λ (x : Config). Each (IsAnswer hop) (echo_reply x s.answer_id (body_of f))) (sym good.config)
-      (answered hop s.answer_id f (echo_message (body_of f)) (f, came, s.answer_id, inl refl) e))
+  echo_good : (hop : ℕ) (came : List ℕ) (s : LinkState) → IsGood s → CanReply Echo came
+      → route c l (head_of came).source ≡ Hop hop → IsGood (puts_echo hop came s)
+  echo_good hop came s good can e =
+      puts_good hop (echo_reply s.config s.answer_id came) s good
+      (subst (λ (x : Config). Each (IsAnswer hop) (echo_reply x s.answer_id came)) (sym good.config)
+      (answered hop s.answer_id came (echo_message came) (can s.answer_id) e))
 
-  unreachable_good : (hop : ℕ) (f : List ℕ) (s : LinkState) → IsGood s → Contains F f
-      → route c l (head_of (body_of f)).source ≡ Hop hop → IsGood (puts_unreachable hop (body_of f) s)
-  unreachable_good hop f s good came e =
-      puts_good hop (port_unreachable s.config s.answer_id (body_of f)) (record s { unreachables = s.unreachables - 1 })
+  unreachable_good : (hop code : ℕ) (came : List ℕ) (s : LinkState) → IsGood s → CanReply (Unreachable code) came
+      → route c l (head_of came).source ≡ Hop hop → IsGood (puts_unreachable hop code came s)
+  unreachable_good hop code came s good can e =
+      puts_good hop (unreachable_reply s.config s.answer_id code came)
+      (record s { unreachables = s.unreachables - 1 })
       good
-      (subst (λ (x : Config). Each (IsAnswer hop) (port_unreachable x s.answer_id (body_of f))) (sym good.config)
-      (answered hop s.answer_id f (unreachable_message (body_of f)) (f, came, s.answer_id, inr refl) e))
+      (subst (λ (x : Config). Each (IsAnswer hop) (unreachable_reply x s.answer_id code came)) (sym good.config)
+      (answered hop s.answer_id came (unreachable_message code came) (can s.answer_id) e))
 
-  by_good : (hop : ℕ) (f : List ℕ) (a : Answer) (s : LinkState) → IsGood s → Contains F f
-      → route c l (head_of (body_of f)).source ≡ Hop hop → IsGood (answers_by hop a (body_of f) s)
-  by_good hop f Silence s good came e = good
-  by_good hop f Echo s good came e = echo_good hop f (makes_way s) (way_good s good) came e
-  by_good hop f Unreachable s good came e =
-      by_test IsGood (nat_lt 0 s.unreachables) (puts_unreachable hop (body_of f) (makes_way s)) (limits s)
-      (unreachable_good hop f (makes_way s) (way_good s good) came e) good
+  by_good : (hop : ℕ) (came : List ℕ) (a : Answer) (s : LinkState) → IsGood s → CanReply a came
+      → route c l (head_of came).source ≡ Hop hop → IsGood (answers_by hop a came s)
+  by_good hop came Silence s good can e = good
+  by_good hop came Echo s good can e = echo_good hop came (makes_way s) (way_good s good) can e
+  by_good hop came (Unreachable code) s good can e =
+      by_test IsGood (nat_lt 0 s.unreachables) (puts_unreachable hop code came (makes_way s)) (limits s)
+      (unreachable_good hop code came (makes_way s) (way_good s good) can e) good
 
-  now_good : (f : List ℕ) (a : Answer) (s : LinkState) → IsGood s → Contains F f
-      → IsGood (answers_now a (body_of f) s)
-  now_good f a s good came =
-      by_test IsGood (is_busy s) (counts_icmp_dropped s) (answers_on way a (body_of f) s) good (on way refl)
+  now_good : (came : List ℕ) (a : Answer) (s : LinkState) → IsGood s → CanReply a came
+      → IsGood (answers_now a came s)
+  now_good came a s good can =
+      by_test IsGood (is_busy s) (counts_icmp_dropped s) (answers_on way a came s) good (on way refl)
     where
       way : Route
-      way = route s.config s.link (head_of (body_of f)).source
+      way = route s.config s.link (head_of came).source
 
-      on : (r : Route) → way ≡ r → IsGood (answers_on r a (body_of f) s)
+      on : (r : Route) → way ≡ r → IsGood (answers_on r a came s)
       on All e = good
       on (Hop hop) e =
-          by_good hop f a s good came
-          (ap (λ (x : Config). route x l (head_of (body_of f)).source) (sym good.config)
-          ∙ ap (λ (x : Link). route s.config x (head_of (body_of f)).source) (sym good.link_is) ∙ e)
+          by_good hop came a s good can
+          (ap (λ (x : Config). route x l (head_of came).source) (sym good.config)
+          ∙ ap (λ (x : Link). route s.config x (head_of came).source) (sym good.link_is) ∙ e)
       on NoRoute e = good
 
-  pub answers_good : (f : List ℕ) (a : Answer) (s : LinkState) → IsGood s → Contains F f
-      → IsGood (answers_with a (body_of f) s)
-  answers_good f Silence s good came = good
-  answers_good f Echo s good came = now_good f Echo s good came
-  answers_good f Unreachable s good came = now_good f Unreachable s good came
+  answers_good : (came : List ℕ) (a : Answer) (s : LinkState) → IsGood s → CanReply a came
+      → IsGood (answers_with a came s)
+  answers_good came Silence s good can = good
+  answers_good came Echo s good can = now_good came Echo s good can
+  answers_good came (Unreachable code) s good can = now_good came (Unreachable code) s good can
+
+  -- ---- what became of the packet of a frame
+
+  can_cond : (b : Bool) (x y : Answer) (came : List ℕ) → CanReply x came → CanReply y came → CanReply (cond b x y) came
+  can_cond true x y came first second = first
+  can_cond false x y came first second = second
+
+  -- an error is one about the packet, if an error of any code is
+  can_error : (came : List ℕ) (why : Why) → ((code : ℕ) → CanReply (Unreachable code) came)
+      → CanReply (error_for came why) came
+  can_error came UdpNoPort can = can 3
+  can_error came NoProtocol can =
+      can_cond (slice_index came 9 == 1) Silence (Unreachable 2) came tt (can 2)
+  can_error came _ can = tt
+
+  dropped_good : (f : List ℕ) (why : Why) (s : LinkState) → IsGood s → Contains F f
+      → IsGood (answers_dropped (body_of f) why s)
+  dropped_good f why s good came =
+      adds_error_if_good (is_no_protocol why) (body_of f) (answers_with (answer_to s.config (body_of f) why) (body_of f) s)
+      (answers_good (body_of f) (answer_to s.config (body_of f) why) s good
+      (can_cond (is_answerable s.config (body_of f))
+      (cond (is_ping (body_of f) why) Echo (error_for (body_of f) why)) Silence (body_of f)
+      (can_cond (is_ping (body_of f) why) Echo (error_for (body_of f) why) (body_of f)
+      (λ id. (f, came, id, inl refl))
+      (can_error (body_of f) why (λ code id. (f, came, id, inr (code, refl))))) tt))
+
+  first_good : (f : List ℕ) (s : LinkState) → IsGood s → Contains F f → IsGood (keeps_first (body_of f) s)
+  first_good f s good came =
+      by_test IsGood (is_first s.config (body_of f))
+      (record s { firsts = take 2 (quote_of (body_of f) ∷ s.firsts) }) s
+      (record {
+        config = good.config;
+        link_is = good.link_is;
+        neighbours = good.neighbours;
+        distinct = good.distinct;
+        replies = good.replies;
+        held = good.held;
+        answered = good.answered;
+        quotes = each-take (IsQuote F) 2 (quote_of (body_of f) ∷ s.firsts) ((f, came, refl), good.quotes);
+      }) good
+
+  quote_good : (quote : Option (List ℕ)) (why : Why) (s : LinkState) → IsGood s
+      → ((q : List ℕ) → quote ≡ Some q → IsQuote F q) → IsGood (answers_first quote why s)
+  quote_good None why s good is = good
+  quote_good (Some q) why s good is = go (is q refl)
+    where
+      go : IsQuote F q → IsGood (answers_with (error_for q why) q s)
+      go (f, came, e) =
+          answers_good q (error_for q why) s good (can_error q why (λ code id. (
+            f,
+            came,
+            id,
+            inr (
+              code,
+              ap (unreachable_reply c id code) e ∙ quoted_reply c id code (body_of f),
+            ),
+          )))
+
+  at_quote : (at : Option ℕ) (firsts : List (List ℕ)) (q : List ℕ) → Each (IsQuote F) firsts
+      → quote_in at firsts ≡ Some q → IsQuote F q
+  at_quote None firsts q is e = absurd (none-some q e)
+  at_quote (Some at) firsts q is e = each-get (IsQuote F) firsts at q is e
+
+  quote_is : (f : List ℕ) (s : LinkState) (q : List ℕ) → IsGood s → Contains F f → quote_for (body_of f) s ≡ Some q
+      → IsQuote F q
+  quote_is f s q good came = go (is_first s.config (body_of f)) (nat_lt (length (body_of f)) 20)
+    where
+      k : Key
+      k = key_of (head_of (body_of f))
+
+      go : (b short : Bool)
+          → cond b (Some (quote_of (body_of f))) (cond short None (quote_with k s.firsts)) ≡ Some q → IsQuote F q
+      go true short e = (f, came, sym (same_Some (quote_of (body_of f)) q e))
+      go false true e = absurd (none-some q e)
+      go false false e = at_quote (position (is_quote_of k) s.firsts) s.firsts q good.quotes e
+
+  pub fate_good : (f : List ℕ) (fate : Fate) (s : LinkState) → IsGood s → Contains F f
+      → IsGood (answers_fate (body_of f) fate s)
+  fate_good f (Delivered reached) s good came = good
+  fate_good f Kept s good came = first_good f s good came
+  fate_good f (Completed (Ok reached)) s good came = good
+  fate_good f (Completed (Err why)) s good came =
+      quote_good (quote_for (body_of f) s) why s good (λ q e. quote_is f s q good came e)
+  fate_good f (Dropped why) s good came = dropped_good f why s good came

@@ -10,7 +10,7 @@ use Rattle.flat_model.specs.Fragments.Overlay.{Map, Fragment}
 use Rattle.flat_model.specs.Fragments.Whole.{bytes_below}
 use Rattle.flat_model.specs.Packets.Header.{Head, packet, u32_at, head_of}
 use Rattle.flat_model.specs.Machine.State.{IsConfig, State, Socket, Datagram, Key, Unfinished, boot, loopback, change_socket, begun, begin_unfinished, end_unfinished}
-use Rattle.flat_model.specs.Machine.Event.{Event, Reply, IsEvent, Open, Bind, Connect, Send, Receive, Close, Set_option, Comes, Transmit, Tick, Ask_counters, Ask_usage}
+use Rattle.flat_model.specs.Machine.Event.{Event, Reply, IsEvent, Open, Bind, Connect, Send, Receive, Close, Set_option, Set_limit, Comes, Transmit, Tick, Ask_counters, Ask_usage}
 use Rattle.flat_model.specs.Machine.Ledger.{HasBuffers, need_mbufs, exact_ledger}
 use Rattle.flat_model.specs.Machine.Calls as Calls
 use Rattle.flat_model.specs.Machine.Calls.{Refuses, OnSocket, GetsPort, is_ours, source_for}
@@ -298,6 +298,8 @@ module _ (c : Config) (old new : State) (reply : Reply) (k : IsSourced c old) wh
       same (as_on c old.output fd old new reply _ kept (λ me r. subst (As c old.output) (sym r.1) kept) h)
   step_sourced (Set_option fd option on) h =
       same (as_on c old.output fd old new reply _ kept (λ me r. subst (As c old.output) (sym r.1) kept) h)
+  step_sourced (Set_limit fd limit) h =
+      same (as_on c old.output fd old new reply _ kept (λ me r. subst (As c old.output) (sym r.1) kept) h)
   step_sourced (Comes bytes) h = same (as_comes c old.output bytes old new kept h.1)
   step_sourced Transmit h = transmits old.output refl h
   step_sourced Tick h = same (subst (As c old.output) (sym h.1) kept)
@@ -343,6 +345,7 @@ module _ (P : List ℕ → Type 0) (old new : State) (reply : Reply) where
   gave k (Receive fd most) h = tt
   gave k (Close fd) h = tt
   gave k (Set_option fd option on) h = tt
+  gave k (Set_limit fd limit) h = tt
   gave k (Comes bytes) h = tt
   gave k Transmit h = gives_waiting k old.output refl h
   gave k Tick h = tt

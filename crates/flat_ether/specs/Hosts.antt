@@ -2,19 +2,19 @@
 use Rattle.std.specs.Prelude.{◌≡◌, ℕ, ◌+◌, ◌≤◌, Bool, if◌then◌else◌, List, [], ◌∷◌, length, is_some, Option, Some, None, Result, Ok, Err}
 use Rattle.params.specs.declared.TheConstants.{IP_MAX_PACKET}
 use Rattle.flat_model.specs.Amounts.Weight.{Item}
-use Rattle.flat_model.specs.Machine.Event.{Comes, Tick, Done, IsEvent, IsBytes}
+use Rattle.flat_model.specs.Machine.Event.{Tick, Done, IsEvent, IsBytes}
+use Rattle.flat_model.specs.Machine.Fate.{Fated}
 use Rattle.flat_model.specs.Machine.State.{State, Socket, boot, socket_at}
 use Rattle.flat_model.specs.Machine.Step.{Step}
 use Rattle.flat_model.specs.Runs.Run.{Turn}
 use Rattle.flat_model.specs.declared.config.Config.{Config}
+use Rattle.flat_model.specs.declared.fate.Fate.{Fate}
 use Rattle.flat_ether.specs.Claims.{is_claimed}
 use Rattle.flat_ether.specs.Frames.{body_of, mac_at, same_mac, kind_of}
-use Rattle.flat_ether.specs.Icmp.{answer_to, counted_more}
 use Rattle.flat_ether.specs.declared.error.NetFault.{NetFault}
-use Rattle.flat_model.specs.declared.counter.Counter.TheVariants.{IpNoproto}
 use Rattle.flat_model.specs.declared.errno.Errno.{Errno}
 use Rattle.flat_model.specs.declared.errno.Errno.TheVariants.{BadDescriptor}
-use Rattle.flat_ether.specs.Links.{LinkState, Gives, answers_with, gives_claim, gives_own, receives_arp, ignores, link_up, adds_error_if, refuses, sends, takes_error, ticks}
+use Rattle.flat_ether.specs.Links.{LinkState, Gives, answers_fate, gives_claim, gives_own, receives_arp, ignores, link_up, refuses, sends, takes_error, ticks}
 use Rattle.flat_ether.specs.declared.link.Link.{Link}
 use Rattle.flat_ether.specs.declared.link.FrameKind.{FrameKind}
 use Rattle.flat_ether.specs.declared.link.FrameKind.TheVariants.{Packet, Martian, Arp, Other}
@@ -33,19 +33,16 @@ host_up c l = record { machine = boot c; link = link_up c l }
 abbrev pub is_to_us : LinkState → List ℕ → Bool
 is_to_us s f = same_mac (mac_at 0 f) s.link.mac
 
--- what the link does after the machine has taken the packet of a frame: a broadcast one gets no reply, and no error is
+-- what the link does with a packet of which this became in the machine: a broadcast one gets no reply, and no error is
 -- taken from it
-abbrev pub answers : List ℕ → State → State → LinkState → LinkState
-answers f old new s =
-    if is_to_us s f
-    then adds_error_if (counted_more IpNoproto old new) (body_of f)
-    (answers_with (answer_to s.config (body_of f) old new) (body_of f) s)
-    else s
+abbrev pub answers : List ℕ → Fate → LinkState → LinkState
+answers f fate s = if is_to_us s f then answers_fate (body_of f) fate s else s
 
--- a packet is given to the machine as it is in the frame
+-- a packet is given to the machine as it is in the frame, and the link replies by what became of it
 pub record TakesPacket (f : List ℕ) (old new : Host) : Type 0 where
-  pub machine : Step old.machine (Comes (body_of f)) Done new.machine
-  pub link : new.link ≡ answers f old.machine new.machine old.link
+  pub fate : Fate
+  pub machine : Fated old.machine (body_of f) fate new.machine
+  pub link : new.link ≡ answers f fate old.link
 
 abbrev pub ReceivesKind : FrameKind → List ℕ → Host → Host → Type 0
 ReceivesKind Packet f old new = TakesPacket f old new

@@ -11,7 +11,7 @@ use Rattle.flat_model.specs.Runs.Run.{Turn, Leads}
 use Rattle.flat_model.specs.Machine.Calls.{is_ours}
 use Rattle.flat_wire.specs.Wire.{ComesFrom, IsAnswered, WasSent, ip_source, packet_in, packet_out}
 use Rattle.flat_ether.specs.Frames.{arp_bytes, arp_of, body_of, ether_broadcast, frame, is_host_mac, kind_of, mac_at, no_mac}
-use Rattle.flat_ether.specs.Icmp.{echo_reply, port_unreachable}
+use Rattle.flat_ether.specs.Icmp.{echo_reply, unreachable_reply}
 use Rattle.flat_ether.specs.Hosts.{HostAct, AreHostActs, Host, host_up, Comes_in, Goes_out, Clock, Calls, Asks_error, Ages}
 use Rattle.flat_ether.specs.Links.{is_sound_arp, route_to}
 use Rattle.flat_model.specs.declared.config.Config.{Config}
@@ -112,7 +112,8 @@ last_given c l ip (f ∷ before) = given_in l ip (arp_if (kind_of c l.mac f) f) 
 abbrev pub IsReply : Config → List (List ℕ) → List (List ℕ) → Type 0
 IsReply c frames reply =
     (frame : List ℕ) × Contains frames frame
-    × (id : ℕ) × ((reply ≡ echo_reply c id (body_of frame)) ⊎ (reply ≡ port_unreachable c id (body_of frame)))
+    × (id : ℕ) × ((reply ≡ echo_reply c id (body_of frame))
+    ⊎ ((code : ℕ) × (reply ≡ unreachable_reply c id code (body_of frame))))
 
 -- the machine gave the packet, or it's part of the reply to the packet of a frame that arrived before
 abbrev pub IsMade : Config → List (List ℕ) → List (List ℕ) → List ℕ → Type 0

@@ -1,10 +1,16 @@
 -- The link state that a host keeps as well as the machine, and its steps (volume 2, chapters 4 and 21; RFC 826). All
 -- steps are functions: no result is left open.
-use Rattle.std.specs.Prelude.{ℕ, ◌+◌, ◌-◌, ◌*◌, ◌%◌, nat_lt, nat_le, Bool, ◌==◌, ◌&&◌, ◌||◌, not, if◌then◌else◌, List, [], ◌∷◌, ◌++◌, length, min, map, filter, position, drop, remove, slice_get, slice_index_or, slice_set, Option, Some, None, is_some}
+use Rattle.std.specs.Prelude.{ℕ, ◌+◌, ◌-◌, ◌*◌, ◌%◌, nat_lt, nat_le, Bool, ◌==◌, ◌&&◌, ◌||◌, not, if◌then◌else◌, List, [], ◌∷◌, ◌++◌, length, min, map, filter, position, drop, remove, slice_get, slice_index_or, slice_set, Option, Some, None, is_some, Result, Ok, Err, take}
 use Rattle.params.specs.declared.TheConstants.{IP_HEADER}
 use Rattle.flat_model.specs.Packets.Header.{head_of, u32_at}
+use Rattle.flat_model.specs.Machine.Arrival.{key_of}
 use Rattle.flat_model.specs.Machine.Count.{more_by}
+use Rattle.flat_model.specs.Machine.State.{Key}
 use Rattle.flat_model.specs.declared.config.Config.{Config}
+use Rattle.flat_model.specs.declared.counters.Why.{Why}
+use Rattle.flat_model.specs.declared.fate.Fate.{Fate}
+use Rattle.flat_model.specs.declared.fate.Fate.TheVariants.{Delivered, Kept, Completed, Dropped}
+use Rattle.flat_model.specs.declared.fate.Reached.{Reached}
 use Rattle.flat_ether.specs.Claims.{claim_due, claim_sent, claim_ticks, claim_up, conflicts, is_claimed}
 use Rattle.flat_ether.specs.Errors.{error_at, error_in, error_fault, add_error}
 use Rattle.flat_ether.specs.declared.error.NetFault.{NetFault}
@@ -12,7 +18,7 @@ use Rattle.flat_ether.specs.declared.error.SocketError.{SocketError}
 use Rattle.flat_model.specs.declared.address.Addr.{Addr}
 use Rattle.flat_ether.specs.Frames.{frame, ether_broadcast, no_mac, arp_bytes, arp_of, is_arp, is_host_mac, same_mac}
 use Rattle.flat_ether.specs.Routes.{is_neighbour, route}
-use Rattle.flat_ether.specs.Icmp.{echo_reply, port_unreachable}
+use Rattle.flat_ether.specs.Icmp.{answer_to, echo_reply, error_for, is_first, is_no_protocol, is_quote_of, quote_of, unreachable_reply}
 use Rattle.flat_ether.specs.declared.answer.Answer.{Answer}
 use Rattle.flat_ether.specs.declared.answer.Answer.TheVariants.{Echo, Unreachable, Silence}
 use Rattle.flat_ether.specs.declared.arp.Arp.{Arp}
@@ -26,7 +32,7 @@ use Rattle.flat_ether.specs.declared.mac.Mac.{Mac}
 use Rattle.flat_ether.specs.declared.neighbour.Neighbour.{Neighbour}
 use Rattle.flat_ether.specs.declared.neighbour.PendingReply.{PendingReply}
 use Rattle.flat_ether.specs.declared.tallies.Tallies.{Tallies}
-use Rattle.flat_ether.specs.declared.sizes.TheConstants.{ETHER_MTU, ETHER_TYPE_IP, ETHER_TYPE_ARP, ARP_REQUEST, ARP_REPLY, NEIGHBOURS, ARP_KEEP_TICKS, ARP_POLLS, UNREACHABLES, ARP_RETRY_TICKS, ARP_TRIES, HELD_PACKETS, PENDING_REPLIES}
+use Rattle.flat_ether.specs.declared.sizes.TheConstants.{ETHER_MTU, ETHER_TYPE_IP, ETHER_TYPE_ARP, ARP_REQUEST, ARP_REPLY, NEIGHBOURS, ARP_KEEP_TICKS, ARP_POLLS, UNREACHABLES, ARP_RETRY_TICKS, ARP_TRIES, FIRST_FRAGMENTS, HELD_PACKETS, PENDING_REPLIES}
 
 -- a packet that waits for the hardware address of its next hop
 pub record WaitingPacket : Type 0 where
@@ -35,8 +41,9 @@ pub record WaitingPacket : Type 0 where
 
 -- The machine's configuration and its link; the neighbours, the most recently updated last; the senders to which an ARP
 -- reply is due; the packets that wait, the oldest first; the packets of the ICMP reply that waits, and its next hop;
--- the identification of the next ICMP reply, apart from the machine's own; the errors that no call has fetched yet; the
--- claim to the address; how many more "port unreachable" may be sent before the next tick; and the counters.
+-- the identification of the next ICMP reply, apart from the machine's own; what errors quote of the first fragments
+-- that arrived last, the newest first; the errors that no call has fetched yet; the claim to the address; how many more
+-- "destination unreachable" may be sent before the next tick; and the counters.
 pub record LinkState : Type 0 where
   pub config : Config
   pub link : Link
@@ -46,6 +53,7 @@ pub record LinkState : Type 0 where
   pub answer : List (List ℕ)
   pub answer_hop : ℕ
   pub answer_id : ℕ
+  pub firsts : List (List ℕ)
   pub errors : List SocketError
   pub claim : Claim
   pub unreachables : ℕ
@@ -82,6 +90,7 @@ link_up c l =
       answer = [];
       answer_hop = 0;
       answer_id = c.first_id;
+      firsts = [];
       errors = [];
       claim = claim_up l.probe;
       unreachables = UNREACHABLES;
@@ -414,20 +423,20 @@ limits s = record s { tallies = record s.tallies { limited = more_by 1 s.tallies
 abbrev pub puts_echo : ℕ → List ℕ → LinkState → LinkState
 puts_echo hop came s = counts_echo (puts_answer hop (echo_reply s.config s.answer_id came) s)
 
-abbrev pub puts_unreachable : ℕ → List ℕ → LinkState → LinkState
-puts_unreachable hop came s =
-    counts_unreachable (puts_answer hop (port_unreachable s.config s.answer_id came)
+abbrev pub puts_unreachable : ℕ → ℕ → List ℕ → LinkState → LinkState
+puts_unreachable hop code came s =
+    counts_unreachable (puts_answer hop (unreachable_reply s.config s.answer_id code came)
     (record s { unreachables = s.unreachables - 1 }))
 
-abbrev pub reports_unreachable : ℕ → List ℕ → LinkState → LinkState
-reports_unreachable hop came s =
-    if nat_lt 0 s.unreachables then puts_unreachable hop came (makes_way s) else limits s
+abbrev pub reports_unreachable : ℕ → ℕ → List ℕ → LinkState → LinkState
+reports_unreachable hop code came s =
+    if nat_lt 0 s.unreachables then puts_unreachable hop code came (makes_way s) else limits s
 
 -- a reply by way of this next hop
 abbrev pub answers_by : ℕ → Answer → List ℕ → LinkState → LinkState
 answers_by hop Silence came s = s
 answers_by hop Echo came s = puts_echo hop came (makes_way s)
-answers_by hop Unreachable came s = reports_unreachable hop came s
+answers_by hop (Unreachable code) came s = reports_unreachable hop code came s
 
 -- no reply is broadcast
 abbrev pub answers_on : Route → Answer → List ℕ → LinkState → LinkState
@@ -443,7 +452,7 @@ answers_now a came s =
 abbrev pub answers_with : Answer → List ℕ → LinkState → LinkState
 answers_with Silence came s = s
 answers_with Echo came s = answers_now Echo came s
-answers_with Unreachable came s = answers_now Unreachable came s
+answers_with (Unreachable code) came s = answers_now (Unreachable code) came s
 
 -- ---- errors that other hosts report
 
@@ -451,7 +460,7 @@ abbrev pub adds_error : Option SocketError → LinkState → LinkState
 adds_error None s = s
 adds_error (Some e) s = record s { errors = add_error e s.errors }
 
--- a packet that the machine dropped because of an unknown protocol may report an error
+-- a packet of an unknown protocol may report an error
 abbrev pub adds_error_if : Bool → List ℕ → LinkState → LinkState
 adds_error_if no_protocol came s = if no_protocol then adds_error (error_in s.config came) s else s
 
@@ -468,3 +477,44 @@ abbrev pub takes_error : Option ℕ → Option Addr → LinkState → Option Net
 takes_error None peer s = (None, s)
 takes_error (Some port) None s = (None, s)
 takes_error (Some port) (Some peer) s = takes_at (error_at port peer s.errors) s
+
+-- ---- what became of a packet
+
+-- a whole packet was dropped
+abbrev pub answers_dropped : List ℕ → Why → LinkState → LinkState
+answers_dropped came why s =
+    adds_error_if (is_no_protocol why) came (answers_with (answer_to s.config came why) came s)
+
+-- a fragment waits for the others
+abbrev pub keeps_first : List ℕ → LinkState → LinkState
+keeps_first came s =
+    if is_first s.config came then record s { firsts = take FIRST_FRAGMENTS (quote_of came ∷ s.firsts) } else s
+
+abbrev pub quote_in : Option ℕ → List (List ℕ) → Option (List ℕ)
+quote_in None firsts = None
+quote_in (Some at) firsts = slice_get firsts at
+
+abbrev pub quote_with : Key → List (List ℕ) → Option (List ℕ)
+quote_with k firsts = quote_in (position (is_quote_of k) firsts) firsts
+
+-- what an error quotes of the datagram that this fragment completed: the fragment, if it's the first one
+abbrev pub quote_for : List ℕ → LinkState → Option (List ℕ)
+quote_for came s =
+    if is_first s.config came
+    then Some (quote_of came)
+    else if nat_lt (length came) IP_HEADER then None else quote_with (key_of (head_of came)) s.firsts
+
+abbrev pub answers_first : Option (List ℕ) → Why → LinkState → LinkState
+answers_first None why s = s
+answers_first (Some quote) why s = answers_with (error_for quote why) quote s
+
+-- a fragment completed its datagram
+abbrev pub answers_whole : List ℕ → Result Reached Why → LinkState → LinkState
+answers_whole came (Ok reached) s = s
+answers_whole came (Err why) s = answers_first (quote_for came s) why s
+
+abbrev pub answers_fate : List ℕ → Fate → LinkState → LinkState
+answers_fate came (Delivered reached) s = s
+answers_fate came Kept s = keeps_first came s
+answers_fate came (Completed whole) s = answers_whole came whole s
+answers_fate came (Dropped why) s = answers_dropped came why s

@@ -40,11 +40,13 @@ pub const ANNOUNCE_TICKS: u8 = 5;
 /// How many ticks are between two defences of the address, at least ten seconds: `DEFEND_INTERVAL` (RFC 5227, section
 /// 1.1).
 pub const DEFEND_TICKS: u8 = 21;
-/// How many "port unreachable" are sent at most between two ticks (this project's own; RFC 1812, section 4.3.2.8,
-/// demands such a limit).
+/// How many "destination unreachable" are sent at most between two ticks (this project's own; RFC 1812, section
+/// 4.3.2.8, demands such a limit).
 pub const UNREACHABLES: u8 = 10;
 /// How many packets are held for addresses that aren't known yet (this project's own).
 pub const HELD_PACKETS: usize = 8;
+/// How many first fragments are kept for errors (this project's own).
+pub const FIRST_FRAGMENTS: usize = 2;
 /// How many ARP replies may wait for the link (this project's own).
 pub const PENDING_REPLIES: usize = 8;
 /// The protocol number of ICMP, `IPPROTO_ICMP` (RFC 792, "Message Formats").
@@ -81,6 +83,6 @@ pub const fn numbers()
     ensures icmp { (PROTOCOL_ICMP ≡ 1) × (ICMP_HEADER ≡ 8) × (ECHO_REPLY ≡ 0) × (ECHO_REQUEST ≡ 8)
         × (UNREACHABLE ≡ 3) × (UNREACHABLE_PROTOCOL ≡ 2) × (UNREACHABLE_PORT ≡ 3) × (FRAGMENT_NEEDED ≡ 4)
         × (ICMP_ERROR ≡ 8 + 20 + 8) }
-    ensures limits { (NEIGHBOURS ≡ 32) × (HELD_PACKETS ≡ 8) × (PENDING_REPLIES ≡ 8) × (SOCKET_ERRORS ≡ 8)
-        × (UNREACHABLES ≡ 10) }
+    ensures limits { (NEIGHBOURS ≡ 32) × (HELD_PACKETS ≡ 8) × (PENDING_REPLIES ≡ 8) × (FIRST_FRAGMENTS ≡ 2)
+        × (SOCKET_ERRORS ≡ 8) × (UNREACHABLES ≡ 10) }
 {}

@@ -25,11 +25,17 @@ pub use Rattle.flat_model.proofs.Machine.Keys.{whole_key}
 -- ---- sends: each uses up an identification, and both parts of one are the whole
 pub use Rattle.flat_model.proofs.Machine.Numbers.{next_number}
 pub use Rattle.flat_model.proofs.Machine.Putting.{put_goes}
+-- ---- what is said of a packet's ends may be replaced by what follows from it
+pub use Rattle.flat_model.proofs.Machine.Weaker.{arrives_too, delivers_too, fated_step, itself}
 -- ---- runs: one more event, and what a script prints
 pub use Rattle.flat_model.proofs.Runs.Ranges.{in_range}
 pub use Rattle.flat_model.proofs.Runs.Runs.{one_more_turn, print_of_run}
 -- ---- what holds of every state
 pub use Rattle.flat_model.proofs.Machine.KeptSteps.{boot_is_consistent, step_is_consistent, run_is_consistent}
+-- ---- the memory of a layout
+pub use Rattle.flat_model.proofs.Machine.Placed.{placed_memory}
+-- ---- a queue that a datagram fits into
+pub use Rattle.flat_model.proofs.Machine.Kept.{fits_most}
 -- ---- one socket changed among others
 pub use Rattle.flat_model.proofs.Machine.Sockets.{find-changed}
 -- ---- the parts of a cut, and how long a datagram is

@@ -12,3 +12,6 @@ pub mod KeptCalls
 pub mod KeptSteps
 pub mod Balance
 pub mod Weaker
+pub mod Isolated
+pub mod OnePacket
+pub mod Within

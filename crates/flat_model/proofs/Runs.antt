@@ -2,3 +2,4 @@
 pub mod Ranges
 pub mod Runs
 pub mod WorkedRun
+pub mod Clock

@@ -9,4 +9,5 @@ pub mod Send
 pub mod Arrival
 pub mod Puts
 pub mod Step
+pub mod Fate
 pub mod Replies

@@ -2,3 +2,5 @@
 pub mod Run
 pub mod Laws
 pub mod Consistent
+pub mod Isolation
+pub mod Clock

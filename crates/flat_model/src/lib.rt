@@ -9,6 +9,7 @@ mod config;
 mod counter;
 mod counters;
 mod errno;
+mod fate;
 mod fragment_key;
 mod lookup_key;
 mod need;
@@ -22,12 +23,14 @@ pub use config::{Config, ConfigFault};
 pub use counter::Counter;
 pub use counters::{Counters, Why};
 pub use errno::{Errno, Lack};
+pub use fate::{Fate, Reached};
 pub use fragment_key::FragmentKey;
 pub use lookup_key::LookupKey;
 pub use need::Need;
 pub use option::Opt;
 pub use theorems::{
-    accounts_balance, cuts_join, exact_is_loose, keys_are_whole, leads_on, printed_is_run,
-    sends_are_numbered, states_are_consistent,
+    accounts_balance, cuts_join, exact_is_loose, fates_are_steps, keys_are_whole, leads_on,
+    limits_are_unset, printed_is_run, sends_are_numbered, sockets_are_isolated,
+    states_are_consistent, ticks_settle,
 };
 pub use usage::Mbstat;

@@ -1,16 +1,28 @@
 //! Theorems about the definitions. Each is a function that does nothing; its contract is the theorem.
-ghost use Rattle.std.specs.Prelude.{◌≡◌, ◌↔◌, ◌+◌, ◌%◌, ℕ, Bool, true, List, [], ◌∷◌, ◌++◌, ◌≤◌, length};
-ghost use Rattle.params.specs.declared.TheConstants.{FRAGMENT_UNIT, IP_HEADER};
-ghost use Rattle.flat_model.specs.Amounts.Weight.{Item, nothing};
-ghost use Rattle.flat_model.specs.Machine.Ledger.{exact_ledger, loose_ledger, weight_of_state, free_mbufs, usage_of};
-ghost use Rattle.flat_model.specs.Machine.Event.{Event, Reply, IsEvent};
-ghost use Rattle.flat_model.specs.Machine.Send.{enqueued, spent, to_link};
+ghost use Rattle.std.specs.Prelude.{◌≡◌, ◌≢◌, ◌&&◌, nat_le, Some, Option, ◌↔◌, ◌+◌, ◌%◌, ℕ, Bool, true, List, [], ◌∷◌, ◌++◌, ◌<◌, ◌≤◌, length};
+ghost use Rattle.std.specs.List.{AllByRecursion as Each};
+ghost use Rattle.params.specs.declared.TheConstants.{FRAGMENT_TICKS, FRAGMENT_UNIT, IP_HEADER};
+ghost use Rattle.flat_model.specs.Amounts.Weight.{Item, Weight, nothing, ◌⊕◌};
+ghost use Rattle.flat_model.specs.Amounts.Layout.{Need, need_of, wire};
+ghost use Rattle.flat_model.specs.Packets.Header.{udp_bytes};
+ghost use Rattle.flat_model.specs.Machine.Ledger.{HasBuffers, need_mbufs, exact_ledger, loose_ledger, weight_of_state, free_mbufs, usage_of};
+ghost use Rattle.flat_model.specs.Machine.Event.{Event, Reply, IsEvent, Comes, Done, Refused, Send};
+ghost use Rattle.flat_model.specs.Machine.Fate.{Fated};
+ghost use Rattle.flat_model.specs.declared.fate.Fate.{Fate};
+ghost use Rattle.flat_model.specs.Machine.Arrival.{Appends};
+ghost use Rattle.flat_model.specs.Sockets.Fits.{bytes_queued, fits, memory_of, memory_queued};
+ghost use Rattle.flat_model.specs.declared.address.Addr.{Addr};
+ghost use Rattle.flat_model.specs.declared.errno.Errno.TheVariants.{NoBufs};
+ghost use Rattle.flat_model.specs.declared.errno.Lack.TheVariants.{Pool};
+ghost use Rattle.flat_model.specs.Machine.Send.{enqueued, need_to, spent, target, to_link};
 ghost use Rattle.flat_model.specs.Machine.Sending.{Sending, parts_of};
-ghost use Rattle.flat_model.specs.Machine.State.{IsConfig, Key, State, Unfinished, boot, is_key};
+ghost use Rattle.flat_model.specs.Machine.State.{Datagram, IsConfig, Key, Socket, State, Unfinished, boot, is_key, socket_at};
 ghost use Rattle.flat_model.specs.Runs.Consistent.{IsConsistent};
 ghost use Rattle.flat_model.specs.Machine.Step.{Step, Loose};
 ghost use Rattle.flat_model.specs.Runs.Run.{Turn, Leads, Run};
 ghost use Rattle.flat_model.specs.Scripts.Script.{Prints, IsPrintOfRun, PrintsRun, all_events};
+ghost use Rattle.flat_model.specs.Runs.Isolation.{AreUnset, HoldsAtMost, IsQueuedFor, IsQueuedLast, IsWholeFor, KeepLimits, LeadsEmpty, PoolHasRoom, SetsEmpty, SetsNone, allowed, datagram_in, held_and, memory_of_need, with_address};
+ghost use Rattle.flat_model.specs.Runs.Clock.{only_ticks};
 ghost use Rattle.flat_model.specs.declared.config.Config.{Config};
 ghost use Rattle.flat_model.specs.Runs.Laws.{CutsJoin};
 
@@ -91,4 +103,61 @@ pub fn accounts_balance()
           refs = 0;
           most = 0;
         } }
+{}
+
+/// No socket can starve another. At the start all queues are within their limits, and every step keeps them so, if it
+/// sets no limit of a queue in which datagrams wait. In such a state a queue of limit n holds at most 2n / 128 mbufs
+/// and refers to at most 2n / 2,176 clusters. Let each socket have a limit, and let the pool have room for all that the
+/// limits allow, for the output queue as it is, and for what a step holds and needs. Then the step's test for buffers
+/// doesn't fail. So a send is never refused for the pool, and a datagram that fits its socket's limit is never dropped
+/// for want of buffers: a packet with a whole datagram for one socket is queued.
+pub fn sockets_are_isolated()
+    ensures start { (config : Config) → KeepLimits (boot config) }
+    ensures step { (old new : State) (event : Event) (reply : Reply) → IsConsistent old → KeepLimits old →
+        SetsEmpty event old → Step old event reply new → KeepLimits new }
+    ensures run { (config : Config) (turns : List Turn) (new : State) → IsConfig config →
+        LeadsEmpty (boot config) turns new → IsConsistent new × KeepLimits new }
+    ensures holds { (s : State) → IsConsistent s → KeepLimits s →
+        Each (λ (socket : Socket). 0 < socket.limit → HoldsAtMost (allowed socket.limit) socket.queue) s.sockets }
+    ensures test { (s mid : State) (held : Weight) (need : Need) (yes : Bool) →
+        IsConsistent s → KeepLimits s → PoolHasRoom (held_and held need) s →
+        HasBuffers exact_ledger s held need yes mid → yes ≡ true }
+    ensures send { (s new : State) (fd : ℕ) (to : Option Addr) (bytes : List ℕ) (me : Socket)
+        (reply : Reply) → IsConsistent s → KeepLimits s → socket_at fd s ≡ Some me →
+        PoolHasRoom (held_and nothing (need_to s.config (target s me to).ip (length bytes))) s →
+        Step s (Send fd to bytes) reply new → reply ≢ Refused (NoBufs Pool) }
+    ensures delivery { (s new : State) (held : Weight) (sender : Addr) (item : Item) (to : Socket) →
+        IsConsistent s → KeepLimits s → PoolHasRoom (held_and (held ⊕ item.weight) (need_mbufs 1)) s →
+        fits to.limit to.queue (length item.bytes) (memory_of item.weight) ≡ true →
+        Appends exact_ledger held sender item to s new → IsQueuedFor to sender item s new }
+    ensures arrival { (s new : State) (packet : List ℕ) (reply : Reply) (to : Socket) → IsConsistent s →
+        KeepLimits s → IsWholeFor s packet to →
+        fits to.limit to.queue (length (udp_bytes (datagram_in packet)))
+        (memory_of_need (need_of (wire (length packet)))) ≡ true →
+        PoolHasRoom (with_address (need_of (wire (length packet)))) s → Step s (Comes packet) reply new →
+        IsQueuedLast packet to new }
+{}
+
+/// Without a call that sets a limit, no socket has one. Then a datagram fits by the book's test: at most 41,600 bytes
+/// with it, 16 for each sender's address among them, and 83,200 bytes of memory.
+pub fn limits_are_unset()
+    ensures run { (config : Config) (turns : List Turn) (new : State) → IsConfig config →
+        Each (λ (turn : Turn). SetsNone turn.event) turns → Run config turns new → AreUnset new }
+    ensures fits { (queue : List Datagram) (n memory : ℕ) → fits 0 queue n memory
+        ≡ (nat_le (16 + n + bytes_queued queue) 41600 && nat_le (16 + n + memory_queued queue) 83200) }
+{}
+
+/// A packet with its fate is a step: what became of it takes nothing from the contract of the event.
+pub fn fates_are_steps()
+    ensures { (old new : State) (packet : List ℕ) (fate : Fate) → Fated old packet fate new →
+        Step old (Comes packet) Done new }
+{}
+
+/// A clock that ticks while nothing else happens: after 60 ticks no datagram is unfinished, and further ticks change
+/// nothing. So after a long time without calls 60 ticks are enough.
+pub fn ticks_settle()
+    ensures finish { (s new : State) (n : ℕ) → IsConsistent s → FRAGMENT_TICKS ≤ n →
+        Leads exact_ledger s (only_ticks n) new → new.unfinished ≡ [] }
+    ensures settle { (s at later : State) (n : ℕ) → IsConsistent s → FRAGMENT_TICKS ≤ n →
+        Leads exact_ledger s (only_ticks FRAGMENT_TICKS) at → Leads exact_ledger s (only_ticks n) later → later ≡ at }
 {}

@@ -12,6 +12,7 @@ socket_of b =
       peer = b.peer;
       broadcast = false;
       reuse_port = b.reuse_port;
+      limit = 0;
       queue = [];
     }
 

@@ -40,12 +40,16 @@ fn memory_queued(queue: &[Waiting]) -> u64
     }
 }
 
-/// Returns whether a datagram of `n` bytes fits into the queue.
-pub fn fits(queue: &[Waiting], n: u16) -> bool
+/// Returns whether a datagram of `n` bytes that takes `memory` bytes fits into the queue, which has this limit.
+pub fn fits(limit: u16, queue: &[Waiting], n: u16, memory: u32) -> bool
     requires { length queue.now ≤ 65536 }
-    ensures { result ≡ Fits.fits (plain_queue queue.now) n }
+    ensures { result ≡ Fits.fits limit (plain_queue queue.now) n memory }
 {
     let added = SOCKADDR_BYTES as u64 + n as u64;
-    added + bytes_queued(queue) <= UDP_RECEIVE_SPACE as u64
-        && added + memory_queued(queue) <= UDP_RECEIVE_MEMORY as u64
+    if limit == 0 {
+        return added + bytes_queued(queue) <= UDP_RECEIVE_SPACE as u64
+            && added + memory_queued(queue) <= UDP_RECEIVE_MEMORY as u64;
+    }
+    added + bytes_queued(queue) <= limit as u64
+        && MSIZE as u64 + memory as u64 + memory_queued(queue) <= 2 * limit as u64
 }

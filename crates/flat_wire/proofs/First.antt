@@ -222,6 +222,10 @@ module _ (M : Ledger) (c : Config) (out : List Item) (next count : ℕ) (boots :
       go Broadcast socket s = record { local = s.local; port = s.port; peer = s.peer }
       go ReusePort socket s = record { local = s.local; port = s.port; peer = s.peer }
 
+  pub limits : (fd limit : ℕ) (old new : State) (reply : Reply) → K old → Calls.SetsLimit fd limit old reply new → K new
+  limits fd limit old new reply k h =
+      subst K (sym h.1) (changes fd _ old k (λ socket s. record { local = s.local; port = s.port; peer = s.peer }))
+
   pub closes : (fd : ℕ) (old new : State) (reply : Reply) → K old → Calls.Closes fd old reply new → K new
   closes fd old new reply k h =
       subst K (sym h.1)

@@ -92,7 +92,7 @@ count_none p a (suc k) none =
 module _ (s : List ℕ) (c : ℕ) (bytes : Map) (D : ℕ → Type 0) (made : IsMade s c bytes D) (f : Fragment) (j : ℕ)
     (cut : IsCut s c f j) where
   -- if the map is empty at one offset of a part, the fragment owns the whole part
-  first_is : (offset : ℕ) → IsIn (length s) c j offset → bytes offset ≡ None → first_owned bytes f ≡ j * c
+  pub first_is : (offset : ℕ) → IsIn (length s) c j offset → bytes offset ≡ None → first_owned bytes f ≡ j * c
   unfolding first_owned
   first_is offset place none =
       let empty : (o : ℕ) → f.offset ≤ o → o < f.offset + length f.bytes → stays f.offset (bytes o) ≡ false =

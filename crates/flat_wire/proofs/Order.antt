@@ -30,7 +30,7 @@ same_multiple c i j some e = go (cases_order i j)
     go (inr (inr l)) = let m : (j + 1) * c ≤ i * c = mul-le-mul_right {m = j + 1} {n = i} c (omega arith) in
         absurd (omega arith)
 
-inserted_made : (s : List ℕ) (c : ℕ) → 0 < c → (fragments : List Fragment) → All (λ f. (i : ℕ) × IsCut s c f i)
+pub inserted_made : (s : List ℕ) (c : ℕ) → 0 < c → (fragments : List Fragment) → All (λ f. (i : ℕ) × IsCut s c f i)
     fragments
     → IsMade s c (inserted fragments) (Index c fragments)
 inserted_made s c some [] each = record {
@@ -55,7 +55,7 @@ inserted_made s c some (f ∷ fragments) each =
     from i j at (inl e) = inl (same_multiple c i j some (sym e ∙ at))
     from i j at (inr d) = inr d
 
-any_from_index : (c i : ℕ) (fragments : List Fragment) → Index c fragments i → Any (λ f. f.offset ≡ i * c) fragments
+pub any_from_index : (c i : ℕ) (fragments : List Fragment) → Index c fragments i → Any (λ f. f.offset ≡ i * c) fragments
 any_from_index c i [] d = absurd d
 any_from_index c i (f ∷ fragments) (inl e) = (0, f, omega arith, refl, e)
 any_from_index c i (f ∷ fragments) (inr d) = let later = any_from_index c i fragments d in
@@ -147,13 +147,27 @@ module _ (s : List ℕ) (c : ℕ) (some : 0 < c) (any : 0 < length s) (fragments
           let m = made.held (length s - 1) h e in
           m.2.more ∙ le-ltb _ _ (omega (arith, m.2.place.high, m.2.inside))
 
+-- a fragment of the string is a part of its grid
+pub cut_of : (s : List ℕ) (mtu c : ℕ) → 0 < c → cuts (length s) mtu ≡ grid (length s) c → (f : Fragment)
+    → IsFragmentOf s mtu f → (i : ℕ) × IsCut s c f i
+cut_of s mtu c some e f is =
+    let at = index_of (length s) c is.part some (subst (λ (ps : List Part). Contains ps is.part) e is.is_part) in (
+      at.0,
+      record {
+        inside = chunks_needed (length s) c at.0 some at.1;
+        offset = is.offset ∙ ap (λ (p : Part). p.offset) at.2;
+        bytes = is.bytes ∙ ap (bytes_of_part s) at.2;
+        more = is.more ∙ ap (λ (p : Part). p.more) at.2;
+      },
+    )
+
 pub overlay_order_lem : (s : List ℕ) (mtu : ℕ) (fragments : List Fragment) → 0 < length s → 28 ≤ mtu
     → All (IsFragmentOf s mtu) fragments → OverlayOrder s mtu fragments
 overlay_order_lem s mtu fragments any low each =
     let g = cuts_grid (length s) mtu any low in
     let c : ℕ = g.0 in
     let made : IsMade s c (inserted fragments) (Index c fragments) =
-    inserted_made s c g.1 fragments (λ k d l. cut_of c g.1 g.2 (slice_index_or fragments k d) (each k d l)) in
+    inserted_made s c g.1 fragments (λ k d l. cut_of s mtu c g.1 g.2 (slice_index_or fragments k d) (each k d l)) in
     record {
       bytes = λ p offset is on low high.
           let at = index_of (length s) c p g.1 (subst (λ (ps : List Part). Contains ps p) g.2 is) in
@@ -202,16 +216,3 @@ overlay_order_lem s mtu fragments any low each =
         let at = index_at (length s) c (i * c) some h in
         subst (λ k. k < chunks (length s) c)
         (same_index (length s) c at.0 i (i * c) at.2 (record { low = omega arith; high = omega arith })) at.1
-
-    cut_of : (c : ℕ) → 0 < c → cuts (length s) mtu ≡ grid (length s) c → (f : Fragment) → IsFragmentOf s mtu f
-        → (i : ℕ) × IsCut s c f i
-    cut_of c some e f is =
-        let at = index_of (length s) c is.part some (subst (λ (ps : List Part). Contains ps is.part) e is.is_part) in (
-          at.0,
-          record {
-            inside = chunks_needed (length s) c at.0 some at.1;
-            offset = is.offset ∙ ap (λ (p : Part). p.offset) at.2;
-            bytes = is.bytes ∙ ap (bytes_of_part s) at.2;
-            more = is.more ∙ ap (λ (p : Part). p.more) at.2;
-          },
-        )

@@ -6,7 +6,6 @@ use Rattle.std.proofs.lemmas.List.{take-append-le, append_assoc, length-append, 
 use Rattle.std.proofs.lemmas.List.FromFn.{map-range_with_len_more}
 use Rattle.std.proofs.lemmas.List.Elements.{All-contains_itself, recursion_from_All, Contains-append_left}
 use Rattle.std.proofs.lemmas.Bool.{lt-ltb, cases_lt}
-use Rattle.params.specs.declared.TheConstants.{OUTPUT_QUEUE_PACKETS}
 use Rattle.flat_model.specs.Amounts.Weight.{Item}
 use Rattle.flat_model.specs.Amounts.Layout.{LayoutEntry}
 use Rattle.flat_model.specs.Fragments.Cuts.{Part, part, chunks, cuts}
@@ -58,20 +57,22 @@ cuts_split n mtu some low =
     go c zero e h l = let none : chunks n c * c ≡ 0 * c = ap (λ m. m * c) e in absurd (omega arith)
     go c (suc k) e h l = omega arith
 
--- The packets in the queue after a send. If the send overflows the queue, its last packet isn't among them.
-pub each_queued : (Q : List ℕ → Type 0) (old : List (List ℕ)) (f : Part → List ℕ) (parts : List Part) → Each Q old
+-- The packets in a queue of at most so many after a send. If the send overflows the queue, its last packet isn't among
+-- them.
+pub each_queued : (Q : List ℕ → Type 0) (most : ℕ) (old : List (List ℕ)) (f : Part → List ℕ) (parts : List Part)
+    → Each Q old
     → IsSplit parts
-    → ((p : Part) → Contains parts p → ((p.more ≡ true) ⊎ (length old + length parts ≤ OUTPUT_QUEUE_PACKETS)) → Q (f p))
-    → Each Q (take OUTPUT_QUEUE_PACKETS (old ++ map f parts))
-each_queued Q old f parts queued split good = go (cases_lt OUTPUT_QUEUE_PACKETS (length old + length parts))
+    → ((p : Part) → Contains parts p → ((p.more ≡ true) ⊎ (length old + length parts ≤ most)) → Q (f p))
+    → Each Q (take most (old ++ map f parts))
+each_queued Q most old f parts queued split good = go (cases_lt most (length old + length parts))
   where
     itself : Each (Contains parts) parts
     itself = recursion_from_All (Contains parts) parts (All-contains_itself parts)
 
-    go : (OUTPUT_QUEUE_PACKETS < length old + length parts) ⊎ (length old + length parts ≤ OUTPUT_QUEUE_PACKETS)
-        → Each Q (take OUTPUT_QUEUE_PACKETS (old ++ map f parts))
+    go : (most < length old + length parts) ⊎ (length old + length parts ≤ most)
+        → Each Q (take most (old ++ map f parts))
     go (inr h) =
-        each-take Q OUTPUT_QUEUE_PACKETS _
+        each-take Q most _
         (each-append Q old (map f parts) queued (each-map_to Q f (λ p is. good p is (inr h)) parts itself))
     go (inl h) =
         let size : length parts ≡ length split.front + 1 =
@@ -79,7 +80,7 @@ each_queued Q old f parts queued split good = go (cases_lt OUTPUT_QUEUE_PACKETS 
         let shape : old ++ map f parts ≡ (old ++ map f split.front) ++ f split.last ∷ [] =
         ap (λ ps. old ++ map f ps) split.are ∙ ap (λ ys. old ++ ys) (map-append f split.front (split.last ∷ []))
         ∙ sym (append_assoc old (map f split.front) (f split.last ∷ [])) in
-        let long : OUTPUT_QUEUE_PACKETS ≤ length (old ++ map f split.front) =
+        let long : most ≤ length (old ++ map f split.front) =
         omega (arith, length-append old (map f split.front), length-map split.front f) in
         let in_front : Each (Contains split.front) split.front =
         recursion_from_All (Contains split.front) split.front (All-contains_itself split.front) in
@@ -87,7 +88,27 @@ each_queued Q old f parts queued split good = go (cases_lt OUTPUT_QUEUE_PACKETS 
         each-both (λ p is more. good p
         (subst (λ ps. Contains ps p) (sym split.are) (Contains-append_left split.front (split.last ∷ []) p is))
         (inl more)) split.front in_front split.more in
-        subst (Each Q) (sym (ap (take OUTPUT_QUEUE_PACKETS) shape
-        ∙ take-append-le OUTPUT_QUEUE_PACKETS (old ++ map f split.front) (f split.last ∷ []) long))
-        (each-take Q OUTPUT_QUEUE_PACKETS _
+        subst (Each Q) (sym (ap (take most) shape
+        ∙ take-append-le most (old ++ map f split.front) (f split.last ∷ []) long))
+        (each-take Q most _
         (each-append Q old (map f split.front) queued (each-map_to Q f (λ p h. h) split.front front_good)))
+
+-- what was added to a queue of at most so many
+pub added : {X : Type 0} (most : ℕ) (old more made : List X) → old ++ made ≡ take most (old ++ more)
+    → made ≡ take (most - length old) more
+added most [] more made e = e ∙ ap (λ n. take n more) (sym (minus-nothing most))
+  where
+    minus-nothing : (n : ℕ) → n - 0 ≡ n
+    minus-nothing n = omega arith
+added zero (x ∷ old) more made e = absurd (none e)
+  where
+    none : x ∷ (old ++ made) ≡ [] → ⊥
+    none e = cc
+added (suc most) (x ∷ old) more made e =
+    added most old more made (tails e) ∙ ap (λ n. take n more) (same most (length old))
+  where
+    tails : x ∷ (old ++ made) ≡ x ∷ take most (old ++ more) → old ++ made ≡ take most (old ++ more)
+    tails e = cc
+
+    same : (m n : ℕ) → m - n ≡ suc m - suc n
+    same m n = omega arith

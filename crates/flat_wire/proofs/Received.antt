@@ -2,17 +2,22 @@
 use Rattle.std.proofs.Common.{◌≡◌, ℕ, Bool, List, [], ◌∷◌, ◌++◌, refl, sym, ◌∙◌, ap, subst, Some}
 use Rattle.std.specs.Prelude.{◌==◌, ⊤, filter_map, find, take, All, Contains}
 use Rattle.std.specs.List.{AllByRecursion as Each}
+use Rattle.std.proofs.lemmas.List.{append_assoc}
 use Rattle.std.proofs.lemmas.List.Elements.{All-from_recursion, recursion_from_All, All-contains_itself, All-head, filter_map-append}
 use Rattle.flat_model.specs.Machine.Event.{Reply, Receive, Received}
 use Rattle.flat_model.specs.Machine.State.{State, Socket, Datagram, boot, socket_at}
 use Rattle.flat_model.specs.declared.address.Addr.{Addr}
+use Rattle.flat_model.specs.declared.config.Config.{Config}
 use Rattle.flat_model.specs.Machine.Ledger.{Ledger}
 use Rattle.flat_model.specs.Runs.Run.{Turn, Leads}
 use Rattle.flat_model.specs.Machine.Step.{StepBy}
 use Rattle.flat_model.specs.Machine.Calls.{Receives}
-use Rattle.flat_wire.specs.Wire.{packet_in, packet_out, ComesFrom, IsAnswered, AreWired, ReceivedLaw}
+use Rattle.flat_wire.specs.Wire.{packet_in, packet_out, ComesFrom, IsAnswered, WasSent, ReceivedLaw}
 use Rattle.flat_model.proofs.Laws.{by_case, each-find}
-use Rattle.flat_wire.proofs.Law.{wire_law_lem}
+use Rattle.flat_wire.specs.Trail.{trail_turns}
+use Rattle.flat_wire.specs.Ever.{AreAllSent, ReceivedLawForEver, ReceivedLawOfWhole}
+use Rattle.flat_wire.proofs.Law.{wire_law_lem, whole_law_lem}
+use Rattle.flat_wire.proofs.ForEver.{wire_law_for_ever_lem}
 
 each-front : {X : Type 0} (P : X → Type 0) (xs ys : List X) → Each P (xs ++ ys) → Each P xs
 each-front P [] ys h = tt
@@ -75,40 +80,110 @@ waited L fd most old new sender bytes step = by_case step
       bytes_are = ap bytes_of r.0;
     }
 
+-- what each queue has was sent, so what `recvfrom` returned was sent
+module _ (L M : Ledger) (first second : Config) (sent before after : List Turn) (s t : State) (fd most : ℕ)
+    (sender : Addr) (bytes : List ℕ) where
+  abbrev turn : Turn
+  turn = record { event = Receive fd most; reply = Received sender bytes }
+
+  returned : (old : State) → Leads M (boot second) before old
+      → ((new : State) × StepBy M old (Receive fd most) (Received sender bytes) new)
+      → AreAllSent L first second sent s old → sender.ip ≡ first.addr
+      → WasSent L M first second sent before s fd most sender bytes
+  returned old leads step queues from =
+      let was : Waited fd most old sender bytes = waited M fd most old step.0 sender bytes step.1 in
+      let law = queues was.me was.datagram
+      (found_is_there (λ (socket : Socket). socket.fd == fd) old.sockets was.me was.found) was.in_queue
+      (ap (λ (a : Addr). a.ip) (sym was.sender_is) ∙ from) in
+      record {
+        whole = was.datagram.item.bytes;
+        bytes_are = was.bytes_are;
+        to = law.0;
+        answered =
+            subst (λ (a : Addr). IsAnswered L first sent s a.port law.0 was.datagram.item.bytes) (sym was.sender_is)
+            law.1;
+        here = law.3;
+        then' = old;
+        leads = leads;
+        me = was.me;
+        found = was.found;
+        to_port = law.2;
+      }
+
+  pub received : Leads M (boot second) (before ++ turn ∷ after) t
+      → ((old : State) → Leads M (boot second) before old → AreAllSent L first second sent s old)
+      → sender.ip ≡ first.addr → WasSent L M first second sent before s fd most sender bytes
+  received runs queues from =
+      let parts = leads_parts M (boot second) t before (turn ∷ after) runs in
+      returned parts.0 parts.1 (parts.2.1, parts.2.2) (queues parts.0 parts.1) from
+
+-- the packets that arrived earlier
+module _ (address : ℕ) (sent before after : List Turn) where
+  abbrev IsGiven : List ℕ → Type 0
+  IsGiven packet = ComesFrom address packet → Contains (filter_map packet_out sent) packet
+
+  came_before : All IsGiven (filter_map packet_in (before ++ after)) → All IsGiven (filter_map packet_in before)
+  came_before all =
+      all-front IsGiven (filter_map packet_in before) (filter_map packet_in after)
+      (subst (All IsGiven) (filter_map-append packet_in before after) all)
+
 pub received_law_lem : (L M : Ledger) → ReceivedLaw L M
 received_law_lem L M first second sent before after s t fd most sender bytes w from =
-    let turn : Turn = record { event = Receive fd most; reply = Received sender bytes } in
-    let parts = leads_parts M (boot second) t before (turn ∷ after) w.second_runs in
-    let old : State = parts.0 in
-    let was : Waited fd most old sender bytes = waited M fd most old parts.2.1 sender bytes parts.2.2 in
-    let wired : AreWired L M first second sent before s old = record {
+    received L M first second sent before after s t fd most sender bytes w.second_runs
+    (λ old runs. wire_law_lem L M first second sent before s old (record {
       first_boots = w.first_boots;
       second_boots = w.second_boots;
       first_runs = w.first_runs;
-      second_runs = parts.1;
+      second_runs = runs;
       not_addr = w.not_addr;
       not_bcast = w.not_bcast;
       few = w.few;
-      wire =
-          all-front (λ packet. ComesFrom first.addr packet → Contains (filter_map packet_out sent) packet)
-          (filter_map packet_in before) (filter_map packet_in (turn ∷ after))
-          (subst (All (λ packet. ComesFrom first.addr packet → Contains (filter_map packet_out sent) packet))
-          (filter_map-append packet_in before (turn ∷ after)) w.wire);
-    } in
-    let law = wire_law_lem L M first second sent before s old wired was.me was.datagram
-    (found_is_there (λ (socket : Socket). socket.fd == fd) old.sockets was.me was.found) was.in_queue
-    (ap (λ (a : Addr). a.ip) (sym was.sender_is) ∙ from) in
-    record {
-      whole = was.datagram.item.bytes;
-      bytes_are = was.bytes_are;
-      to = law.0;
-      answered =
-          subst (λ (a : Addr). IsAnswered L first sent s a.port law.0 was.datagram.item.bytes) (sym was.sender_is)
-          law.1;
-      here = law.3;
-      then' = old;
-      leads = parts.1;
-      me = was.me;
-      found = was.found;
-      to_port = law.2;
-    }
+      wire = came_before first.addr sent before (record { event = Receive fd most; reply = Received sender bytes } ∷
+          after) w.wire;
+    })) from
+
+pub received_of_whole_lem : (L M : Ledger) → ReceivedLawOfWhole L M
+received_of_whole_lem L M first second sent before after s t fd most sender bytes w from =
+    received L M first second sent before after s t fd most sender bytes w.second_runs
+    (λ old runs. whole_law_lem L M first second sent before s old (record {
+      first_boots = w.first_boots;
+      second_boots = w.second_boots;
+      first_runs = w.first_runs;
+      second_runs = runs;
+      not_addr = w.not_addr;
+      not_bcast = w.not_bcast;
+      whole = w.whole;
+      wire = came_before first.addr sent before (record { event = Receive fd most; reply = Received sender bytes } ∷
+          after) w.wire;
+    })) from
+
+pub received_for_ever_lem : (L M : Ledger) → ReceivedLawForEver L M
+received_for_ever_lem L M first second sent before after s t born fd most sender bytes w from =
+    received L M first second (trail_turns sent) before after s t fd most sender bytes w.second_runs
+    (λ old runs. wire_law_for_ever_lem L M first second sent before s old born (record {
+      first_boots = w.first_boots;
+      second_boots = w.second_boots;
+      first_runs = w.first_runs;
+      second_runs = runs;
+      not_addr = w.not_addr;
+      not_bcast = w.not_bcast;
+      wire = λ b a turn packet is. w.wire b (a ++ rest) turn packet (longer b a turn is);
+      near = λ b between a one other meet. w.near b between (a ++ rest) one other (record {
+        came_are = longer_two b between a one other meet.came_are;
+        first = meet.first;
+        second = meet.second;
+        soon = meet.soon;
+      });
+    })) from
+  where
+    rest : List Turn
+    rest = record { event = Receive fd most; reply = Received sender bytes } ∷ after
+
+    longer : (b a : List Turn) (turn : Turn) → before ≡ b ++ turn ∷ a → before ++ rest ≡ b ++ turn ∷ (a ++ rest)
+    longer b a turn is = ap (λ ts. ts ++ rest) is ∙ append_assoc b (turn ∷ a) rest
+
+    longer_two : (b between a : List Turn) (one other : Turn) → before ≡ b ++ one ∷ (between ++ other ∷ a)
+        → before ++ rest ≡ b ++ one ∷ (between ++ other ∷ (a ++ rest))
+    longer_two b between a one other is =
+        longer b (between ++ other ∷ a) one is
+        ∙ ap (λ ts. b ++ one ∷ ts) (append_assoc between (other ∷ a) rest)

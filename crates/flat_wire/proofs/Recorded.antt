@@ -6,12 +6,12 @@ use Rattle.std.specs.List.{AllByRecursion as Each, cons_option}
 use Rattle.std.proofs.lemmas.Bool.{or_parts, eqb-false, ltb-false, le-ltb, cond-false}
 use Rattle.std.proofs.lemmas.Option.{none-some, same_Some}
 use Rattle.std.proofs.lemmas.List.{append_assoc, length-append, map-append, take-map, length-map, append-nil}
-use Rattle.std.proofs.lemmas.List.Elements.{filter_map-append}
+use Rattle.std.proofs.lemmas.List.Elements.{filter_map-append, Contains-append_left, Contains-append_right, All-head, All-contains_itself}
 use Rattle.params.specs.declared.TheConstants.{OUTPUT_QUEUE_PACKETS}
 use Rattle.flat_model.specs.Amounts.Weight.{Weight, Item, nothing}
 use Rattle.flat_model.specs.Fragments.Cuts.{Part, cuts}
 use Rattle.flat_model.specs.Amounts.Layout.{Need, sent, entries_on}
-use Rattle.flat_model.specs.Machine.Event.{Event, Reply, IsAddr, IsEvent, Open, Bind, Connect, Send, Receive, Close, Set_option, Comes, Transmit, Tick, Ask_counters, Ask_usage, Sent, Given}
+use Rattle.flat_model.specs.Machine.Event.{Event, Reply, IsAddr, IsEvent, Open, Bind, Connect, Send, Receive, Close, Set_option, Set_limit, Comes, Transmit, Tick, Ask_counters, Ask_usage, Sent, Given}
 use Rattle.flat_model.specs.declared.errno.Errno.{Errno}
 use Rattle.flat_model.specs.declared.errno.Errno.TheVariants.{NoBufs}
 use Rattle.flat_model.specs.declared.errno.Lack.TheVariants.{Queue}
@@ -36,7 +36,7 @@ use Rattle.flat_model.proofs.Laws.{by_choice, by_case, each-append, each-weaker,
 use Rattle.flat_wire.proofs.Closed.{IsClosed, kept_has_buffers, kept_all}
 use Rattle.flat_wire.proofs.First as First
 use Rattle.flat_wire.proofs.First.{IsTarget, IsSound, IsKept}
-use Rattle.flat_wire.proofs.Output.{all_bytes, bytes_of_packets, IsSplit, cuts_split, each_queued}
+use Rattle.flat_wire.proofs.Output.{all_bytes, bytes_of_packets, IsSplit, cuts_split, each_queued, added}
 
 -- ---- the socket at a descriptor keeps its port as packets come
 
@@ -81,12 +81,20 @@ module _ (L : Ledger) (c : Config) (boots : IsConfig c) where
   Numbered [] = ⊤
   Numbered (x ∷ older) = (x.id ≡ (c.first_id + length older) % 65536) × Numbered older
 
+  -- one of these turns asked to send these bytes
+  pub record IsAsked (turns : List Turn) (bytes : List ℕ) : Type 0 where
+    pub fd : ℕ
+    pub to : Option Addr
+    pub reply : Reply
+    pub among : Contains turns (record { event = Send fd to bytes; reply = reply })
+
   pub record IsGiven (log : List Sending) (turns : List Turn) (last : State) (bytes : List ℕ) : Type 0 where
     pub sending : Sending
     pub part : Part
     pub logged : Among log sending
     pub sendable : IsSendable c.mtu sending
     pub is_part : Contains (cuts (length (datagram sending)) c.mtu) part
+    pub asked : IsAsked turns sending.bytes
     pub answered : part.more ≡ false → IsAnswered L c turns last sending.port sending.to sending.bytes
     pub is : bytes ≡ packet_for sending part
 
@@ -98,6 +106,25 @@ module _ (L : Ledger) (c : Config) (boots : IsConfig c) where
     pub numbered : Numbered log
     pub output : Each (IsGiven log turns s) (all_bytes s.output)
     pub gave : Each (IsGiven log turns s) (filter_map packet_out turns)
+
+  -- a packet of this send
+  pub record IsOf (log : List Sending) (turns : List Turn) (last : State) (x : Sending) (bytes : List ℕ) : Type 0 where
+    pub given : IsGiven log turns last bytes
+    pub of : given.sending ≡ x
+
+  -- the turn used an identification: its send is the newest of the log, and what it queued is of this send
+  pub record IsLonger (turns : List Turn) (old new : State) (older log : List Sending) : Type 0 where
+    pub newest : Sending
+    pub log_is : log ≡ newest ∷ older
+    pub used : new.next_id ≡ (old.next_id + 1) % 65536
+    pub queued : (made : List (List ℕ)) → all_bytes new.output ≡ all_bytes old.output ++ made
+        → Each (IsOf log turns new newest) made
+
+  -- one more turn
+  pub record IsNext (turns : List Turn) (turn : Turn) (old new : State) (was : IsRecorded turns old) : Type 0 where
+    pub now : IsRecorded (turns ++ turn ∷ []) new
+    pub log : ((new.next_id ≡ old.next_id) × (now.log ≡ was.log))
+        ⊎ IsLonger (turns ++ turn ∷ []) old new was.log now.log
 
   -- one more turn
   later_answered : (turns : List Turn) (turn : Turn) (old new : State) → IsEvent turn.event
@@ -126,26 +153,44 @@ module _ (L : Ledger) (c : Config) (boots : IsConfig c) where
     from_port = a.from_port;
   }
 
+  pub later_of : (log more : List Sending) (turns : List Turn) (turn : Turn) (old new : State) → IsEvent turn.event
+      → StepBy L old turn.event turn.reply new
+      → (x : Sending) (bytes : List ℕ) → ((y : Sending) → Among log y → Among more y) → IsOf log turns old x bytes
+      → IsOf more (turns ++ turn ∷ []) new x bytes
+  later_of log more turns turn old new range step x bytes up o = of_it (record {
+    sending = o.given.sending;
+    part = o.given.part;
+    logged = up o.given.sending o.given.logged;
+    sendable = o.given.sendable;
+    is_part = o.given.is_part;
+    asked = record {
+      fd = o.given.asked.fd;
+      to = o.given.asked.to;
+      reply = o.given.asked.reply;
+      among = Contains-append_left turns (turn ∷ []) _ o.given.asked.among;
+    };
+    answered =
+        λ e. later_answered turns turn old new range step o.given.sending.port o.given.sending.to
+        o.given.sending.bytes (o.given.answered e);
+    is = o.given.is;
+  }) o.of
+    where
+      of_it : (g : IsGiven more (turns ++ turn ∷ []) new bytes) → g.sending ≡ x
+          → IsOf more (turns ++ turn ∷ []) new x bytes
+      of_it g e = record { given = g; of = e }
+
   later_given : (log more : List Sending) (turns : List Turn) (turn : Turn) (old new : State) → IsEvent turn.event
       → StepBy L old turn.event turn.reply new
       → (bytes : List ℕ) → ((x : Sending) → Among log x → Among more x) → IsGiven log turns old bytes
       → IsGiven more (turns ++ turn ∷ []) new bytes
-  later_given log more turns turn old new range step bytes up g = record {
-    sending = g.sending;
-    part = g.part;
-    logged = up g.sending g.logged;
-    sendable = g.sendable;
-    is_part = g.is_part;
-    answered =
-        λ e. later_answered turns turn old new range step g.sending.port g.sending.to g.sending.bytes (g.answered e);
-    is = g.is;
-  }
+  later_given log more turns turn old new range step bytes up g =
+      (later_of log more turns turn old new range step g.sending bytes up (record { given = g; of = refl })).given
 
   -- a turn that changes neither queue nor log
-  quiet : (turns : List Turn) (turn : Turn) (old new : State) → IsRecorded turns old → IsEvent turn.event
+  quiet : (turns : List Turn) (turn : Turn) (old new : State) (was : IsRecorded turns old) → IsEvent turn.event
       → StepBy L old turn.event turn.reply new → IsKept c old.output old.next_id (value_of IpLocalout old.counters) new
-      → packet_out turn ≡ None → IsRecorded (turns ++ turn ∷ []) new
-  quiet turns turn old new recorded range step k none = record {
+      → packet_out turn ≡ None → IsNext turns turn old new was
+  quiet turns turn old new recorded range step k none = same k.id (record {
     log = recorded.log;
     kept = record { config = k.config; output = refl; id = refl; sends = refl; sockets = k.sockets };
     count = k.sends ∙ recorded.count;
@@ -161,7 +206,11 @@ module _ (L : Ledger) (c : Config) (boots : IsConfig c) where
         ∙ ap (λ o. filter_map packet_out turns ++ cons_option o []) none ∙ append-nil (filter_map packet_out turns)))
         (each-weaker (λ b g. later_given recorded.log recorded.log turns turn old new range step b (λ x h. h) g)
         (filter_map packet_out turns) recorded.gave);
-  }
+  }) refl
+    where
+      same : new.next_id ≡ old.next_id → (now : IsRecorded (turns ++ turn ∷ []) new) → now.log ≡ recorded.log
+          → IsNext turns turn old new recorded
+      same id now e = record { now = now; log = inl (id, e) }
 
   -- ---- a send
 
@@ -283,9 +332,9 @@ module _ (L : Ledger) (c : Config) (boots : IsConfig c) where
               never e = cc
 
       leaves : Send.Leaves L fd (packets named.config clusters x) x named reply new
-          → IsRecorded (turns ++ record { event = Send fd to bytes; reply = reply } ∷ []) new
+          → IsNext turns (record { event = Send fd to bytes; reply = reply }) before new recorded
       unfolding out link left x
-      leaves h = record {
+      leaves h = longer (record {
         log = x ∷ recorded.log;
         kept = record { config = after.config; output = refl; id = refl; sends = refl; sockets = after.sockets };
         count =
@@ -304,7 +353,7 @@ module _ (L : Ledger) (c : Config) (boots : IsConfig c) where
         gave =
             subst (Each Given) (sym (filter_map-append packet_out turns (turn ∷ [])
             ∙ append-nil (filter_map packet_out turns))) (each-weaker up (filter_map packet_out turns) recorded.gave);
-      }
+      }) refl
         where
           turn : Turn
           turn = record { event = Send fd to bytes; reply = reply }
@@ -388,30 +437,41 @@ module _ (L : Ledger) (c : Config) (boots : IsConfig c) where
               ap (λ b. cuts (length (datagram x)) (cond b 1536 named.config.mtu)) e
               ∙ ap (λ (cc : Config). cuts (length (datagram x)) cc.mtu) got.0.config
 
-          on_link : (b : Bool) → is_looped named.config x.to.ip ≡ b
-              → Each Given (take OUTPUT_QUEUE_PACKETS (all_bytes before.output ++ all_bytes link_out))
-          on_link true e =
-              rw e (each-take Given OUTPUT_QUEUE_PACKETS (all_bytes before.output ++ [])
-              (each-append Given (all_bytes before.output) [] held tt))
-          on_link false e =
-              let is_out : all_bytes link_out ≡ map (packet_for x) parts =
+          link_is : is_looped named.config x.to.ip ≡ false → all_bytes link_out ≡ map (packet_for x) parts
+          link_is e =
               ap (λ b. all_bytes (cond b [] (packets named.config clusters x))) e
-              ∙ bytes_of_packets (entries_on clusters (sent (length bytes))) (packet_for x) parts in
+              ∙ bytes_of_packets (entries_on clusters (sent (length bytes))) (packet_for x) parts
+
+          split : is_looped named.config x.to.ip ≡ false → IsSplit parts
+          split e =
               let some : 0 < length (datagram x) = omega (arith, length-udp x.source x.to.ip port x.to.port bytes) in
-              subst (λ bs. Each Given (take OUTPUT_QUEUE_PACKETS (all_bytes before.output ++ bs))) (sym is_out)
-              (each_queued Given (all_bytes before.output) (packet_for x) parts held
-              (subst IsSplit (sym (mtu_is e))
-              (cuts_split (length (datagram x)) c.mtu some (omega (arith, boots.least_mtu))))
-              (λ p is ends. record {
-                sending = x;
-                part = p;
-                logged = inl refl;
-                sendable = sendable e;
-                is_part = subst (λ ps. Contains ps p) (mtu_is e) is;
-                answered = λ last. answered_at p ends last e;
-                is = refl;
-              }))
+              subst IsSplit (sym (mtu_is e))
+              (cuts_split (length (datagram x)) c.mtu some (omega (arith, boots.least_mtu)))
+
+          of_this : is_looped named.config x.to.ip ≡ false → (p : Part) → Contains parts p
+              → (p.more ≡ true) ⊎ (length (all_bytes before.output) + length parts ≤ OUTPUT_QUEUE_PACKETS)
+              → IsOf (x ∷ recorded.log) (turns ++ turn ∷ []) new x (packet_for x p)
+          of_this e p is ends = named_of (record {
+            sending = x;
+            part = p;
+            logged = inl refl;
+            sendable = sendable e;
+            is_part = subst (λ ps. Contains ps p) (mtu_is e) is;
+            asked = record {
+              fd = fd;
+              to = to;
+              reply = reply;
+              among = Contains-append_right turns (turn ∷ []) turn
+                  (All-head (Contains (turn ∷ [])) turn [] (All-contains_itself (turn ∷ [])));
+            };
+            answered = λ last. answered_at p ends last e;
+            is = refl;
+          }) refl
             where
+              named_of : (g : IsGiven (x ∷ recorded.log) (turns ++ turn ∷ []) new (packet_for x p)) → g.sending ≡ x
+                  → IsOf (x ∷ recorded.log) (turns ++ turn ∷ []) new x (packet_for x p)
+              named_of g e = record { given = g; of = e }
+
               answered_at : (p : Part) → (p.more ≡ true)
                   ⊎ (length (all_bytes before.output) + length parts ≤ OUTPUT_QUEUE_PACKETS) → p.more ≡ false
                   → is_looped named.config x.to.ip ≡ false
@@ -423,6 +483,16 @@ module _ (L : Ledger) (c : Config) (boots : IsConfig c) where
               answered_at p (inr fit) last e =
                   answered (omega (arith, length-map before.output (λ (item : Item). item.bytes))) e
 
+          on_link : (b : Bool) → is_looped named.config x.to.ip ≡ b
+              → Each Given (take OUTPUT_QUEUE_PACKETS (all_bytes before.output ++ all_bytes link_out))
+          on_link true e =
+              rw e (each-take Given OUTPUT_QUEUE_PACKETS (all_bytes before.output ++ [])
+              (each-append Given (all_bytes before.output) [] held tt))
+          on_link false e =
+              subst (λ bs. Each Given (take OUTPUT_QUEUE_PACKETS (all_bytes before.output ++ bs))) (sym (link_is e))
+              (each_queued Given OUTPUT_QUEUE_PACKETS (all_bytes before.output) (packet_for x) parts held (split e)
+              (λ p is ends. (of_this e p is ends).given))
+
           after : IsKept c (take OUTPUT_QUEUE_PACKETS
               (before.output ++ to_link named.config x.to.ip (packets named.config clusters x))) ((before.next_id + 1) %
               65536) (more_by 1 (value_of IpLocalout before.counters)) new
@@ -430,6 +500,50 @@ module _ (L : Ledger) (c : Config) (boots : IsConfig c) where
               kept_all L Next (First.closed L c (take OUTPUT_QUEUE_PACKETS (before.output ++ link))
               ((before.next_id + 1) % 65536) (more_by 1 (value_of IpLocalout before.counters)) boots) (to_self
               named.config x.to.ip (packets named.config clusters x)) (enqueued link left) new queued_is h.0
+
+          -- what this send added
+          queued : (made : List (List ℕ)) → all_bytes new.output ≡ all_bytes before.output ++ made
+              → Each (IsOf (x ∷ recorded.log) (turns ++ turn ∷ []) new x) made
+          queued made q =
+              subst (Each Of) (sym (added OUTPUT_QUEUE_PACKETS (all_bytes before.output) (all_bytes link_out) made
+              (sym q ∙ ap all_bytes after.output
+              ∙ sym (take-map (λ (item : Item). item.bytes) OUTPUT_QUEUE_PACKETS (before.output ++ link_out))
+              ∙ ap (take OUTPUT_QUEUE_PACKETS)
+              (map-append (λ (item : Item). item.bytes) before.output link_out))))
+              (by_link (is_looped named.config x.to.ip) refl)
+            where
+              Of : List ℕ → Type 0
+              Of b = IsOf (x ∷ recorded.log) (turns ++ turn ∷ []) new x b
+
+              left_over : ℕ
+              left_over = OUTPUT_QUEUE_PACKETS - length (all_bytes before.output)
+
+              by_link : (b : Bool) → is_looped named.config x.to.ip ≡ b
+                  → Each Of (take left_over (all_bytes link_out))
+              by_link true e = rw e (each-take Of left_over [] tt)
+              by_link false e =
+                  subst (λ bs. Each Of (take left_over bs)) (sym (link_is e))
+                  (each_queued Of left_over [] (packet_for x) parts tt (split e)
+                  (λ p is ends. of_this e p is (fits e ends)))
+                where
+                  fits : {more : Type 0} → is_looped named.config x.to.ip ≡ false
+                      → more ⊎ (length {A = List ℕ} [] + length parts ≤ left_over)
+                      → more ⊎ (length (all_bytes before.output) + length parts ≤ OUTPUT_QUEUE_PACKETS)
+                  fits e (inl more) = inl more
+                  fits e (inr h) = let s : IsSplit parts = split e in
+                      inr (omega (arith, h, ap length s.are, length-append s.front (s.last ∷ [])))
+
+          longer : (now : IsRecorded (turns ++ turn ∷ []) new) → now.log ≡ x ∷ recorded.log
+              → IsNext turns turn before new recorded
+          longer now e = record {
+            now = now;
+            log = inr (record {
+              newest = x;
+              log_is = e;
+              used = after.id;
+              queued = λ made q. subst (λ log. Each (IsOf log (turns ++ turn ∷ []) new x) made) (sym e) (queued made q);
+            });
+          }
 
   -- ---- every step
 
@@ -459,7 +573,7 @@ module _ (L : Ledger) (c : Config) (boots : IsConfig c) where
 
     silent : (event : Event) → IsEvent event → StepBy L old event reply new → Now new
         → packet_out (record { event = event; reply = reply }) ≡ None
-        → IsRecorded (turns ++ record { event = event; reply = reply } ∷ []) new
+        → IsNext turns (record { event = event; reply = reply }) old new recorded
     silent event range step k e = quiet turns (record { event = event; reply = reply }) old new recorded range step k e
 
     refuses : (errno : Errno) → Refuses errno old reply new → Now new
@@ -470,9 +584,9 @@ module _ (L : Ledger) (c : Config) (boots : IsConfig c) where
     on_fd fd Call h goes = by_case h (λ e r. refuses _ r) goes
 
     transmits : StepBy L old Transmit reply new → (output : List Item) → old.output ≡ output
-        → Transmits output old reply new → IsRecorded (turns ++ record { event = Transmit; reply = reply } ∷ []) new
+        → Transmits output old reply new → IsNext turns (record { event = Transmit; reply = reply }) old new recorded
     transmits step [] e h = silent Transmit tt step (subst Now (sym h.1) recorded.kept) (ap (given Transmit) h.0)
-    transmits step (item ∷ later) e h = record {
+    transmits step (item ∷ later) e h = same (ap (λ (s : State). s.next_id) h.1) (record {
       log = recorded.log;
       kept =
           subst (λ s. IsKept c s.output s.next_id (value_of IpLocalout s.counters) s) (sym h.1)
@@ -496,10 +610,14 @@ module _ (L : Ledger) (c : Config) (boots : IsConfig c) where
           ∙ ap (λ r. filter_map packet_out turns ++ cons_option (given Transmit r) []) h.0))
           (each-append (IsGiven recorded.log (turns ++ turn ∷ []) new) (filter_map packet_out turns) (item.bytes ∷ [])
           (each-weaker up (filter_map packet_out turns) recorded.gave) (held.0, tt));
-    }
+    }) refl
       where
         turn : Turn
         turn = record { event = Transmit; reply = reply }
+
+        same : new.next_id ≡ old.next_id → (now : IsRecorded (turns ++ turn ∷ []) new) → now.log ≡ recorded.log
+            → IsNext turns turn old new recorded
+        same id now e = record { now = now; log = inl (id, e) }
 
         up : (b : List ℕ) → IsGiven recorded.log turns old b → IsGiven recorded.log (turns ++ turn ∷ []) new b
         up b g = later_given recorded.log recorded.log turns turn old new tt step b (λ x i. i) g
@@ -511,7 +629,7 @@ module _ (L : Ledger) (c : Config) (boots : IsConfig c) where
 
     sends : (fd : ℕ) (to : Option Addr) (bytes : List ℕ) → IsEvent (Send fd to bytes)
         → StepBy L old (Send fd to bytes) reply new
-        → IsRecorded (turns ++ record { event = Send fd to bytes; reply = reply } ∷ []) new
+        → IsNext turns (record { event = Send fd to bytes; reply = reply }) old new recorded
     unfolding x
     sends fd to bytes is step = by_case step
         (λ e r. silent (Send fd to bytes) is step (refuses _ r) refl)
@@ -533,7 +651,7 @@ module _ (L : Ledger) (c : Config) (boots : IsConfig c) where
         (λ errno e r. silent (Send fd to bytes) is step (refuses errno r) refl))
 
     pub recorded_step : (event : Event) → IsEvent event → StepBy L old event reply new
-        → IsRecorded (turns ++ record { event = event; reply = reply } ∷ []) new
+        → IsNext turns (record { event = event; reply = reply }) old new recorded
     recorded_step Open is h =
         silent Open is h (First.opens L c old.output old.next_id (value_of IpLocalout old.counters) boots old new reply
         recorded.kept h) refl
@@ -560,6 +678,10 @@ module _ (L : Ledger) (c : Config) (boots : IsConfig c) where
         silent (Set_option fd option on) is h
         (on_fd fd _ h (λ me at r. First.sets L c old.output old.next_id (value_of IpLocalout old.counters) boots fd
         option on old new reply recorded.kept r)) refl
+    recorded_step (Set_limit fd limit) is h =
+        silent (Set_limit fd limit) is h
+        (on_fd fd _ h (λ me at r. First.limits L c old.output old.next_id (value_of IpLocalout old.counters) boots fd
+        limit old new reply recorded.kept r)) refl
     recorded_step (Comes packet) is h =
         silent (Comes packet) is h (First.comes_in L c old.output old.next_id (value_of IpLocalout old.counters) boots
         packet old new recorded.kept h.1) refl
@@ -583,10 +705,10 @@ module _ (L : Ledger) (c : Config) (boots : IsConfig c) where
   recorded_run before s (turn ∷ turns) new recorded leads (is, mid, step, later) =
       subst (λ ts. IsRecorded ts new) (append_assoc before (turn ∷ []) turns)
       (recorded_run (before ++ turn ∷ []) mid turns new
-      (recorded_step before s mid turn.reply recorded leads turn.event is step)
+      (recorded_step before s mid turn.reply recorded leads turn.event is step).now
       (one_more_turn L (boot c) s mid before turn leads is step) later)
 
-  pub recorded_boot : IsRecorded [] (boot c)
+  unfoldable pub recorded_boot : IsRecorded [] (boot c)
   recorded_boot = record {
     log = [];
     kept = record { config = refl; output = refl; id = refl; sends = refl; sockets = tt };

@@ -1,9 +1,9 @@
 -- The second machine: from the first's address it holds only what the first sent.
-use Rattle.std.proofs.Common.{◌≡◌, ◌≢◌, ℕ, ◌≤◌, Bool, true, false, List, [], ◌∷◌, length, take, drop, refl, sym, ◌∙◌, ap, subst, ◌⊎◌, inl, inr, arith, Option, Some, None, cond}
+use Rattle.std.proofs.Common.{◌≡◌, ◌≢◌, ℕ, ◌≤◌, ◌<◌, Bool, true, false, List, [], ◌∷◌, length, take, drop, refl, sym, ◌∙◌, ap, subst, ◌⊎◌, inl, inr, arith, Option, Some, None, cond}
 use Rattle.std.specs.Prelude.{◌==◌, ◌&&◌, not, nat_lt, Contains, filter, option_to_list}
 use Rattle.std.specs.List.{AllByRecursion as Each}
 use Rattle.std.specs.Option.{option_or}
-use Rattle.std.proofs.lemmas.Bool.{or_parts, eqb-true, ltb-false, and_parts}
+use Rattle.std.proofs.lemmas.Bool.{or_parts, or_cases, eqb-true, ltb-true, ltb-false, and_parts}
 use Rattle.std.proofs.lemmas.Option.{none-some}
 use Rattle.flat_model.specs.declared.lookup_key.LookupKey.{LookupKey}
 use Rattle.flat_model.specs.Amounts.Weight.{Weight, Item, mbuf, ◌⊕◌}
@@ -32,19 +32,23 @@ use Rattle.flat_wire.proofs.Stretch.{part_is_stretch}
 use Rattle.flat_wire.proofs.Decode.{port_read, to_read, bytes_read}
 
 -- a packet without a fault has a header
-header_long : (bytes : List ℕ) → head_fault bytes ≡ None → 20 ≤ length bytes
+pub header_long : (bytes : List ℕ) → head_fault bytes ≡ None → 20 ≤ length bytes
 header_long bytes passed = go (nat_lt (length bytes) 20) refl
   where
     go : (b : Bool) → nat_lt (length bytes) 20 ≡ b → 20 ≤ length bytes
     go false long = ltb-false (length bytes) 20 long
     go true short = absurd (none-some _ (sym (rw short at passed)))
 
+-- more parts follow, or some precede: such parts are fragments
+abbrev pub IsFrag : Part → Type 0
+IsFrag p = (p.more ≡ true) ⊎ (0 < p.offset)
+
 module _ (S A B mtu : ℕ) (P : Sending → Part → Type 0) (Answered : Sending → Type 0) (M : Ledger) where
   -- the packets that the first machine sent
   pub record IsLog : Type 0 where
     pub sendable : (x : Sending) (p : Part) → P x p → IsSendable mtu x
     pub part : (x : Sending) (p : Part) → P x p → Contains (cuts (length (datagram x)) mtu) p
-    pub unique : (x y : Sending) (p q : Part) → P x p → P y q → x.id ≡ y.id → x ≡ y
+    pub unique : (x y : Sending) (p q : Part) → P x p → P y q → IsFrag p → IsFrag q → x.id ≡ y.id → x ≡ y
     pub answered : (x : Sending) (p : Part) → P x p → p.more ≡ false → Answered x
 
   abbrev pub IsHere : ℕ → Type 0
@@ -74,7 +78,7 @@ module _ (S A B mtu : ℕ) (P : Sending → Part → Type 0) (Answered : Sending
     pub closed : (offset : ℕ) (h : Held) → bytes offset ≡ Some h → h.piece.more ≡ false → Answered x
 
   pub record IsGoodKey (k : Key) (bytes : Map) : Type 0 where
-    pub of : k.source ≡ S → k.protocol ≡ 17 → (x : Sending) (p : Part) → P x p → x.id ≡ k.id → IsGoodMap x bytes
+    pub of : k.source ≡ S → k.protocol ≡ 17 → (x : Sending) (p : Part) → P x p → IsFrag p → x.id ≡ k.id → IsGoodMap x bytes
 
   abbrev pub IsGoodUnfinished : Unfinished → Type 0
   IsGoodUnfinished u = IsGoodKey u.key u.bytes
@@ -294,6 +298,7 @@ module _ (S A B mtu : ℕ) (P : Sending → Part → Type 0) (Answered : Sending
       pub sending : Sending
       pub part : Part
       pub given : P sending part
+      pub frag : IsFrag part
       pub id : sending.id ≡ k.id
       pub goes_to : sending.to.ip ≡ k.destination
       pub here : IsHere k.destination
@@ -314,8 +319,8 @@ module _ (S A B mtu : ℕ) (P : Sending → Part → Type 0) (Answered : Sending
     good_at k s u good e =
         let found = each-find IsGoodUnfinished (is_key k) s.unfinished u good.unfinished e in
         record {
-          of = λ from udp x p given id. found.0.of (key_source k u found.1 ∙ from)
-              (key_protocol k u found.1 ∙ udp) x p given (id ∙ sym (key_id k u found.1));
+          of = λ from udp x p given frag id. found.0.of (key_source k u found.1 ∙ from)
+              (key_protocol k u found.1 ∙ udp) x p given frag (id ∙ sym (key_id k u found.1));
         }
 
     good_set : (k : Key) (bytes : Map) (s : State) → IsGood ports s → IsGoodKey k bytes
@@ -332,8 +337,8 @@ module _ (S A B mtu : ℕ) (P : Sending → Part → Type 0) (Answered : Sending
         go u g false e = g
         go u g true e =
             record {
-              of = λ from udp x p given id. is.of (sym (key_source k u e) ∙ from) (sym (key_protocol k u e) ∙ udp)
-                  x p given (id ∙ key_id k u e);
+              of = λ from udp x p given frag id. is.of (sym (key_source k u e) ∙ from) (sym (key_protocol k u e) ∙ udp)
+                  x p given frag (id ∙ key_id k u e);
             }
 
     good_end : (k : Key) (s : State) → IsGood ports s → IsGood ports (Arrival.counts_reassembled (end_unfinished k s))
@@ -345,7 +350,7 @@ module _ (S A B mtu : ℕ) (P : Sending → Part → Type 0) (Answered : Sending
     }
 
     good_begun : (k : Key) → IsGoodKey k empty
-    good_begun k = record { of = λ from udp x p given id. nothing_held x }
+    good_begun k = record { of = λ from udp x p given frag id. nothing_held x }
       where
         nothing_held : (x : Sending) → IsGoodMap x empty
         nothing_held x = record {
@@ -375,8 +380,8 @@ module _ (S A B mtu : ℕ) (P : Sending → Part → Type 0) (Answered : Sending
           → (k.source ≡ S → k.protocol ≡ 17 → IsPartOf k f) → IsGoodKey k (overlay bytes f)
       good_overlay k f bytes good is =
           record {
-            of = λ from udp x p given id. go x (good.of from udp x p given id) (is from udp)
-                (log.unique (is from udp).sending x (is from udp).part p (is from udp).given given
+            of = λ from udp x p given frag id. go x (good.of from udp x p given frag id) (is from udp)
+                (log.unique (is from udp).sending x (is from udp).part p (is from udp).given given (is from udp).frag frag
                 ((is from udp).id ∙ sym id));
           }
         where
@@ -404,7 +409,7 @@ module _ (S A B mtu : ℕ) (P : Sending → Part → Type 0) (Answered : Sending
               → IsWholeOf k.destination (bytes_below (overlay u.bytes f) n)
           whole n w from udp =
               let o : IsPartOf k f = is from udp in
-              let g : IsGoodMap o.sending (overlay u.bytes f) = inserted.of from udp o.sending o.part o.given o.id in
+              let g : IsGoodMap o.sending (overlay u.bytes f) = inserted.of from udp o.sending o.part o.given o.frag o.id in
               record {
                 sending = o.sending;
                 answered = whole_closed (overlay u.bytes f) n w (Answered o.sending) g.closed;
@@ -478,17 +483,27 @@ module _ (S A B mtu : ℕ) (P : Sending → Part → Type 0) (Answered : Sending
         here = good_here old (head_of item.bytes).destination good ours
             (λ e. sendable.not_loopback (to_is ∙ e)) (λ e. sendable.not_limited_broadcast (to_is ∙ e))
 
-        part_read : (w : Weight) → IsPartOf (Arrival.key_of (head_of item.bytes))
+        frag_read : Arrival.is_fragment (head_of item.bytes) ≡ true → IsFrag p
+        frag_read e = go (or_cases (head_of item.bytes).more (nat_lt 0 (head_of item.bytes).offset) e)
+          where
+            go : ((head_of item.bytes).more ≡ true) ⊎ (nat_lt 0 (head_of item.bytes).offset ≡ true) → IsFrag p
+            go (inl h) = inl (sym (ap (λ (h : Head). h.more) head_is) ∙ h)
+            go (inr h) =
+                let some : 0 < (head_of item.bytes).offset = ltb-true 0 (head_of item.bytes).offset h in
+                inr (omega (arith, ap (λ (h : Head). h.offset) head_is, some))
+
+        part_read : Arrival.is_fragment (head_of item.bytes) ≡ true → (w : Weight) → IsPartOf (Arrival.key_of (head_of item.bytes))
             (record {
               offset = (head_of item.bytes).offset;
               bytes = (Arrival.carried item).bytes;
               more = (head_of item.bytes).more;
               weight = w;
             })
-        part_read w = record {
+        part_read e w = record {
           sending = x;
           part = p;
           given = given;
+          frag = frag_read e;
           id = sym (ap (λ (h : Head). h.id) head_is);
           goes_to = to_is;
           here = here;
@@ -519,7 +534,7 @@ module _ (S A B mtu : ℕ) (P : Sending → Part → Type 0) (Answered : Sending
           by_choice h
           (λ ours c. by_choice c
           (λ e f. good_fragment origin held (head_of item.bytes) (Arrival.carried item) old new good
-          (λ w from udp. let o = is (named from udp) in part_read item old good o.0 o.1 o.2 o.3 ours w) f)
+          (λ w from udp. let o = is (named from udp) in part_read item old good o.0 o.1 o.2 o.3 ours e w) f)
           (λ e w. good_whole held _ _ _ (Arrival.carried item) old new good
           (λ from udp. let o = is (named from udp) in whole_read item old good o.0 o.1 o.2 o.3 ours e) w))
           (λ e g. good_ends old good new _ g)

@@ -7,7 +7,7 @@ use Rattle.std.proofs.lemmas.Option.{none-some, same_Some}
 use Rattle.flat_model.specs.Amounts.Weight.{Item, nothing}
 use Rattle.flat_model.specs.Amounts.Layout.{LayoutEntry}
 use Rattle.flat_model.specs.Fragments.Cuts.{Part}
-use Rattle.flat_model.specs.Machine.Event.{Event, Reply, Open, Bind, Connect, Send, Receive, Close, Set_option, Comes, Transmit, Tick, Ask_counters, Ask_usage}
+use Rattle.flat_model.specs.Machine.Event.{Event, Reply, Open, Bind, Connect, Send, Receive, Close, Set_option, Set_limit, Comes, Transmit, Tick, Ask_counters, Ask_usage}
 use Rattle.flat_model.specs.declared.errno.Errno.{Errno}
 use Rattle.flat_model.specs.declared.option.Opt.{Opt}
 use Rattle.flat_model.specs.declared.option.Opt.TheVariants.{Broadcast, ReusePort}
@@ -146,7 +146,7 @@ module _ (S A B mtu : ℕ) (P : Sent.Sending → Part → Type 0) (Answered : Se
     inr refl,
   )
 
-  found : (ports : ℕ → Option ℕ) (s : State) (fd : ℕ) (me : Socket) → IsGood ports s → socket_at fd s ≡ Some me
+  pub found : (ports : ℕ → Option ℕ) (s : State) (fd : ℕ) (me : Socket) → IsGood ports s → socket_at fd s ≡ Some me
       → IsGoodSocket ports me × (me.port ≡ ports fd)
   found ports s fd me good e =
       let f = each-find (IsGoodSocket ports) (λ socket. socket.fd == fd) s.sockets me good.sockets e in
@@ -163,7 +163,7 @@ module _ (S A B mtu : ℕ) (P : Sent.Sending → Part → Type 0) (Answered : Se
       go (inl h) = inner (or_cases (ip == c.addr) _ h)
       go (inr h) = λ from. not_loopback (sym (eqb-true ip loopback h) ∙ from)
 
-  source_not : (c : Config) (me : Socket) (to : ℕ) → c.addr ≡ A → ((ip : ℕ) → me.local ≡ Some ip → ip ≢ S)
+  pub source_not : (c : Config) (me : Socket) (to : ℕ) → c.addr ≡ A → ((ip : ℕ) → me.local ≡ Some ip → ip ≢ S)
       → source_for c me to ≢ S
   source_not c me to a local = go me.local refl
     where
@@ -334,6 +334,17 @@ module _ (S A B mtu : ℕ) (P : Sent.Sending → Part → Type 0) (Answered : Se
             local = g.local;
           }
 
+  limits : (fd limit : ℕ) (old new : State) (reply : Reply) → Good old → Calls.SetsLimit fd limit old reply new
+      → Good new
+  limits fd limit old new reply (ports, good) h =
+      subst Good (sym h.1) (changed ports old fd (ports fd) (λ socket. record socket { limit = limit }) good
+      (λ socket g t. record {
+        port = g.port ∙ ap ports (eqb-true socket.fd fd t)
+            ∙ sym (set_port_here ports fd (ports fd) socket.fd t);
+        queue = g.queue;
+        local = g.local;
+      }))
+
   -- ---- sends
 
   -- a packet whose source isn't the first machine's address is good
@@ -464,6 +475,8 @@ module _ (S A B mtu : ℕ) (P : Sent.Sending → Part → Type 0) (Answered : Se
       on_socket fd old new reply _ good (λ me at g. closes fd old new reply good g) h
   steps old new (Set_option fd option on) reply good is h =
       on_socket fd old new reply _ good (λ me at g. sets fd option on old new reply good g) h
+  steps old new (Set_limit fd limit) reply good is h =
+      on_socket fd old new reply _ good (λ me at g. limits fd limit old new reply good g) h
   steps old new (Comes packet) reply good is h = comes_in packet old new good is h.1
   steps old new Transmit reply good is h = transmits old.output old new reply good h
   steps old new Tick reply good is h = subst Good (sym h.1) (ticks old good)

@@ -6,4 +6,7 @@
 
 mod laws;
 
-pub use laws::{overlay_order, received_law, wire_law};
+pub use laws::{
+    age_law, conservation_law, overlay_order, pace_law, progress_law, queue_law, received_law,
+    wire_law, wire_law_for_ever, wire_law_of_whole,
+};

@@ -1,4 +1,4 @@
-//! The sum of one part of the bytes, as words in memory order: whole blocks by SIMD lanes.
+//! The sum of one part of the bytes, as words in memory order: of each 256 bytes, half in SIMD lanes.
 ghost use Rattle.std.specs.Prelude.{◌≡◌, ◌+◌, ◌*◌, ◌%◌, ◌<◌, ◌≤◌, ◌^◌, length};
 ghost use Rattle.flat_model.specs.Packets.Checksum.{fold16};
 ghost use Rattle.in_cksum.specs.Inside.{AddsNext, AddsWords, CanCarry, lanes_total, swapped_sum};

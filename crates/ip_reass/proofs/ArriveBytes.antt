@@ -4,12 +4,14 @@ use Rattle.std.proofs.Common.{◌≡◌, ℕ, ◌+◌, ◌-◌, ◌<◌, ◌≤�
 use Rattle.std.specs.Prelude.{◌&&◌, nat_le}
 use Rattle.std.proofs.lemmas.Bool.{false≢true, true≢false, le-leb, leb-true, ltb-true, eqb-true, cond-false}
 use Rattle.std.proofs.lemmas.List.{append-nil, drop-take, length-take, take-append-drop, take_all}
+use Rattle.flat_model.specs.Machine.Fate.{told}
+use Rattle.flat_model.specs.declared.fate.Fate.{Fate}
 use Rattle.flat_model.specs.Amounts.Weight.{Weight, nothing, ◌⊕◌}
 use Rattle.flat_model.specs.Machine.State.{State}
 use Rattle.flat_model.specs.Machine.Count.{counts_more}
 use Rattle.flat_model.specs.Machine.Ledger as state
 use Rattle.flat_model.specs.Machine.Ledger.{exact_ledger, has_enough, need_mbufs}
-use Rattle.flat_model.specs.Machine.Arrival.{Joins, counts_fragment, is_bad_fragment}
+use Rattle.flat_model.specs.Machine.Arrival.{counts_fragment, is_bad_fragment, JoinsAs}
 use Rattle.flat_model.specs.declared.counters.Counters.{Counters}
 use Rattle.flat_model.specs.declared.counter.Counter.TheVariants.{IpFragments}
 use Rattle.flat_model.specs.declared.counters.Why.{Why}
@@ -250,8 +252,9 @@ module _ (p m : PoolView) (r : TableView) (c : Counters) (d : Counters) (packet 
       ap (λ (es : List Entry). let f : QueuedFragment = record { offset = h.offset; more = h.more; entries = es } in f)
       made.entries
 
-  module _ (rest : State) (held : Weight) (new : State) (acc : IsAccounted p (with_waiting p r.datagrams c rest) held)
-      (joins : Joins exact_ledger held (key_in h) (fragment_of (arrived m n h.offset h.more))
+  module _ (fate : Fate) (rest : State) (held : Weight) (new : State)
+      (acc : IsAccounted p (with_waiting p r.datagrams c rest) held)
+      (joins : JoinsAs exact_ledger (told fate) held (key_in h) (fragment_of (arrived m n h.offset h.more))
       (with_waiting m r.datagrams d rest) new) where
     abbrev old : State
     old = counts_fragment (with_waiting p r.datagrams c rest)
@@ -265,33 +268,36 @@ module _ (p m : PoolView) (r : TableView) (c : Counters) (d : Counters) (packet 
         λ i. le-leb 1 (state.free_mbufs old (held ⊕ w)) some i
         && le-leb 0 (state.free_clusters old (held ⊕ w)) (omega arith) i
 
-    joins_now : Joins exact_ledger held (key_in h) (fragment_of (fragment_carried (as_stored packet k) h)) old new
+    joins_now : JoinsAs exact_ledger (told fate) held (key_in h)
+        (fragment_of (fragment_carried (as_stored packet k) h)) old new
     joins_now =
-        subst (λ (f : QueuedFragment). Joins exact_ledger held (key_in h) (fragment_of f) old new) carried
-        (subst (λ (s : State). Joins exact_ledger held (key_in h) (fragment_of (arrived m n h.offset h.more)) s new)
+        subst (λ (f : QueuedFragment). JoinsAs exact_ledger (told fate) held (key_in h) (fragment_of f) old new) carried
+        (subst (λ (s : State). JoinsAs exact_ledger (told fate) held (key_in h)
+        (fragment_of (arrived m n h.offset h.more)) s new)
         (λ i. record rest { unfinished = st.shows i; counters = counts i }) joins)
 
-    by_size : (is_large : Bool) → Joins exact_ledger held (key_in h)
+    by_size : (is_large : Bool) → JoinsAs exact_ledger (told fate) held (key_in h)
         (fragment_of (fragment_carried (stored_by is_large packet k) h)) old new
-        → ChainArrives held h (stored_by is_large packet k) (with_waiting p r.datagrams c rest) new
+        → ChainArrives (told fate) held h (stored_by is_large packet k) (with_waiting p r.datagrams c rest) new
     by_size true joined_now =
-        arrives_cluster held (with_waiting p r.datagrams c rest) new h (in_cluster packet k) fits.good refl (record {
+        arrives_cluster fate held (with_waiting p r.datagrams c rest) new h (in_cluster packet k) fits.good refl
+        (record {
           answer = true;
           mid = old;
           has_buffers = inl (sym one_more, refl);
           goes_on = record { yes = λ _. joined_now; no = λ e. absurd (true≢false e) };
         })
     by_size false joined_now =
-        arrives_plain held (with_waiting p r.datagrams c rest) new h (in_mbufs packet) fits.good refl joined_now
+        arrives_plain fate held (with_waiting p r.datagrams c rest) new h (in_mbufs packet) fits.good refl joined_now
 
-    arrives : ChainArrives held h (as_stored packet k) (with_waiting p r.datagrams c rest) new
+    arrives : ChainArrives (told fate) held h (as_stored packet k) (with_waiting p r.datagrams c rest) new
     arrives = by_size (nat_le 208 (length packet)) joins_now
 
   pub at_once : TakesFree p packet k
-      → ((rest : State) (held : Weight) (new : State)
+      → ((fate : Fate) (rest : State) (held : Weight) (new : State)
       → IsAccounted m (with_waiting m r.datagrams d rest) (held ⊕ weight_at m n)
-      → GoesOn held q result (with_waiting q t.datagrams b rest) new
-      → Joins exact_ledger held (key_in h) (fragment_of (arrived m n h.offset h.more))
+      → GoesOn (told fate) held q result (with_waiting q t.datagrams b rest) new
+      → JoinsAs exact_ledger (told fate) held (key_in h) (fragment_of (arrived m n h.offset h.more))
       (with_waiting m r.datagrams d rest)
       new)
       → HasLayout m r.datagrams (key_in h) (arrived m n h.offset h.more) result q t.datagrams
@@ -300,7 +306,8 @@ module _ (p m : PoolView) (r : TableView) (c : Counters) (d : Counters) (packet 
   at_once free step layout cause = record {
     cluster = k;
     free = free;
-    step = λ rest held new acc goes. arrives rest held new acc (step rest held new (mid_accounts rest held acc) goes);
+    step = λ fate rest held new acc goes. arrives fate rest held new acc
+        (step fate rest held new (mid_accounts rest held acc) goes);
     layout = record {
       waited = layout.waited;
       before = subst (λ (qs : List KeyedQueue). WaitOrNone qs layout.waited) st.rows layout.before;

@@ -3,13 +3,15 @@ use Rattle.std.proofs.Common.{◌≡◌, ℕ, zero, suc, ◌+◌, ◌-◌, ◌<�
 use Rattle.std.specs.Prelude.{slice_get}
 use Rattle.std.proofs.lemmas.Bool.{false≢true, ltb-false, or_parts, cond-true, cond-false}
 use Rattle.std.proofs.lemmas.Option.{none-some}
+use Rattle.flat_model.specs.Machine.Fate.{told}
+use Rattle.flat_model.specs.declared.fate.Fate.{Fate}
 use Rattle.flat_model.specs.Amounts.Weight.{Weight, Item, SameWeight, nothing, mbuf, ◌⊕◌, all_of, times}
 use Rattle.flat_model.specs.Fragments.Whole.{weight_of_pieces}
 use Rattle.flat_model.specs.Fragments.Overlay.{Fragment}
 use Rattle.flat_model.specs.Machine.State.{State, Socket, Key, Unfinished, is_key, begun, begin_unfinished, ends}
 use Rattle.flat_model.specs.Machine.Count.{counted, counts_more}
 use Rattle.flat_model.specs.Machine.Ledger.{exact_ledger, HasBuffers, need_mbufs}
-use Rattle.flat_model.specs.Machine.Arrival.{Tests, Inserts, Joins, is_bad_fragment, counts_fragment}
+use Rattle.flat_model.specs.Machine.Arrival.{is_bad_fragment, counts_fragment, JoinsAs, InsertsAs, TestsAs, Ended}
 use Rattle.flat_model.specs.declared.counters.Counters.{Counters}
 use Rattle.flat_model.specs.declared.counter.Counter.TheVariants.{IpFragments}
 use Rattle.flat_model.specs.declared.counters.Why.TheVariants.{BadFragment, NoBufs}
@@ -138,17 +140,18 @@ carried_bytes v =
     pulled_bytes false = refl
 
 -- ---- the three cases of `ChainArrives`
-module _ (held : Weight) (old new : State) (h : IpHead) (v : ChainView) where
+module _ (fate : Fate) (held : Weight) (old new : State) (h : IpHead) (v : ChainView) where
   -- a malformed fragment
-  pub arrives_bad : is_bad_fragment (flat_head h) (h.total - 20) ≡ true → new ≡ ends BadFragment old
-      → ChainArrives held h v old new
+  pub arrives_bad : is_bad_fragment (flat_head h) (h.total - 20) ≡ true
+      → told fate (Ended BadFragment) new (ends BadFragment old)
+      → ChainArrives (told fate) held h v old new
   arrives_bad bad is = record { yes = λ e. is; no = λ e. absurd (false≢true (sym e ∙ bad)) }
 
   -- the first mbuf is a cluster
   pub arrives_cluster : is_bad_fragment (flat_head h) (h.total - 20) ≡ false → is_some (entry_of v 0).cluster ≡ true
-      → Tests exact_ledger (counts_fragment old) (held ⊕ entries_weight v.entries) 1 new
-      (λ mid. Joins exact_ledger held (key_in h) (fragment_of (fragment_carried v h)) mid new)
-      → ChainArrives held h v old new
+      → TestsAs exact_ledger (counts_fragment old) (held ⊕ entries_weight v.entries) 1 (told fate (Ended NoBufs) new)
+      (λ mid. JoinsAs exact_ledger (told fate) held (key_in h) (fragment_of (fragment_carried v h)) mid new)
+      → ChainArrives (told fate) held h v old new
   arrives_cluster good cluster tests = record {
     yes = λ e. absurd (false≢true (sym good ∙ e));
     no = λ e. record { yes = λ is. tests; no = λ is. absurd (false≢true (sym is ∙ cluster)) };
@@ -156,38 +159,41 @@ module _ (held : Weight) (old new : State) (h : IpHead) (v : ChainView) where
 
   -- the first mbuf is plain
   pub arrives_plain : is_bad_fragment (flat_head h) (h.total - 20) ≡ false → is_some (entry_of v 0).cluster ≡ false
-      → Joins exact_ledger held (key_in h) (fragment_of (fragment_carried v h)) (counts_fragment old) new
-      → ChainArrives held h v old new
+      → JoinsAs exact_ledger (told fate) held (key_in h) (fragment_of (fragment_carried v h)) (counts_fragment old) new
+      → ChainArrives (told fate) held h v old new
   arrives_plain good plain joins = record {
     yes = λ e. absurd (false≢true (sym good ∙ e));
     no = λ e. record { yes = λ is. absurd (false≢true (sym plain ∙ is)); no = λ is. joins };
   }
 
 -- the test for the header's mbuf and, if it passed, the fragment that joins the others
-pub tests_of : (rest : State) (held : Weight) (new : State) (k : Key) (f : Fragment) (w : Weight) (p q : PoolView)
+pub tests_of : (fate : Fate) (rest : State) (held : Weight) (new : State) (k : Key) (f : Fragment) (w : Weight)
+    (p q : PoolView)
     (ds es : List Datagram) (c d : Counters) (answer : Bool) → IsPulled p ds c w answer q es d rest held
-    → (answer ≡ true → Joins exact_ledger held k f (with_waiting q es d rest) new)
-    → (answer ≡ false → new ≡ with_waiting q es d rest)
-    → Tests exact_ledger (with_waiting p ds c rest) (held ⊕ w) 1 new (λ mid. Joins exact_ledger held k f mid new)
-tests_of rest held new k f w p q ds es c d true t joins ended = record {
+    → (answer ≡ true → JoinsAs exact_ledger (told fate) held k f (with_waiting q es d rest) new)
+    → (answer ≡ false → told fate (Ended NoBufs) new (with_waiting q es d rest))
+    → TestsAs exact_ledger (with_waiting p ds c rest) (held ⊕ w) 1 (told fate (Ended NoBufs) new)
+    (λ mid. JoinsAs exact_ledger (told fate) held k f mid new)
+tests_of fate rest held new k f w p q ds es c d true t joins ended = record {
   answer = true;
   mid = with_waiting q es t.mid rest;
   has_buffers = t.has_buffers;
   goes_on =
       record {
-        yes = λ e. subst (λ (x : Counters). Joins exact_ledger held k f (with_waiting q es x rest) new) t.counts
+        yes = λ e. subst (λ (x : Counters). JoinsAs exact_ledger (told fate) held k f (with_waiting q es x rest)
+            new) t.counts
             (joins refl);
         no = λ e. absurd (false≢true (sym e));
       };
 }
-tests_of rest held new k f w p q ds es c d false t joins ended = record {
+tests_of fate rest held new k f w p q ds es c d false t joins ended = record {
   answer = false;
   mid = with_waiting q es t.mid rest;
   has_buffers = t.has_buffers;
   goes_on =
       record {
         yes = λ e. absurd (false≢true e);
-        no = λ e. ended refl ∙ ap (λ (x : Counters). with_waiting q es x rest) t.counts;
+        no = λ e. ((ended refl).0, (ended refl).1 ∙ ap (λ (x : Counters). with_waiting q es x rest) t.counts);
       };
 }
 
@@ -222,22 +228,22 @@ some_by_key p k (d ∷ ds) x e = go (is_key k (unfinished_of p d)) refl (some_by
     go false is ih = cond-false _ _ _ is ∙ ih (sym (cond-false _ _ _ is) ∙ e)
 
 -- ---- a fragment joins the others with its key
-pub joins_none : (rest : State) (held : Weight) (new : State) (k : Key) (f : Fragment) (p : PoolView)
+pub joins_none : (fate : Fate) (rest : State) (held : Weight) (new : State) (k : Key) (f : Fragment) (p : PoolView)
     (ds : List Datagram) (c : Counters) → find (is_key k) (unfinished p ds) ≡ None
-    → Tests exact_ledger (with_waiting p ds c rest) (held ⊕ f.weight) 1 new
-    (λ mid. Inserts exact_ledger held k f (begun k) (begin_unfinished k mid) new)
-    → Joins exact_ledger held k f (with_waiting p ds c rest) new
-joins_none rest held new k f p ds c none tests =
+    → TestsAs exact_ledger (with_waiting p ds c rest) (held ⊕ f.weight) 1 (told fate (Ended NoBufs) new)
+    (λ mid. InsertsAs exact_ledger (told fate) held k f (begun k) (begin_unfinished k mid) new)
+    → JoinsAs exact_ledger (told fate) held k f (with_waiting p ds c rest) new
+joins_none fate rest held new k f p ds c none tests =
     record { none = λ e. tests; some = λ x e. absurd (none-some x (sym none ∙ e)) }
 
-pub joins_some : (rest : State) (held : Weight) (new : State) (k : Key) (f : Fragment) (p : PoolView)
+pub joins_some : (fate : Fate) (rest : State) (held : Weight) (new : State) (k : Key) (f : Fragment) (p : PoolView)
     (ds : List Datagram) (c : Counters) (d : Datagram) → find (is_key k) (unfinished p ds) ≡ Some (unfinished_of p d)
-    → Inserts exact_ledger held k f (unfinished_of p d) (with_waiting p ds c rest) new
-    → Joins exact_ledger held k f (with_waiting p ds c rest) new
-joins_some rest held new k f p ds c d found inserts = record {
+    → InsertsAs exact_ledger (told fate) held k f (unfinished_of p d) (with_waiting p ds c rest) new
+    → JoinsAs exact_ledger (told fate) held k f (with_waiting p ds c rest) new
+joins_some fate rest held new k f p ds c d found inserts = record {
   none = λ e. absurd (none-some (unfinished_of p d) (sym e ∙ found));
   some =
-      λ x e. subst (λ (u : Unfinished). Inserts exact_ledger held k f u (with_waiting p ds c rest) new)
+      λ x e. subst (λ (u : Unfinished). InsertsAs exact_ledger (told fate) held k f u (with_waiting p ds c rest) new)
       (ap or_d (sym found ∙ e)) inserts;
 }
   where
@@ -251,17 +257,17 @@ slice_at (d ∷ ds) zero l = refl
 slice_at (d ∷ ds) (suc i) l = slice_at ds i (omega arith)
 
 -- **its key was found at a place**
-pub joins_found : (rest : State) (held : Weight) (new : State) (k : Key) (f : Fragment) (p : PoolView)
+pub joins_found : (fate : Fate) (rest : State) (held : Weight) (new : State) (k : Key) (f : Fragment) (p : PoolView)
     (ds : List Datagram) (c : Counters) (i : ℕ) → IsFirst k ds i → AreDistinct p ds
     → (is_key k (unfinished_of p (datagram_at ds i)) ≡ true → count_by (is_key k) (unfinished p ds) ≤ 1
-    → Inserts exact_ledger held k f (unfinished_of p (datagram_at ds i)) (with_waiting p ds c rest) new)
-    → Joins exact_ledger held k f (with_waiting p ds c rest) new
-joins_found rest held new k f p ds c i first distinct step =
+    → InsertsAs exact_ledger (told fate) held k f (unfinished_of p (datagram_at ds i)) (with_waiting p ds c rest) new)
+    → JoinsAs exact_ledger (told fate) held k f (with_waiting p ds c rest) new
+joins_found fate rest held new k f p ds c i first distinct step =
     let key : find (is_key k) (unfinished p ds) ≡ Some (unfinished_of p (datagram_at ds i)) =
     some_by_key p k ds (datagram_at ds i) (first.here ∙ slice_at ds i first.within) in
     let here : is_key k (unfinished_of p (datagram_at ds i)) ≡ true =
     found_passes (is_key k) (unfinished p ds) (unfinished_of p (datagram_at ds i)) key in
-    joins_some rest held new k f p ds c (datagram_at ds i) key (step here (distinct k))
+    joins_some fate rest held new k f p ds c (datagram_at ds i) key (step here (distinct k))
 
 -- ---- the header's mbuf
 pub pulled_lacking : (rest : State) (held w : Weight) (p q r : PoolView) (ds es : List Datagram) (c mid d : Counters)
@@ -327,11 +333,13 @@ pub good_small : (h : IpHead) (n : ℕ) → is_bad_fragment (flat_head h) n ≡ 
 good_small h n e = ltb-false _ _ (or_parts _ _ e).1
 
 -- **a fragment whose header is in a plain mbuf now**
-module _ (rest : State) (held : Weight) (new : State) (h : IpHead) (p q r : PoolView) (ds es : List Datagram)
+module _ (fate : Fate) (rest : State) (held : Weight) (new : State) (h : IpHead) (p q r : PoolView)
+    (ds es : List Datagram)
     (c c1 d : Counters) (n n' : ℕ) (good : is_bad_fragment (flat_head h) (h.total - 20) ≡ false)
     (counts : c1 ≡ counts_more IpFragments 1 c)
     (entries : (chain_of q n').entries ≡ pulled_entries (chain_of p n)) (t : Trimmed q es n' r)
-    (joins : Joins exact_ledger held (key_in h) (fragment_of (arrived r n' h.offset h.more)) (with_waiting r es d rest)
+    (joins : JoinsAs exact_ledger (told fate) held (key_in h) (fragment_of (arrived r n' h.offset h.more))
+    (with_waiting r es d rest)
     new) where
   carried_now : fragment_of (arrived r n' h.offset h.more) ≡ fragment_of (fragment_carried (chain_of p n) h)
   carried_now =
@@ -340,49 +348,56 @@ module _ (rest : State) (held : Weight) (new : State) (h : IpHead) (p q r : Pool
 
   -- the fragment joins the others in the state after the test for its header's mbuf
   joins_then : (s : State) → with_waiting r es d rest ≡ s
-      → Joins exact_ledger held (key_in h) (fragment_of (fragment_carried (chain_of p n) h)) s new
+      → JoinsAs exact_ledger (told fate) held (key_in h) (fragment_of (fragment_carried (chain_of p n) h)) s new
   joins_then s now =
-      subst (λ (x : State). Joins exact_ledger held (key_in h) (fragment_of (fragment_carried (chain_of p n) h)) x new)
-      now (subst (λ (x : Fragment). Joins exact_ledger held (key_in h) x (with_waiting r es d rest) new) carried_now
+      subst (λ (x : State). JoinsAs exact_ledger (told fate) held (key_in h)
+      (fragment_of (fragment_carried (chain_of p n) h)) x new)
+      now (subst (λ (x : Fragment). JoinsAs exact_ledger (told fate) held (key_in h) x (with_waiting r es d rest)
+      new) carried_now
       joins)
 
   pub some_plain : is_some (entry_of (chain_of p n) 0).cluster ≡ false → q ≡ p → es ≡ ds → d ≡ c1
-      → ChainArrives held h (chain_of p n) (with_waiting p ds c rest) new
+      → ChainArrives (told fate) held h (chain_of p n) (with_waiting p ds c rest) new
   some_plain plain q_is es_is d_is =
       let shows : unfinished r es ≡ unfinished p ds = t.shows ∙ (λ j. unfinished (q_is j) (es_is j)) in
       let now : with_waiting r es d rest ≡ counts_fragment (with_waiting p ds c rest) =
       λ j. record rest { unfinished = shows j; counters = (d_is ∙ counts) j } in
-      arrives_plain held (with_waiting p ds c rest) new h (chain_of p n) good plain
+      arrives_plain fate held (with_waiting p ds c rest) new h (chain_of p n) good plain
       (joins_then (counts_fragment (with_waiting p ds c rest)) now)
 
   pub some_cluster : is_some (entry_of (chain_of p n) 0).cluster ≡ true
       → IsPulled p ds c1 (weight_at p n) true q es d rest held
-      → ChainArrives held h (chain_of p n) (with_waiting p ds c rest) new
+      → ChainArrives (told fate) held h (chain_of p n) (with_waiting p ds c rest) new
   some_cluster cluster tested =
       let now : with_waiting r es d rest ≡ with_waiting q es d rest =
       λ j. record rest { unfinished = t.shows j; counters = d } in
       let was : with_waiting p ds c1 rest ≡ counts_fragment (with_waiting p ds c rest) =
       ap (λ (x : Counters). with_waiting p ds x rest) counts in
-      arrives_cluster held (with_waiting p ds c rest) new h (chain_of p n) good cluster
-      (subst (λ (s : State). Tests exact_ledger s (held ⊕ weight_at p n) 1 new
-      (λ mid. Joins exact_ledger held (key_in h) (fragment_of (fragment_carried (chain_of p n) h)) mid new)) was
-      (tests_of rest held new (key_in h) (fragment_of (fragment_carried (chain_of p n) h)) (weight_at p n) p q ds es c1
+      arrives_cluster fate held (with_waiting p ds c rest) new h (chain_of p n) good cluster
+      (subst (λ (s : State). TestsAs exact_ledger s (held ⊕ weight_at p n) 1 (told fate (Ended NoBufs) new)
+      (λ mid. JoinsAs exact_ledger (told fate) held (key_in h) (fragment_of (fragment_carried (chain_of p n) h)) mid
+      new)) was
+      (tests_of fate rest held new (key_in h) (fragment_of (fragment_carried (chain_of p n) h)) (weight_at p n) p q
+      ds es c1
       d true tested (λ e. joins_then (with_waiting q es d rest) now) (λ e. absurd (false≢true (sym e)))))
 
 -- **no mbuf was free for its header**
-pub none_cluster : (rest : State) (held : Weight) (new : State) (h : IpHead) (p q : PoolView) (ds es : List Datagram)
+pub none_cluster : (fate : Fate) (rest : State) (held : Weight) (new : State) (h : IpHead) (p q : PoolView)
+    (ds es : List Datagram)
     (c c1 d : Counters) (n : ℕ) (answer : Bool) → is_bad_fragment (flat_head h) (h.total - 20) ≡ false
     → c1 ≡ counts_more IpFragments 1 c
     → is_some (entry_of (chain_of p n) 0).cluster ≡ true → IsPulled p ds c1 (weight_at p n) answer q es d rest held
-    → answer ≡ false → new ≡ with_waiting q es d rest
-    → ChainArrives held h (chain_of p n) (with_waiting p ds c rest) new
-none_cluster rest held new h p q ds es c c1 d n answer good counts cluster tested refused is =
+    → answer ≡ false → told fate (Ended NoBufs) new (with_waiting q es d rest)
+    → ChainArrives (told fate) held h (chain_of p n) (with_waiting p ds c rest) new
+none_cluster fate rest held new h p q ds es c c1 d n answer good counts cluster tested refused is =
     let was : with_waiting p ds c1 rest ≡ counts_fragment (with_waiting p ds c rest) =
     ap (λ (x : Counters). with_waiting p ds x rest) counts in
-    arrives_cluster held (with_waiting p ds c rest) new h (chain_of p n) good cluster
-    (subst (λ (s : State). Tests exact_ledger s (held ⊕ weight_at p n) 1 new
-    (λ mid. Joins exact_ledger held (key_in h) (fragment_of (fragment_carried (chain_of p n) h)) mid new)) was
-    (tests_of rest held new (key_in h) (fragment_of (fragment_carried (chain_of p n) h)) (weight_at p n) p q ds es c1 d
+    arrives_cluster fate held (with_waiting p ds c rest) new h (chain_of p n) good cluster
+    (subst (λ (s : State). TestsAs exact_ledger s (held ⊕ weight_at p n) 1 (told fate (Ended NoBufs) new)
+    (λ mid. JoinsAs exact_ledger (told fate) held (key_in h) (fragment_of (fragment_carried (chain_of p n) h)) mid
+    new)) was
+    (tests_of fate rest held new (key_in h) (fragment_of (fragment_carried (chain_of p n) h)) (weight_at p n) p q ds
+    es c1 d
     answer tested (λ e. absurd (false≢true (sym refused ∙ e))) (λ e. is)))
 
 -- the number of bytes that are carried

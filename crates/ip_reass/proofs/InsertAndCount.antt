@@ -2,13 +2,16 @@
 use Rattle.std.proofs.Common.{◌≡◌, ℕ, zero, suc, ◌<◌, ◌≤◌, Bool, true, not, cond, List, [], ◌∷◌, ◌++◌, length, map, filter, count_by, get_or, set, take, drop, remove, refl, sym, ap, ◌∙◌, subst, arith, inl, inr}
 use Rattle.std.proofs.lemmas.Bool.{false≢true}
 use Rattle.std.proofs.lemmas.List.{get_or-map, get_or-set_same, length-map, length-set}
+use Rattle.flat_model.specs.Machine.Fate.{told}
+use Rattle.flat_model.specs.declared.fate.Fate.{Fate}
 use Rattle.flat_model.specs.Amounts.Weight.{Weight, Item}
 use Rattle.flat_model.specs.Fragments.Overlay.{Map, overlay}
 use Rattle.flat_model.specs.Fragments.Whole.{IsWhole, bytes_below, weight_of_pieces}
 use Rattle.flat_model.specs.Machine.State.{State, Key, Unfinished, is_key, end_unfinished}
 use Rattle.flat_model.specs.Machine.Count.{counts_more}
 use Rattle.flat_model.specs.Machine.Ledger.{exact_ledger}
-use Rattle.flat_model.specs.Machine.Arrival.{Inserts, Settles, IsJoin, WholeArrives, counts_reassembled}
+use Rattle.flat_model.specs.Machine.Arrival as arrival
+use Rattle.flat_model.specs.Machine.Arrival.{IsJoin, counts_reassembled, InsertsAs, SettlesAs, WholeArrivesAs, Stored}
 use Rattle.flat_model.specs.declared.counters.Counters.{Counters}
 use Rattle.flat_model.specs.declared.counter.Counter.TheVariants.{IpReassembled}
 use Rattle.mbuf_chain.specs.Chain.{Entry, PoolView, chain_of, flat_bytes, string}
@@ -59,27 +62,32 @@ module _ (k : Key) (p : PoolView) (ds : List Datagram) (i : ℕ) (l : i < length
         filter_one (is_key k) (unfinished p ds) i (unfinished_of p no_datagram) within (ap (is_key k) at_i ∙ here) most
 
 -- the datagram waits
-pub settles_kept : (rest : State) (held : Weight) (k : Key) (p q : PoolView) (ds es : List Datagram) (c : Counters)
+pub settles_kept : (fate : Fate) (rest : State) (held : Weight) (k : Key) (p q : PoolView) (ds es : List Datagram)
+    (c : Counters)
     (i n : ℕ) (f : QueuedFragment) (new : State) → i < length ds
     → is_key k (unfinished_of p (datagram_at ds i)) ≡ true → count_by (is_key k) (unfinished p ds) ≤ 1
     → (la : InsertsIn p ds i n f true q es) → ((m : ℕ) → ¬ IsWhole (map_of (fragments q la.train)) m)
-    → new ≡ with_waiting q es c rest → Inserts exact_ledger held k (fragment_of f) (unfinished_of p (datagram_at ds i))
+    → told fate Stored new (with_waiting q es c rest) → InsertsAs exact_ledger (told fate) held k (fragment_of f)
+    (unfinished_of p (datagram_at ds i))
     (with_waiting p ds c rest) new
-settles_kept rest held k p q ds es c i n f new l here most la waits is = record {
+settles_kept fate rest held k p q ds es c i n f new l here most la waits is = record {
   yes = λ e. absurd (false≢true (sym la.covered ∙ e));
   no = λ e. inr (
     λ m w. waits m (subst (λ (bytes : Map). IsWhole bytes m) (sym la.map) w),
-    is ∙ (λ j. record rest {
-      unfinished = (la.shows
-          ∙ sym (bytes_set k p ds i l here most
-          (overlay (map_of (fragments p (datagram_at ds i).fragments)) (fragment_of f)))) j;
-      counters = c;
-    }),
+    (
+      is.0,
+      is.1 ∙ (λ j. record rest {
+        unfinished = (la.shows
+            ∙ sym (bytes_set k p ds i l here most
+            (overlay (map_of (fragments p (datagram_at ds i).fragments)) (fragment_of f)))) j;
+        counters = c;
+      }),
+    ),
   );
 }
 
 -- the datagram is whole
-pub settles_whole : (rest : State) (held : Weight) (k : Key) (p q r : PoolView) (ds es hs : List Datagram)
+pub settles_whole : (fate : Fate) (rest : State) (held : Weight) (k : Key) (p q r : PoolView) (ds es hs : List Datagram)
     (c d : Counters) (i n out m : ℕ) (f : QueuedFragment) (new : State) → i < length ds
     → is_key k (unfinished_of p (datagram_at ds i)) ≡ true → count_by (is_key k) (unfinished p ds) ≤ 1
     → (la : InsertsIn p ds i n f true q es) → (ta : TakesOut q es i out r hs)
@@ -88,9 +96,12 @@ pub settles_whole : (rest : State) (held : Weight) (k : Key) (p q r : PoolView) 
     m
     → bytes_below (map_of (fragments q la.train)) m ≡ flat_bytes (joined_fragments (queued q la.train))
     → (chain_of r out).entries ≡ joined_fragments (queued q la.train) → d ≡ counts_more IpReassembled 1 c
-    → WholeArrives exact_ledger held k.source k.destination k.protocol (item_at r out) (with_waiting r hs d rest) new
-    → Inserts exact_ledger held k (fragment_of f) (unfinished_of p (datagram_at ds i)) (with_waiting p ds c rest) new
-settles_whole rest held k p q r ds es hs c d i n out m f new l here most la ta whole join bytes entries counts goes =
+    → WholeArrivesAs exact_ledger (λ end. told fate (arrival.Reassembled end)) held k.source k.destination
+    k.protocol (item_at r out) (with_waiting r hs d rest) new
+    → InsertsAs exact_ledger (told fate) held k (fragment_of f) (unfinished_of p (datagram_at ds i))
+    (with_waiting p ds c rest) new
+settles_whole fate rest held k p q r ds es hs c d i n out m f new l here most la ta whole join bytes entries counts
+    goes =
     let bs : Map = overlay (map_of (fragments p (datagram_at ds i).fragments)) (fragment_of f) in
     let item : item_at r out ≡ record {
       bytes = bytes_below (map_of (fragments q la.train)) m;
@@ -104,25 +115,30 @@ settles_whole rest held k p q r ds es hs c d i n out m f new l here most la ta w
     ∙ (remove-set (unfinished p ds) i _ ∙ sym (ended k p ds i l here most))) in
     let now : with_waiting r hs d rest ≡ counts_reassembled (end_unfinished k (with_waiting p ds c rest)) =
     λ j. record rest { unfinished = left j; counters = counts j } in
-    let arrives : WholeArrives exact_ledger held k.source k.destination k.protocol
+    let arrives : WholeArrivesAs exact_ledger (λ end. told fate (arrival.Reassembled end)) held k.source
+    k.destination k.protocol
     (record {
       bytes = bytes_below (map_of (fragments q la.train)) m;
       weight =
           entries_weight (joined_fragments (queued q la.train));
     }) (counts_reassembled (end_unfinished k (with_waiting p ds c rest))) new =
-    subst (λ (s : State). WholeArrives exact_ledger held k.source k.destination k.protocol
+    subst (λ (s : State). WholeArrivesAs exact_ledger (λ end. told fate (arrival.Reassembled end)) held k.source
+    k.destination k.protocol
     (record {
       bytes = bytes_below (map_of (fragments q la.train)) m;
       weight = entries_weight (joined_fragments (queued q la.train));
     }) s new) now
-    (subst (λ (x : Item). WholeArrives exact_ledger held k.source k.destination k.protocol x (with_waiting r hs d rest)
+    (subst (λ (x : Item). WholeArrivesAs exact_ledger (λ end. told fate (arrival.Reassembled end)) held k.source
+    k.destination k.protocol x (with_waiting r hs d rest)
     new)
     item goes) in
-    let settled : Settles exact_ledger held k (map_of (fragments q la.train)) (with_waiting p ds c rest) new =
+    let settled : SettlesAs exact_ledger (told fate) held k (map_of (fragments q la.train))
+    (with_waiting p ds c rest) new =
     inl (m, whole, entries_weight (joined_fragments (queued q la.train)), join, arrives) in
     record {
       yes = λ e. absurd (false≢true (sym la.covered ∙ e));
-      no = λ e. subst (λ (b : Map). Settles exact_ledger held k b (with_waiting p ds c rest) new) la.map settled;
+      no = λ e. subst (λ (b : Map). SettlesAs exact_ledger (told fate) held k b (with_waiting p ds c rest) new)
+          la.map settled;
     }
 
 -- ---- the same for a table that was lent as a slice
@@ -157,11 +173,13 @@ lent_table {p} {q} {ds} {slice} {es} {i} {c} n {f} {answer} {back} l size was ag
 -- the datagram was whole, m bytes: from p, its fragments went to chain out of r
 pub record Reassembled (p : PoolView) (ds : List Datagram) (i n : ℕ) (f : QueuedFragment) (r : PoolView)
     (hs : List Datagram) (out m : ℕ) : Type 0 where
-  pub step : (rest : State) (held : Weight) (k : Key) (c d : Counters) (new : State)
+  pub step : (fate : Fate) (rest : State) (held : Weight) (k : Key) (c d : Counters) (new : State)
       → is_key k (unfinished_of p (datagram_at ds i)) ≡ true → count_by (is_key k) (unfinished p ds) ≤ 1
       → d ≡ counts_more IpReassembled 1 c
-      → WholeArrives exact_ledger held k.source k.destination k.protocol (item_at r out) (with_waiting r hs d rest) new
-      → Inserts exact_ledger held k (fragment_of f) (unfinished_of p (datagram_at ds i)) (with_waiting p ds c rest) new
+      → WholeArrivesAs exact_ledger (λ end. told fate (arrival.Reassembled end)) held k.source k.destination
+      k.protocol (item_at r out) (with_waiting r hs d rest) new
+      → InsertsAs exact_ledger (told fate) held k (fragment_of f) (unfinished_of p (datagram_at ds i))
+      (with_waiting p ds c rest) new
   pub leaves : ((chain_of r out).entries
       ≡ joined_fragments (inserted_into f (keyed_queue_at (queues p ds) i).fragments))
       × (queues r hs ≡ remove (queues p ds) i)
@@ -171,15 +189,17 @@ pub record Reassembled (p : PoolView) (ds : List Datagram) (i n : ℕ) (f : Queu
 module _ {p q : PoolView} {ds es back : List Datagram} {i n : ℕ} {f : QueuedFragment} (e : Lent p ds i n f q es back)
   where
     -- the datagram waits
-    pub lent_kept : (rest : State) (held : Weight) (k : Key) (c : Counters) (new : State) → i < length ds
+    pub lent_kept : (fate : Fate) (rest : State) (held : Weight) (k : Key) (c : Counters) (new : State) → i < length ds
         → is_key k (unfinished_of p (datagram_at ds i)) ≡ true → count_by (is_key k) (unfinished p ds) ≤ 1
-        → ((m : ℕ) → ¬ IsWhole (map_of (fragments q (datagram_at es i).fragments)) m) → new ≡ with_waiting q back c rest
-        → Inserts exact_ledger held k (fragment_of f) (unfinished_of p (datagram_at ds i)) (with_waiting p ds c rest)
+        → ((m : ℕ) → ¬ IsWhole (map_of (fragments q (datagram_at es i).fragments)) m) → told fate Stored new
+        (with_waiting q back c rest)
+        → InsertsAs exact_ledger (told fate) held k (fragment_of f) (unfinished_of p (datagram_at ds i))
+        (with_waiting p ds c rest)
         new
-    lent_kept rest held k c new l here most waits is =
-        settles_kept rest held k p q ds es c i n f new l here most e.inserts
+    lent_kept fate rest held k c new l here most waits is =
+        settles_kept fate rest held k p q ds es c i n f new l here most e.inserts
         (λ m w. waits m (subst (λ (t : TrainView). IsWhole (map_of (fragments q t)) m) (sym e.train_is) w))
-        (is ∙ ap (λ (zs : List Datagram). with_waiting q zs c rest) e.back_is)
+        (is.0, is.1 ∙ ap (λ (zs : List Datagram). with_waiting q zs c rest) e.back_is)
 
     whole_here : (m : ℕ) → IsWhole (map_of (fragments q (datagram_at es i).fragments)) m
         → IsWhole (map_of (fragments q e.inserts.train)) m
@@ -201,8 +221,8 @@ module _ {p q : PoolView} {ds es back : List Datagram} {i n : ℕ} {f : QueuedFr
         let here : keyed_queue_at (queues p ds) i ≡ queue_of p (datagram_at ds i) =
         get_or-map (queue_of p) ds i no_datagram no_queue l in
         record {
-          step = λ rest held k c d new key most counts goes.
-              settles_whole rest held k p q r ds es hs c d i n out m f new l key most e.inserts taken whole
+          step = λ fate rest held k c d new key most counts goes.
+              settles_whole fate rest held k p q r ds es hs c d i n out m f new l key most e.inserts taken whole
               (join_is q e.inserts.train m e.queue (all_some q e.inserts.train bounded e.queue.held)
               (all_fit q e.inserts.train bounded e.queue.held) whole)
               (joined_bytes q e.inserts.train m e.queue whole) entries counts goes;

@@ -25,5 +25,6 @@ mod ArriveBytes
 mod Distinct
 mod HaveSome
 mod Ranges
+mod Expiries
 mod Holders
 pub mod Laws

@@ -5,11 +5,14 @@ use Rattle.std.proofs.lemmas.List.{append-nil, length-take, take-append-drop}
 use Rattle.std.specs.Prelude.{filter_map, nat_le}
 use Rattle.std.specs.List.{cons_option}
 use Rattle.std.proofs.lemmas.Bool.{false≢true, cases_lt, le-leb, lt-leb, lt-ltb, le-ltb, eq-eqb, ne_eqb, and_left, cond-true, cond-false}
+use Rattle.flat_model.specs.Machine.Fate.{told}
+use Rattle.flat_model.specs.declared.fate.Fate.{Fate}
+use Rattle.flat_model.specs.declared.counters.Why.TheVariants.{NoBufs}
 use Rattle.flat_model.specs.Amounts.Weight.{Weight, ◌⊕◌}
 use Rattle.flat_model.specs.Fragments.Overlay.{Fragment}
 use Rattle.flat_model.specs.Machine.State.{State}
 use Rattle.flat_model.specs.Machine.Ledger.{exact_ledger}
-use Rattle.flat_model.specs.Machine.Arrival.{Origin, By_wire, Looped, Tests, Joins, PullsUp, FragmentArrives, is_bad_fragment, counts_fragment}
+use Rattle.flat_model.specs.Machine.Arrival.{Origin, By_wire, Looped, is_bad_fragment, counts_fragment, JoinsAs, FragmentArrivesAs, PullsUpAs, TestsAs, Ended}
 use Rattle.flat_model.specs.Machine.Arrival as flat
 use Rattle.mbuf_chain.specs.Chain.{Entry, ChainView, PoolView, chain_of, entry_of, no_entry, flat_bytes, string}
 use Rattle.mbuf_chain.specs.Steps.{narrowed, with_back, empty_entry}
@@ -117,12 +120,13 @@ abbrev with_weight : IpHead → ChainView → Weight → Fragment
 with_weight h v w = record { offset = h.offset; bytes = drop 20 (string v); more = h.more; weight = w }
 
 -- **if a packet's chain shows its origin, its arrival is the flat machine's for that origin**
-pub view_arrives : (held : Weight) (origin : Origin) (h : IpHead) (v : ChainView) (old new : State) → CameBy origin v
+pub view_arrives : (fate : Fate) (held : Weight) (origin : Origin) (h : IpHead) (v : ChainView) (old new : State) →
+    CameBy origin v
     → length (string v) ≡ h.total → 20 ≤ h.total
-    → ChainArrives held h v old new
-    → FragmentArrives exact_ledger origin held (flat_head h)
+    → ChainArrives (told fate) held h v old new
+    → FragmentArrivesAs exact_ledger (told fate) origin held (flat_head h)
     (record { bytes = drop 20 (string v); weight = entries_weight v.entries }) old new
-view_arrives held origin h v old new came total least step = record {
+view_arrives fate held origin h v old new came total least step = record {
   yes = λ bad. step.yes (ap (is_bad_fragment (flat_head h)) (sym size) ∙ bad);
   no = λ good. pulls origin came (step.no (ap (is_bad_fragment (flat_head h)) (sym size) ∙ good));
 }
@@ -131,10 +135,12 @@ view_arrives held origin h v old new came total least step = record {
     size = omega (arith, length-drop 20 (string v))
 
     plain : is_some (entry_of v 0).cluster ≡ false
-        → Joins exact_ledger held (key_in h) (fragment_of (fragment_carried v h)) (counts_fragment old) new
-        → Joins exact_ledger held (key_in h) (with_weight h v (entries_weight v.entries)) (counts_fragment old) new
+        → JoinsAs exact_ledger (told fate) held (key_in h) (fragment_of (fragment_carried v h))
+        (counts_fragment old) new
+        → JoinsAs exact_ledger (told fate) held (key_in h) (with_weight h v (entries_weight v.entries))
+        (counts_fragment old) new
     plain is joins =
-        subst (λ (f : Fragment). Joins exact_ledger held (key_in h) f (counts_fragment old) new)
+        subst (λ (f : Fragment). JoinsAs exact_ledger (told fate) held (key_in h) f (counts_fragment old) new)
         (carried_is v h (carried_entries v) (entries_weight v.entries) refl (ap entries_weight (cond-false _ _ _ is)))
         joins
 
@@ -142,10 +148,10 @@ view_arrives held origin h v old new came total least step = record {
     whole_size = omega (arith, size)
 
     in_cluster : (received : ℕ) → CameBy (By_wire received) v → is_some (entry_of v 0).cluster ≡ true
-        → Tests exact_ledger (counts_fragment old) (held ⊕ entries_weight v.entries) 1 new
-        (λ mid. Joins exact_ledger held (key_in h) (fragment_of (fragment_carried v h)) mid new)
-        → Tests exact_ledger (counts_fragment old) (held ⊕ entries_weight v.entries) 1 new
-        (λ mid. Joins exact_ledger held (key_in h)
+        → TestsAs exact_ledger (counts_fragment old) (held ⊕ entries_weight v.entries) 1 (told fate (Ended NoBufs) new)
+        (λ mid. JoinsAs exact_ledger (told fate) held (key_in h) (fragment_of (fragment_carried v h)) mid new)
+        → TestsAs exact_ledger (counts_fragment old) (held ⊕ entries_weight v.entries) 1 (told fate (Ended NoBufs) new)
+        (λ mid. JoinsAs exact_ledger (told fate) held (key_in h)
         (with_weight h v (flat.pulled_up (20 + length (drop 20 (string v))) (entries_weight v.entries))) mid new)
     in_cluster received came cluster tests =
         let weight : entries_weight (pulled_entries v)
@@ -153,18 +159,19 @@ view_arrives held origin h v old new came total least step = record {
         ap entries_weight (cond-true _ _ _ cluster)
         ∙ (pulled_is v cluster (omega (arith, total, least)) (holds_of (By_wire received) v came cluster)
         ∙ ap (λ (m : ℕ). flat.pulled_up m (entries_weight v.entries)) whole_size) in
-        subst (λ (f : Fragment). Tests exact_ledger (counts_fragment old) (held ⊕ entries_weight v.entries) 1 new
-        (λ mid. Joins exact_ledger held (key_in h) f mid new))
+        subst (λ (f : Fragment). TestsAs exact_ledger (counts_fragment old) (held ⊕ entries_weight v.entries) 1
+        (told fate (Ended NoBufs) new)
+        (λ mid. JoinsAs exact_ledger (told fate) held (key_in h) f mid new))
         (carried_is v h (carried_entries v)
         (flat.pulled_up (20 + length (drop 20 (string v))) (entries_weight v.entries))
         refl weight) tests
 
     pulls : (o : Origin) → CameBy o v
-        → PullsUpHeader v held (counts_fragment old) new
-        (λ mid. Joins exact_ledger held (key_in h) (fragment_of (fragment_carried v h)) mid new)
-        → PullsUp exact_ledger o held (entries_weight v.entries) (20 + length (drop 20 (string v)))
+        → PullsUpHeader (told fate) v held (counts_fragment old) new
+        (λ mid. JoinsAs exact_ledger (told fate) held (key_in h) (fragment_of (fragment_carried v h)) mid new)
+        → PullsUpAs exact_ledger (told fate) o held (entries_weight v.entries) (20 + length (drop 20 (string v)))
         (counts_fragment old) new
-        (λ w mid. Joins exact_ledger held (key_in h) (with_weight h v w) mid new)
+        (λ w mid. JoinsAs exact_ledger (told fate) held (key_in h) (with_weight h v w) mid new)
     pulls Looped o_came s = plain (ap is_some o_came) (s.no (ap is_some o_came))
     pulls (By_wire received) o_came s = record {
       yes = λ large. in_cluster received o_came (o_came.cluster ∙ large) (s.yes (o_came.cluster ∙ large));
@@ -172,39 +179,42 @@ view_arrives held origin h v old new came total least step = record {
     }
 
 -- the same for a chain of a pool
-pub fragment_arrives : (held : Weight) (origin : Origin) (h : IpHead) (p : PoolView) (n : ℕ) (old new : State)
+pub fragment_arrives : (fate : Fate) (held : Weight) (origin : Origin) (h : IpHead) (p : PoolView) (n : ℕ)
+    (old new : State)
     → CameBy origin (chain_of p n) → length (string (chain_of p n)) ≡ h.total → 20 ≤ h.total
-    → ChainArrives held h (chain_of p n) old new
-    → FragmentArrives exact_ledger origin held (flat_head h) (carried_at p n) old new
-fragment_arrives held origin h p n old new came total least step =
-    view_arrives held origin h (chain_of p n) old new came total least step
+    → ChainArrives (told fate) held h (chain_of p n) old new
+    → FragmentArrivesAs exact_ledger (told fate) origin held (flat_head h) (carried_at p n) old new
+fragment_arrives fate held origin h p n old new came total least step =
+    view_arrives fate held origin h (chain_of p n) old new came total least step
 
 -- **so is the arrival of a packet that is queued directly: that of a packet in this cluster, or in two mbufs**
 abbrev pub stored_weight : Bool → ℕ → Weight
 stored_weight is_large k = cond is_large (record { mbufs = 1; bag = k ∷ [] }) (record { mbufs = 2; bag = [] })
 
-pub stored_arrives : (held : Weight) (h : IpHead) (packet : List ℕ) (k : ℕ) (old new : State) → 100 < length packet
+pub stored_arrives : (fate : Fate) (held : Weight) (h : IpHead) (packet : List ℕ) (k : ℕ) (old new : State) → 100 <
+    length packet
     → h.total ≡ length packet
-    → ChainArrives held h (at_once.as_stored packet k) old new
-    → FragmentArrives exact_ledger (By_wire (length packet)) held (flat_head h)
+    → ChainArrives (told fate) held h (at_once.as_stored packet k) old new
+    → FragmentArrivesAs exact_ledger (told fate) (By_wire (length packet)) held (flat_head h)
     (record { bytes = drop 20 packet; weight = stored_weight (nat_le 208 (length packet)) k }) old new
-stored_arrives held h packet k old new many total step = go (nat_le 208 (length packet)) refl step
+stored_arrives fate held h packet k old new many total step = go (nat_le 208 (length packet)) refl step
   where
     two : string (at_once.in_mbufs packet) ≡ packet
     two = ap (λ (xs : List ℕ). take 100 packet ++ xs) (append-nil (drop 100 packet)) ∙ take-append-drop 100 packet
 
-    go : (b : Bool) → nat_le 208 (length packet) ≡ b → ChainArrives held h (at_once.stored_by b packet k) old new
-        → FragmentArrives exact_ledger (By_wire (length packet)) held (flat_head h)
+    go : (b : Bool) → nat_le 208 (length packet) ≡ b → ChainArrives (told fate) held h
+        (at_once.stored_by b packet k) old new
+        → FragmentArrivesAs exact_ledger (told fate) (By_wire (length packet)) held (flat_head h)
         (record { bytes = drop 20 packet; weight = stored_weight b k }) old new
     go true large comes =
-        subst (λ (xs : List ℕ). FragmentArrives exact_ledger (By_wire (length packet)) held (flat_head h)
+        subst (λ (xs : List ℕ). FragmentArrivesAs exact_ledger (told fate) (By_wire (length packet)) held (flat_head h)
         (record { bytes = drop 20 xs; weight = record { mbufs = 1; bag = k ∷ [] } }) old new) (append-nil packet)
-        (view_arrives held (By_wire (length packet)) h (at_once.in_cluster packet k) old new
+        (view_arrives fate held (By_wire (length packet)) h (at_once.in_cluster packet k) old new
         (record { cluster = sym large; holds = inl (omega (arith, length-append packet [])) })
         (omega (arith, length-append packet [])) (omega arith) comes)
     go false small comes =
-        subst (λ (xs : List ℕ). FragmentArrives exact_ledger (By_wire (length packet)) held (flat_head h)
+        subst (λ (xs : List ℕ). FragmentArrivesAs exact_ledger (told fate) (By_wire (length packet)) held (flat_head h)
         (record { bytes = drop 20 xs; weight = record { mbufs = 2; bag = [] } }) old new) two
-        (view_arrives held (By_wire (length packet)) h (at_once.in_mbufs packet) old new
+        (view_arrives fate held (By_wire (length packet)) h (at_once.in_mbufs packet) old new
         (record { cluster = sym small; holds = inr (omega (arith, length-take 100 packet)) })
         (omega (arith, ap (λ (xs : List ℕ). length xs) two, total)) (omega arith) comes)

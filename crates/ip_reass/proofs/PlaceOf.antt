@@ -1,8 +1,10 @@
 -- A fragment at its place in the table.
 use Rattle.std.proofs.Common.{◌≡◌, ℕ, ◌*◌, ◌<◌, ◌≤◌, Bool, true, false, List, [], ◌∷◌, length, find, Option, Some, None, refl, sym, ap, ◌∙◌, subst, arith, inl, inr}
 use Rattle.std.specs.Prelude.{count_by}
+use Rattle.flat_model.specs.Machine.Fate.{told}
+use Rattle.flat_model.specs.declared.fate.Fate.{Fate}
 use Rattle.flat_model.specs.Amounts.Weight.{Weight, ◌⊕◌}
-use Rattle.flat_model.specs.Machine.Arrival.{Joins, Inserts}
+use Rattle.flat_model.specs.Machine.Arrival.{JoinsAs, InsertsAs, Ended}
 use Rattle.flat_model.specs.Machine.Ledger.{exact_ledger, need_mbufs}
 use Rattle.flat_model.specs.Machine.Count.{counted}
 use Rattle.flat_model.specs.Machine.State.{State, Key, is_key}
@@ -50,14 +52,15 @@ pub record Placed (p : PoolView) (r : TableView) (c : Counters) (k : Key) (n i :
   pub table : IsTable q s.datagrams
   pub stays : Stays p r.datagrams n q s.datagrams
   pub room : q.mbufs ≤ 2 * s.room
-  pub step : (rest : State) (held : Weight) (new : State) (offset : ℕ) (more : Bool)
+  pub step : (fate : Fate) (rest : State) (held : Weight) (new : State) (offset : ℕ) (more : Bool)
       → IsAccounted p (with_waiting p r.datagrams c rest) (held ⊕ weight_at p n)
       → (is_key k (unfinished_of q (datagram_at s.datagrams i)) ≡ true
       → count_by (is_key k) (unfinished q s.datagrams) ≤ 1
-      → Inserts exact_ledger held k (fragment_of (arrived q n offset more))
+      → InsertsAs exact_ledger (told fate) held k (fragment_of (arrived q n offset more))
       (unfinished_of q (datagram_at s.datagrams i))
       (with_waiting q s.datagrams d rest) new)
-      → Joins exact_ledger held k (fragment_of (arrived p n offset more)) (with_waiting p r.datagrams c rest) new
+      → JoinsAs exact_ledger (told fate) held k (fragment_of (arrived p n offset more))
+      (with_waiting p r.datagrams c rest) new
   pub layout : (offset : ℕ) (more : Bool) (result : Arrival) (t : PoolView) (ts : List Datagram)
       → LeavesAt i (arrived q n offset more) (queues q s.datagrams) t result (queues t ts)
       → HasLayout p r.datagrams k (arrived p n offset more) result t ts
@@ -76,8 +79,8 @@ module _ (p : PoolView) (r : TableView) (c : Counters) (k : Key) (n i : ℕ) (re
         stays p p r.datagrams r.datagrams n owns
         (record { mbufs = refl; clusters = refl; others = λ k l t. refl; owned = λ k. refl });
     room = ready.room;
-    step = λ rest held new offset more acc inserts.
-        joins_found rest held new k (fragment_of (arrived p n offset more)) p r.datagrams c i first ready.distinct
+    step = λ fate rest held new offset more acc inserts.
+        joins_found fate rest held new k (fragment_of (arrived p n offset more)) p r.datagrams c i first ready.distinct
         inserts;
     layout = λ offset more result t ts leaves.
         found_layout p t r.datagrams ts k (arrived p n offset more) i result first leaves;
@@ -109,10 +112,10 @@ module _ (p : PoolView) (r : TableView) (c : Counters) (k : Key) (n i : ℕ) (re
           moves = moves_trans st.moves bg.stays.moves;
         };
         room = omega (arith, bg.stays.moves.mbufs, b.room, b.asked.ready.room);
-        step = λ rest held new offset more acc inserts.
-            joins_none rest held new k (fragment_of (arrived p n offset more)) p r.datagrams c
+        step = λ fate rest held new offset more acc inserts.
+            joins_none fate rest held new k (fragment_of (arrived p n offset more)) p r.datagrams c
             (none_by_key p k r.datagrams fresh)
-            (begins_here rest held new k p b.mid q r.datagrams b.left.datagrams s.datagrams c d n i offset more
+            (begins_here fate rest held new k p b.mid q r.datagrams b.left.datagrams s.datagrams c d n i offset more
             (none_by_key p k r.datagrams fresh) (b.asked.has_buffers rest (held ⊕ weight_at p n) acc) chain bg inserts);
         layout = λ offset more result t ts leaves.
             begins_layout p b.mid q t r.datagrams b.left.datagrams s.datagrams ts k n i offset more result b.asked.waits
@@ -148,10 +151,11 @@ pub record Lacks (p : PoolView) (r : TableView) (c : Counters) (k : Key) (n : �
   pub moves : Moves p (n ∷ held_all p r.datagrams) t (held_all t s.datagrams)
   pub waits : WaitOrNone (queues p r.datagrams) (queues t s.datagrams)
   pub none : queues t s.datagrams ≡ []
-  pub step : (rest : State) (held : Weight) (new : State) (offset : ℕ) (more : Bool) (e : Counters)
+  pub step : (fate : Fate) (rest : State) (held : Weight) (new : State) (offset : ℕ) (more : Bool) (e : Counters)
       → IsAccounted p (with_waiting p r.datagrams c rest) (held ⊕ weight_at p n) → e ≡ counted NoBufs d
-      → new ≡ with_waiting t s.datagrams e rest
-      → Joins exact_ledger held k (fragment_of (arrived p n offset more)) (with_waiting p r.datagrams c rest) new
+      → told fate (Ended NoBufs) new (with_waiting t s.datagrams e rest)
+      → JoinsAs exact_ledger (told fate) held k (fragment_of (arrived p n offset more))
+      (with_waiting p r.datagrams c rest) new
 
 pub lacks_in : (p : PoolView) (r : TableView) (c : Counters) (k k' : Key) (n : ℕ)
     → IsOwned p (n ∷ held_all p r.datagrams) → (q t : PoolView) (s : TableView) (d : Counters) (o : Option ℕ) → k' ≡ k
@@ -173,9 +177,9 @@ lacks_in p r c k k' n owns q t s d o key is place gone =
       moves = fr.moves;
       waits = wait_then (queues p r.datagrams) (queues q s.datagrams) (queues t s.datagrams) asked.waits fr.rows;
       none = fr.rows ∙ asked.none refl;
-      step = λ rest held new offset more e acc counts now.
-          joins_none rest held new k (fragment_of (arrived p n offset more)) p r.datagrams c
+      step = λ fate rest held new offset more e acc counts now.
+          joins_none fate rest held new k (fragment_of (arrived p n offset more)) p r.datagrams c
           (none_by_key p k r.datagrams here.0)
-          (lacking rest held new k (fragment_of (arrived p n offset more)) p q t r.datagrams s.datagrams c d e
+          (lacking fate rest held new k (fragment_of (arrived p n offset more)) p q t r.datagrams s.datagrams c d e
           (asked.has_buffers rest (held ⊕ weight_at p n) acc) fr.shows counts now);
     }

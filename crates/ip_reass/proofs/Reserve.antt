@@ -2,12 +2,14 @@
 use Rattle.std.proofs.Common.{◌≡◌, ℕ, ◌*◌, ◌<◌, ◌≤◌, Bool, true, false, List, [], ◌∷◌, ◌++◌, length, find, count_by, get_or, None, refl, sym, ap, ◌∙◌, subst, arith, inl, inr, length-append}
 use Rattle.std.proofs.lemmas.Bool.{false≢true, and_from, eq-eqb}
 use Rattle.std.proofs.lemmas.List.Sums.{count_by-le-length}
+use Rattle.flat_model.specs.Machine.Fate.{told}
+use Rattle.flat_model.specs.declared.fate.Fate.{Fate}
 use Rattle.flat_model.specs.Amounts.Weight.{Weight, ◌⊕◌}
 use Rattle.flat_model.specs.Fragments.Overlay.{Fragment}
 use Rattle.flat_model.specs.Machine.State.{State, Key, Unfinished, is_key, begun, begin_unfinished}
 use Rattle.flat_model.specs.Machine.Count.{counted}
 use Rattle.flat_model.specs.Machine.Ledger.{exact_ledger, HasBuffers, need_mbufs}
-use Rattle.flat_model.specs.Machine.Arrival.{Inserts, Tests}
+use Rattle.flat_model.specs.Machine.Arrival.{InsertsAs, TestsAs, Ended}
 use Rattle.flat_model.specs.declared.counters.Counters.{Counters}
 use Rattle.flat_model.specs.declared.counters.Why.TheVariants.{NoBufs}
 use Rattle.flat_model.proofs.Laws.{count-append}
@@ -30,10 +32,10 @@ use Rattle.ip_reass.proofs.Places.{none_found}
 use Rattle.ip_reass.proofs.Tables.{Begins, begins}
 
 -- a new key takes an mbuf, and then its datagram begins
-abbrev TestsForKey : Weight → Key → Fragment → State → State → Type 0
-TestsForKey held k f old new =
-    Tests exact_ledger old (held ⊕ f.weight) 1 new
-    (λ mid. Inserts exact_ledger held k f (begun k) (begin_unfinished k mid) new)
+abbrev TestsForKey : Fate → Weight → Key → Fragment → State → State → Type 0
+TestsForKey fate held k f old new =
+    TestsAs exact_ledger old (held ⊕ f.weight) 1 (told fate (Ended NoBufs) new)
+    (λ mid. InsertsAs exact_ledger (told fate) held k f (begun k) (begin_unfinished k mid) new)
 
 -- ---- the caller holds chain c while the table takes a step
 pub record Stays (p : PoolView) (ds : List Datagram) (c : ℕ) (q : PoolView) (es : List Datagram) : Type 0 where
@@ -79,18 +81,18 @@ freed p q r ds es c st is gone =
     }
 
 -- ---- the two results of the test for a key's mbuf
-pub lacking : (rest : State) (held : Weight) (new : State) (k : Key) (f : Fragment) (p q r : PoolView)
+pub lacking : (fate : Fate) (rest : State) (held : Weight) (new : State) (k : Key) (f : Fragment) (p q r : PoolView)
     (ds es : List Datagram) (c mid d : Counters)
     → HasBuffers exact_ledger (with_waiting p ds c rest) (held ⊕ f.weight) (need_mbufs 1) false
     (with_waiting q es mid rest) → unfinished r es ≡ unfinished q es → d ≡ counted NoBufs mid
-    → new ≡ with_waiting r es d rest → TestsForKey held k f (with_waiting p ds c rest) new
-lacking rest held new k f p q r ds es c mid d af shows counts is = record {
+    → told fate (Ended NoBufs) new (with_waiting r es d rest) → TestsForKey fate held k f (with_waiting p ds c rest) new
+lacking fate rest held new k f p q r ds es c mid d af shows counts is = record {
   answer = false;
   mid = with_waiting q es mid rest;
   has_buffers = af;
   goes_on = record {
     yes = λ e. absurd (false≢true e);
-    no = λ e. is ∙ (λ j. record rest { unfinished = shows j; counters = counts j });
+    no = λ e. (is.0, is.1 ∙ (λ j. record rest { unfinished = shows j; counters = counts j }));
   };
 }
 
@@ -135,16 +137,17 @@ began p q ds es n h i k is owns adds e i_is =
       rows = b.rows k h e;
     }
 
-pub begins_here : (rest : State) (held : Weight) (new : State) (k : Key) (p q r : PoolView)
+pub begins_here : (fate : Fate) (rest : State) (held : Weight) (new : State) (k : Key) (p q r : PoolView)
     (ds es hs : List Datagram) (c d : Counters) (n i offset : ℕ) (more : Bool)
     → find (is_key k) (unfinished p ds) ≡ None
     → HasBuffers exact_ledger (with_waiting p ds c rest) (held ⊕ weight_at p n) (need_mbufs 1) true
     (with_waiting q es d rest) → chain_of r n ≡ chain_of p n → Began q es n k r hs i
     → (is_key k (unfinished_of r (datagram_at hs i)) ≡ true → count_by (is_key k) (unfinished r hs) ≤ 1
-    → Inserts exact_ledger held k (fragment_of (arrived r n offset more)) (unfinished_of r (datagram_at hs i))
+    → InsertsAs exact_ledger (told fate) held k (fragment_of (arrived r n offset more))
+    (unfinished_of r (datagram_at hs i))
     (with_waiting r hs d rest) new)
-    → TestsForKey held k (fragment_of (arrived p n offset more)) (with_waiting p ds c rest) new
-begins_here rest held new k p q r ds es hs c d n i offset more none af chain b step =
+    → TestsForKey fate held k (fragment_of (arrived p n offset more)) (with_waiting p ds c rest) new
+begins_here fate rest held new k p q r ds es hs c d n i offset more none af chain b step =
     let zero_then : count_by (is_key k) (unfinished q es) ≡ 0 =
     none_then rest (held ⊕ weight_at p n) k p q ds es c d none af in
     let here : is_key k (unfinished_of r (datagram_at hs i)) ≡ true = ap (is_key k) b.at ∙ same_key k in
@@ -158,18 +161,21 @@ begins_here rest held new k p q r ds es hs c d n i offset more none af chain b s
       one,
     ) in
     let inserts = step here most in
-    let a : Inserts exact_ledger held k (fragment_of (arrived p n offset more)) (unfinished_of r (datagram_at hs i))
+    let a : InsertsAs exact_ledger (told fate) held k (fragment_of (arrived p n offset more))
+    (unfinished_of r (datagram_at hs i))
     (with_waiting r hs d rest) new =
-    subst (λ (v : ChainView). Inserts exact_ledger held k
+    subst (λ (v : ChainView). InsertsAs exact_ledger (told fate) held k
     (fragment_of (record { offset = offset; more = more; entries = v.entries })) (unfinished_of r (datagram_at hs i))
     (with_waiting r hs d rest) new) chain inserts in
-    let b' : Inserts exact_ledger held k (fragment_of (arrived p n offset more)) (begun k) (with_waiting r hs d rest)
+    let b' : InsertsAs exact_ledger (told fate) held k (fragment_of (arrived p n offset more)) (begun k)
+    (with_waiting r hs d rest)
     new =
-    subst (λ (u : Unfinished). Inserts exact_ledger held k (fragment_of (arrived p n offset more)) u
+    subst (λ (u : Unfinished). InsertsAs exact_ledger (told fate) held k (fragment_of (arrived p n offset more)) u
     (with_waiting r hs d rest) new) b.at a in
-    let c' : Inserts exact_ledger held k (fragment_of (arrived p n offset more)) (begun k)
+    let c' : InsertsAs exact_ledger (told fate) held k (fragment_of (arrived p n offset more)) (begun k)
     (begin_unfinished k (with_waiting q es d rest)) new =
-    subst (λ (us : List Unfinished). Inserts exact_ledger held k (fragment_of (arrived p n offset more)) (begun k)
+    subst (λ (us : List Unfinished). InsertsAs exact_ledger (told fate) held k
+    (fragment_of (arrived p n offset more)) (begun k)
     (record rest { unfinished = us; counters = d }) new) b.shows b' in
     record {
       answer = true;

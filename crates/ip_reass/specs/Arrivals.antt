@@ -7,7 +7,7 @@ use Rattle.flat_model.specs.Packets.Header.{Head}
 use Rattle.flat_model.specs.Machine.State.{State, Key}
 use Rattle.flat_model.specs.Machine.Count.{counted}
 use Rattle.flat_model.specs.Machine.Ledger.{exact_ledger, HasBuffers, need_mbufs}
-use Rattle.flat_model.specs.Machine.Arrival.{Origin, By_wire, Looped, WholeArrives}
+use Rattle.flat_model.specs.Machine.Arrival.{Origin, By_wire, Looped, Ended, Reassembled, Saying, Stored, WholeArrivesAs}
 use Rattle.flat_model.specs.declared.counters.Counters.{Counters}
 use Rattle.flat_model.specs.declared.counters.Why.TheVariants.{NoBufs}
 use Rattle.mbuf_chain.specs.Chain.{ChainView, Entry, PoolView, alone, chain_of, entry_of, string}
@@ -75,11 +75,12 @@ HasWhole q last (Whole c h) = IsWholeOf q c h last
 HasWhole q last (Dropped why) = Unit {0}
 
 -- From the machine `now` on, whatever happens to the chains that the caller holds: a whole datagram arrives as the flat
--- machine says.
-abbrev pub GoesOn : Weight → PoolView → Arrival → State → State → Type 0
-GoesOn held q Kept now new = new ≡ now
-GoesOn held q (Whole c h) now new = WholeArrives exact_ledger held h.src h.dst h.proto (item_at q c) now new
-GoesOn held q (Dropped why) now new = new ≡ now
+-- machine says. The saying is of the fragment's end.
+abbrev pub GoesOn : Saying → Weight → PoolView → Arrival → State → State → Type 0
+GoesOn Says held q Kept now new = Says Stored new now
+GoesOn Says held q (Whole c h) now new =
+    WholeArrivesAs exact_ledger (λ end. Says (Reassembled end)) held h.src h.dst h.proto (item_at q c) now new
+GoesOn Says held q (Dropped why) now new = Says (Ended why) new now
 
 -- The header of chain v was pulled up: from p, ds and counters c to q, es and d.
 pub record IsPulled (p : PoolView) (ds : List Datagram) (c : Counters) (w : Weight) (answer : Bool) (q : PoolView)

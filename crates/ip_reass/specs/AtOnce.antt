@@ -6,7 +6,9 @@ use Rattle.params.specs.declared.TheConstants.{IP_HEADER, MBUF_HEADER, MCLBYTES,
 use Rattle.flat_model.specs.Amounts.Weight.{Weight}
 use Rattle.flat_model.specs.Machine.State.{State}
 use Rattle.flat_model.specs.Machine.Arrival.{is_bad_fragment}
+use Rattle.flat_model.specs.Machine.Fate.{told}
 use Rattle.flat_model.specs.declared.counters.Counters.{Counters}
+use Rattle.flat_model.specs.declared.fate.Fate.{Fate}
 use Rattle.mbuf_chain.specs.Chain.{ChainView, PoolView, alone, references}
 use Rattle.ledger.specs.Accounts.{IsAccounted}
 use Rattle.ledger.specs.Reserve.{are_free}
@@ -67,8 +69,8 @@ pub record ArrivesAtOnce (p : PoolView) (ds : List Datagram) (c : Counters) (pac
     (result : Arrival) (q : PoolView) (es : List Datagram) (d : Counters) : Type 0 where
   pub cluster : ℕ
   pub free : TakesFree p packet cluster
-  pub step : (rest : State) (held : Weight) (new : State) → IsAccounted p (with_waiting p ds c rest) held
-      → GoesOn held q result (with_waiting q es d rest) new
-      → ChainArrives held h (as_stored packet cluster) (with_waiting p ds c rest) new
+  pub step : (fate : Fate) (rest : State) (held : Weight) (new : State) → IsAccounted p (with_waiting p ds c rest) held
+      → GoesOn (told fate) held q result (with_waiting q es d rest) new
+      → ChainArrives (told fate) held h (as_stored packet cluster) (with_waiting p ds c rest) new
   pub layout : HasLayout p ds (key_in h) (fragment_carried (as_stored packet cluster) h) result q es
   pub cause : HasCause (cause_of (as_stored packet cluster) h (under (key_in h) (queues q es))) result

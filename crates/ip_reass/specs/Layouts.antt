@@ -6,7 +6,7 @@ use Rattle.params.specs.declared.TheConstants.{IP_HEADER}
 use Rattle.flat_model.specs.Amounts.Choice.{Choice}
 use Rattle.flat_model.specs.Amounts.Weight.{Weight, ◌⊕◌}
 use Rattle.flat_model.specs.Fragments.Overlay.{is_covered}
-use Rattle.flat_model.specs.Machine.Arrival.{Tests, Joins, counts_fragment, is_bad_fragment}
+use Rattle.flat_model.specs.Machine.Arrival.{counts_fragment, is_bad_fragment, JoinsAs, TestsAs, Ended, Saying}
 use Rattle.flat_model.specs.Machine.Ledger.{exact_ledger}
 use Rattle.flat_model.specs.Machine.State.{State, Key, ends}
 use Rattle.flat_model.specs.declared.counters.Why.{Why}
@@ -83,19 +83,19 @@ pub record HasLayout (p : PoolView) (ds : List Datagram) (k : Key) (f : QueuedFr
 
 -- The header of a packet in chain v is pulled up if its first mbuf is a cluster, which takes an mbuf. This is done
 -- before the key is looked up.
-abbrev pub PullsUpHeader : ChainView → Weight → State → State → (State → Type 0) → Type 0
-PullsUpHeader v held old new Then =
-    Choice (is_some (entry_of v 0).cluster) (Tests exact_ledger old (held ⊕ entries_weight v.entries) 1 new Then)
-    (Then old)
+abbrev pub PullsUpHeader : Saying → ChainView → Weight → State → State → (State → Type 0) → Type 0
+PullsUpHeader Says v held old new Then =
+    Choice (is_some (entry_of v 0).cluster)
+    (TestsAs exact_ledger old (held ⊕ entries_weight v.entries) 1 (Says (Ended NoBufs) new) Then) (Then old)
 
 -- The packet in chain v arrives as a fragment, whatever its layout: the flat machine's `FragmentArrives`, with the
 -- chain's own mbufs instead of those that follow from the packet's origin.
-abbrev pub ChainArrives : Weight → IpHead → ChainView → State → State → Type 0
-ChainArrives held h v old new =
+abbrev pub ChainArrives : Saying → Weight → IpHead → ChainView → State → State → Type 0
+ChainArrives Says held h v old new =
     Choice (is_bad_fragment (flat_head h) (h.total - IP_HEADER))
-    (new ≡ ends BadFragment old)
-    (PullsUpHeader v held (counts_fragment old) new (λ mid.
-    Joins exact_ledger held (key_in h) (fragment_of (fragment_carried v h)) mid new))
+    (Says (Ended BadFragment) new (ends BadFragment old))
+    (PullsUpHeader Says v held (counts_fragment old) new (λ mid.
+    JoinsAs exact_ledger Says held (key_in h) (fragment_of (fragment_carried v h)) mid new))
 
 -- ---- the cause of a drop
 

@@ -5,4 +5,5 @@ pub mod Arrivals
 pub mod AtOnce
 pub mod Layouts
 pub mod Questions
+pub mod Expiring
 pub mod Inside

@@ -3,7 +3,9 @@ ghost use Rattle.std.specs.Prelude.{◌≡◌, ◌+◌, ◌*◌, ◌<◌, ◌≤
 ghost use Rattle.flat_model.specs.Machine.State.{State};
 ghost use Rattle.flat_model.specs.Amounts.Weight.{Weight, ◌⊕◌};
 ghost use Rattle.flat_model.specs.Machine.Ledger.{exact_ledger};
-ghost use Rattle.flat_model.specs.Machine.Arrival.{Joins, is_bad_fragment};
+ghost use Rattle.flat_model.specs.Machine.Arrival.{JoinsAs, is_bad_fragment};
+ghost use Rattle.flat_model.specs.Machine.Fate.{told};
+ghost use Rattle.flat_model.specs.declared.fate.Fate.{Fate};
 ghost use Rattle.mbuf_chain.specs.Chain.{chain_of, entry_of, string};
 ghost use Rattle.mbuf_chain.specs.Owners.{IsOwned, Moves};
 ghost use Rattle.ledger.specs.Accounts.{IsAccounted, weight_at, weight_owned};
@@ -89,11 +91,12 @@ impl Reass {
         head: IpHead,
     ) -> Arrival
         requires { CanJoin pool.old self.old chain head.offset }
-        ensures step { (rest : State) (held : Weight) (new : State) →
+        ensures step { (fate : Fate) (rest : State) (held : Weight) (new : State) →
             IsAccounted pool.old (with_waiting pool.old self.old.datagrams counters.old rest)
             (held ⊕ weight_at pool.old chain) →
-            GoesOn held pool.new result (with_waiting pool.new self.new.datagrams counters.new rest) new →
-            Joins exact_ledger held (key_in head) (fragment_of (arrived pool.old chain head.offset head.more))
+            GoesOn (told fate) held pool.new result (with_waiting pool.new self.new.datagrams counters.new rest) new →
+            JoinsAs exact_ledger (told fate) held (key_in head)
+            (fragment_of (arrived pool.old chain head.offset head.more))
             (with_waiting pool.old self.old.datagrams counters.old rest) new }
         ensures whole { HasWhole pool.new head result }
         ensures layout { HasLayout pool.old self.old.datagrams (key_in head)
@@ -192,11 +195,11 @@ impl Reass {
         requires total { length (string (chain_of pool.old chain)) ≡ head.total }
         requires header { IP_HEADER ≤ head.total }
         requires offset { head.offset ≤ IP_MAX_PACKET }
-        ensures step { (rest : State) (held : Weight) (new : State) →
+        ensures step { (fate : Fate) (rest : State) (held : Weight) (new : State) →
             IsAccounted pool.old (with_waiting pool.old self.old.datagrams counters.old rest)
             (held ⊕ weight_at pool.old chain) →
-            GoesOn held pool.new result (with_waiting pool.new self.new.datagrams counters.new rest) new →
-            ChainArrives held head (chain_of pool.old chain)
+            GoesOn (told fate) held pool.new result (with_waiting pool.new self.new.datagrams counters.new rest) new →
+            ChainArrives (told fate) held head (chain_of pool.old chain)
             (with_waiting pool.old self.old.datagrams counters.old rest) new }
         ensures accounts { (rest : State) (held : Weight) →
             IsAccounted pool.old (with_waiting pool.old self.old.datagrams counters.old rest)

@@ -3,7 +3,9 @@ ghost use Rattle.std.specs.Prelude.{◌≡◌, ◌+◌, ◌<◌, ◌≤◌, ◌�
 ghost use Rattle.flat_model.specs.Machine.State.{State, is_key};
 ghost use Rattle.flat_model.specs.Amounts.Weight.{Weight};
 ghost use Rattle.flat_model.specs.Machine.Ledger.{exact_ledger};
-ghost use Rattle.flat_model.specs.Machine.Arrival.{Inserts};
+ghost use Rattle.flat_model.specs.Machine.Arrival.{InsertsAs};
+ghost use Rattle.flat_model.specs.Machine.Fate.{told};
+ghost use Rattle.flat_model.specs.declared.fate.Fate.{Fate};
 ghost use Rattle.flat_model.specs.declared.counters.Why.TheVariants.{FragmentDropped};
 ghost use Rattle.ip_reass.specs.Arrivals.{ArrivalMoves, GoesOn, HasWhole, key_in, with_waiting};
 ghost use Rattle.ip_reass.specs.Fragments.{fragment_of, fragments, map_of};
@@ -107,11 +109,11 @@ pub(crate) fn insert_and_count(
     fragment: Fragment,
 ) -> Arrival
     requires { CanInsertAt pool.old table.old.items i fragment.chain fragment.head.offset }
-    ensures step { (rest : State) (held : Weight) (new : State) →
+    ensures step { (fate : Fate) (rest : State) (held : Weight) (new : State) →
         is_key (key_in fragment.head) (unfinished_of pool.old (datagram_at table.old.items i)) ≡ true →
         count_by (is_key (key_in fragment.head)) (unfinished pool.old table.old.items) ≤ 1 →
-        GoesOn held pool.new result (with_waiting pool.new table.new.items counters.new rest) new →
-        Inserts exact_ledger held (key_in fragment.head)
+        GoesOn (told fate) held pool.new result (with_waiting pool.new table.new.items counters.new rest) new →
+        InsertsAs exact_ledger (told fate) held (key_in fragment.head)
         (fragment_of (arrived pool.old fragment.chain fragment.head.offset fragment.head.more))
         (unfinished_of pool.old (datagram_at table.old.items i))
         (with_waiting pool.old table.old.items counters.old rest) new }

@@ -36,7 +36,7 @@ pub struct HeldRange {
 }
 
 /// Returns the range at a place, in order of offset.
-fn range_at(pool: &Pool, train: &Train, k: u32) -> Option<HeldRange>
+pub(crate) fn range_at(pool: &Pool, train: &Train, k: u32) -> Option<HeldRange>
     requires { IsQueue pool.now train.now }
     ensures { result ≡ nth_of (map_of (fragments pool.now train.now)) k }
 {

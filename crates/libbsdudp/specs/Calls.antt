@@ -4,14 +4,17 @@ use Rattle.std.specs.Prelude.{◌≡◌, ℕ, ℤ, pos, ◌<◌, ◌≤◌, ◌=
 use Rattle.params.specs.declared.TheConstants.{IP_MAX_PACKET}
 use Rattle.flat_model.specs.declared.errno.Errno.{Errno}
 use Rattle.flat_model.specs.declared.address.Addr.{Addr}
+use Rattle.flat_model.specs.declared.fate.Fate.{Fate}
 use Rattle.flat_model.specs.Machine.Event.{Event, Reply, Open, Receive, Comes, Transmit, Done}
+use Rattle.flat_model.specs.Machine.Fate.{Fated}
 use Rattle.flat_model.specs.Machine.Replies.{done_reply, opened_reply, sent_reply, received_reply, given_reply, FitsRoom}
 use Rattle.flat_model.specs.Machine.Step.{Step}
 use Rattle.net_stack.specs.Stack.{StackView, state_of}
 use Rattle.libbsdudp.specs.declared.handle.Handle.{Handle}
 use Rattle.libbsdudp.specs.declared.plain.CAddr.{CAddr}
+use Rattle.libbsdudp.specs.declared.plain.CFate.{CFate}
 use Rattle.libbsdudp.specs.Answers.{no_stack, bad_length, counted_code, done_code, given_code, received_code}
-use Rattle.libbsdudp.specs.Plain.{whom}
+use Rattle.libbsdudp.specs.Plain.{c_fate, whom}
 
 -- the stack that a handle holds
 abbrev pub stack_in : Handle → Option StackView
@@ -72,6 +75,18 @@ pub record IsReceived (fd : ℕ) (answer : ℤ) (before buffer : List ℕ) (old 
 pub record AnswersArrival (packet : List ℕ) (answer : ℤ) (s n : StackView) : Type 0 where
   pub long : IP_MAX_PACKET < length packet → (answer ≡ bad_length) × (n ≡ s)
   pub comes : length packet ≤ IP_MAX_PACKET → (answer ≡ pos 0) × StepsTo (Comes packet) Done s n
+
+-- the step for a packet, and what became of it
+pub record HasFate (packet : List ℕ) (shown : CFate) (s n : StackView) : Type 0 where
+  pub fate : Fate
+  pub is : shown ≡ c_fate fate
+  pub step : StepsTo (Comes packet) Done s n
+  pub fated : Fated (state_of s) packet fate (state_of n)
+
+-- `rx_fate`: the result is 0, or -EMSGSIZE if the packet is too long, and then nothing changes
+pub record AnswersFate (packet : List ℕ) (answer : ℤ) (old new : CFate) (s n : StackView) : Type 0 where
+  pub long : IP_MAX_PACKET < length packet → (answer ≡ bad_length) × (n ≡ s) × (new ≡ old)
+  pub comes : length packet ≤ IP_MAX_PACKET → (answer ≡ pos 0) × HasFate packet new s n
 
 -- a packet for the link is at the front of the buffer, or the output queue is empty; the rest of the buffer is
 -- unchanged

@@ -13,18 +13,20 @@ use Rattle.flat_ether.specs.declared.error.NetFault.TheVariants.{Refused, Unreac
 use Rattle.flat_ether.specs.declared.neighbour.Neighbour.{Neighbour}
 use Rattle.flat_ether.specs.declared.sizes.TheConstants.{ETHER_HEADER, ETHER_MTU}
 use Rattle.flat_model.specs.declared.errno.Errno.{Errno}
+use Rattle.flat_model.specs.declared.fate.Fate.{Fate}
 use Rattle.net_stack.specs.Stack.{StackView}
 use Rattle.ether_host.specs.Fronts.{buffer_front}
 use Rattle.ether_host.specs.Inside.{link_seen}
-use Rattle.ether_host.specs.View.{HostView, host_of}
+use Rattle.ether_host.specs.View.{HostView, TellsFrame, host_of}
 use Rattle.libbsdudp.specs.declared.link_handle.LinkHandle.{LinkHandle}
 use Rattle.libbsdudp.specs.declared.link_plain.CLink.{CLink}
 use Rattle.libbsdudp.specs.declared.link_plain.CNeighbour.{CNeighbour}
 use Rattle.libbsdudp.specs.declared.link_plain.CTallies.{CTallies}
 use Rattle.libbsdudp.specs.declared.plain.CConfig.{CConfig}
+use Rattle.libbsdudp.specs.declared.plain.CFate.{CFate}
 use Rattle.libbsdudp.specs.Answers.{no_stack, bad_length, invalid, given_code, refusal_code}
 use Rattle.libbsdudp.specs.LinkPlain.{plain_link, c_neighbour, c_tallies}
-use Rattle.libbsdudp.specs.Plain.{config_of}
+use Rattle.libbsdudp.specs.Plain.{c_frame_fate, config_of}
 
 -- EOPNOTSUPP, 45
 abbrev pub no_link : ℤ
@@ -60,6 +62,18 @@ AnswersLink (Some l) answer after idle call = (n : LinkState) × (after ≡ Some
 pub record Arrives (frame : List ℕ) (answer : ℤ) (h n : HostView) : Type 0 where
   pub long : ETHER_HEADER + IP_MAX_PACKET < length frame → (answer ≡ bad_length) × (n ≡ h)
   pub takes : length frame ≤ ETHER_HEADER + IP_MAX_PACKET → (answer ≡ pos 0) × TakesFrame frame (host_of h) (host_of n)
+
+-- what a frame does, and what became of its packet
+pub record HasFrameFate (frame : List ℕ) (shown : CFate) (h n : HostView) : Type 0 where
+  pub told : Option Fate
+  pub is : shown ≡ c_frame_fate told
+  pub takes : TakesFrame frame (host_of h) (host_of n)
+  pub fated : TellsFrame frame told (host_of h) (host_of n)
+
+-- `receive_fate`: the result is 0, or -EMSGSIZE as for `receive`, and then nothing changes
+pub record ArrivesFate (frame : List ℕ) (answer : ℤ) (old new : CFate) (h n : HostView) : Type 0 where
+  pub long : ETHER_HEADER + IP_MAX_PACKET < length frame → (answer ≡ bad_length) × (n ≡ h) × (new ≡ old)
+  pub takes : length frame ≤ ETHER_HEADER + IP_MAX_PACKET → (answer ≡ pos 0) × HasFrameFate frame new h n
 
 -- a frame is at the front of the buffer, or no frame is queued
 pub record GivesFrame (buffer : List ℕ) (answer : ℤ) (h n : HostView) : Type 0 where

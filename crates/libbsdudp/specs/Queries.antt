@@ -15,7 +15,7 @@ use Rattle.ip_reass.specs.declared.questions.HeldRange.{HeldRange}
 use Rattle.ip_reass.specs.declared.questions.UnfinishedDatagram.{UnfinishedDatagram}
 use Rattle.net_stack.specs.Questions.{WouldReply}
 use Rattle.net_stack.specs.Stack.{StackView, state_of}
-use Rattle.sock_calls.specs.Questions.{next_datagram, readable, socket_name}
+use Rattle.sock_calls.specs.Questions.{next_datagram, readable, receive_limit_at, socket_name}
 use Rattle.sock_calls.specs.declared.questions.SocketName.{SocketName}
 use Rattle.sock_calls.specs.declared.questions.NextDatagram.{NextDatagram}
 use Rattle.libbsdudp.specs.declared.plain.CAddr.{CAddr}
@@ -35,6 +35,14 @@ ReturnsName (Err errno) answer old new = (answer ≡ refusal_code errno) × (new
 
 pub record ReportsName (fd : ℕ) (answer : ℤ) (old new : CName) (s : StackView) : Type 0 where
   pub is : ReturnsName (socket_name fd (state_of s)) answer old new
+
+-- the size of a receive queue that was set, or 0, or the error
+abbrev pub limit_code : Result ℕ Errno → ℤ
+limit_code (Ok limit) = pos limit
+limit_code (Err errno) = refusal_code errno
+
+pub record ReportsLimit (fd : ℕ) (answer : ℤ) (s : StackView) : Type 0 where
+  pub is : answer ≡ limit_code (receive_limit_at fd (state_of s))
 
 -- the oldest datagram is described, or the result is the error
 abbrev pub IsNext : Result NextDatagram Errno → ℤ → CNext → CNext → Type 0

@@ -1,5 +1,5 @@
 //! The queries of a stack, with the arguments and results as C has them.
-ghost use Rattle.libbsdudp.specs.Queries.{ReportsCounter, ReportsName, ReportsNext, ReportsOldest, ReportsOutput, ReportsPacket, ReportsRange, ReportsReadable, ReportsUnfinished, ReportsUsage, ReportsWaiting};
+ghost use Rattle.libbsdudp.specs.Queries.{ReportsCounter, ReportsLimit, ReportsName, ReportsNext, ReportsOldest, ReportsOutput, ReportsPacket, ReportsRange, ReportsReadable, ReportsUnfinished, ReportsUsage, ReportsWaiting};
 
 use crate::errors::{INVALID, count, refused};
 use crate::plain::{CAddr, CMbstat, CName, CNext, CRange, CUnfinished};
@@ -15,6 +15,16 @@ pub(crate) fn name(stack: &Stack, fd: u32, name: &mut CName) -> i32
             *name = CName::of(reported);
             0
         }
+        Err(errno) => refused(errno),
+    }
+}
+
+/// Returns the size of a socket's receive queue that was set, or 0.
+pub(crate) fn receive_limit(stack: &Stack, fd: u32) -> i32
+    ensures { ReportsLimit fd result stack.now }
+{
+    match stack.receive_limit(fd) {
+        Ok(limit) => i32::from(limit),
         Err(errno) => refused(errno),
     }
 }

@@ -1,11 +1,11 @@
 //! The calls that change a stack, with the arguments and results as C has them.
 ghost use Rattle.std.specs.Prelude.{◌≤◌, length};
 ghost use Rattle.params.specs.declared.TheConstants.{IP_MAX_PACKET};
-ghost use Rattle.flat_model.specs.Machine.Event.{Bind, Close, Comes, Connect, Done, Send, Set_option, Tick};
-ghost use Rattle.libbsdudp.specs.Calls.{GivesPacket, AnswersArrival, HasTicked, AnswersCall, AnswersTransmit, IsOpened, IsReceived, AnswersSend, StepsTo};
+ghost use Rattle.flat_model.specs.Machine.Event.{Bind, Close, Comes, Connect, Done, Send, Set_limit, Set_option, Tick};
+ghost use Rattle.libbsdudp.specs.Calls.{GivesPacket, AnswersArrival, AnswersFate, HasFate, HasTicked, AnswersCall, AnswersTransmit, IsOpened, IsReceived, AnswersSend, StepsTo};
 
 use crate::errors::{BAD_LENGTH, count, done, refused};
-use crate::plain::CAddr;
+use crate::plain::{CAddr, CFate};
 use flat_model::{Addr, Opt};
 use net_stack::Stack;
 use params::IP_MAX_PACKET;
@@ -50,6 +50,13 @@ pub(crate) fn set(stack: &mut Stack, fd: u32, option: Opt, on: bool) -> i32
     done(stack.setsockopt(fd, option, on))
 }
 
+/// Sets the size of a receive queue.
+pub(crate) fn limit(stack: &mut Stack, fd: u32, bytes: u16) -> i32
+    ensures { AnswersCall (Set_limit fd bytes) result stack.old stack.new }
+{
+    done(stack.set_receive_limit(fd, bytes))
+}
+
 /// Sends a datagram to an address, or without one to the peer.
 pub(crate) fn send(stack: &mut Stack, fd: u32, to: Option<Addr>, bytes: &[u8]) -> i32
     ensures { AnswersSend (Send fd to bytes.now) result stack.old stack.new }
@@ -90,6 +97,26 @@ pub(crate) fn rx(stack: &mut Stack, packet: &[u8]) -> i32
     }
     come(stack, packet);
     0
+}
+
+/// Passes a packet that isn't too long to the stack, and returns what became of it.
+fn come_told(stack: &mut Stack, packet: &[u8]) -> CFate
+    requires { length packet.now ≤ IP_MAX_PACKET }
+    ensures { HasFate packet.now result stack.old stack.new }
+{
+    CFate::of(stack.rx_told(packet))
+}
+
+/// Passes a packet to the stack, and writes what became of it.
+pub(crate) fn rx_fate(stack: &mut Stack, packet: &[u8], fate: &mut CFate) -> i32
+    ensures { AnswersFate packet.now result fate.old fate.new stack.old stack.new }
+{
+    if packet.len() <= IP_MAX_PACKET as usize {
+        *fate = come_told(stack, packet);
+        0
+    } else {
+        BAD_LENGTH
+    }
 }
 
 /// Takes the oldest packet of the output queue, into a buffer that is long enough.

@@ -1,9 +1,9 @@
 //! Conversions from and to the structs of C.
 ghost use Rattle.std.specs.Prelude.{◌≡◌};
-ghost use Rattle.libbsdudp.specs.Plain.{addr_of, config_of, c_name, c_next, c_range, c_unfinished, c_usage, whom};
+ghost use Rattle.libbsdudp.specs.Plain.{addr_of, config_of, c_fate, c_frame_fate, c_name, c_next, c_plain, c_range, c_unfinished, c_usage, c_whole, whom};
 
-use crate::plain::{CAddr, CConfig, CMbstat, CName, CNext, CRange, CUnfinished};
-use flat_model::{Addr, Config, Mbstat};
+use crate::plain::{CAddr, CConfig, CFate, CMbstat, CName, CNext, CRange, CUnfinished};
+use flat_model::{Addr, Config, Fate, Mbstat, Reached, Why};
 use net_stack::{HeldRange, UnfinishedDatagram};
 use sock_calls::{NextDatagram, SocketName};
 
@@ -110,6 +110,76 @@ impl CRange {
             offset: range.offset,
             len: range.len,
             more: u8::from(range.more),
+        }
+    }
+}
+
+/// `kind` of a `CFate`: a frame had no packet for the stack.
+const NO_PACKET: u8 = 0;
+
+/// The datagram was delivered, or lost by each socket that it was for.
+const DELIVERED: u8 = 1;
+
+/// The packet is a fragment that is kept for the others of its datagram.
+const KEPT: u8 = 2;
+
+/// The packet was dropped, or the datagram that it carried or completed.
+const DROPPED: u8 = 3;
+
+impl CFate {
+    /// What became of a whole datagram. `completed` is 1 if a fragment completed it, otherwise 0.
+    fn whole(completed: u8, whole: Result<Reached, Why>) -> CFate
+        ensures { result ≡ c_whole completed whole }
+    {
+        match whole {
+            Ok(reached) => CFate {
+                got: reached.got,
+                lost: reached.lost,
+                cause: 0,
+                kind: DELIVERED,
+                completed,
+            },
+            Err(why) => CFate {
+                got: 0,
+                lost: 0,
+                cause: why.counter() as u32,
+                kind: DROPPED,
+                completed,
+            },
+        }
+    }
+
+    /// A fate without sockets and without a cause.
+    fn plain(kind: u8) -> CFate
+        ensures { result ≡ c_plain kind }
+    {
+        CFate {
+            got: 0,
+            lost: 0,
+            cause: 0,
+            kind,
+            completed: 0,
+        }
+    }
+
+    /// What became of the packet in a frame. `None`: the stack got none.
+    pub(crate) fn of_frame(told: Option<Fate>) -> CFate
+        ensures { result ≡ c_frame_fate told }
+    {
+        match told {
+            Some(fate) => CFate::of(fate),
+            None => CFate::plain(NO_PACKET),
+        }
+    }
+
+    pub(crate) fn of(fate: Fate) -> CFate
+        ensures { result ≡ c_fate fate }
+    {
+        match fate {
+            Fate::Delivered(reached) => CFate::whole(0, Ok(reached)),
+            Fate::Kept => CFate::plain(KEPT),
+            Fate::Completed(whole) => CFate::whole(1, whole),
+            Fate::Dropped(why) => CFate::whole(0, Err(why)),
         }
     }
 }

@@ -2,7 +2,7 @@
 //! the link's half of the host. A call on a stack changes nothing in its link. The link is booted and ended separately.
 ghost use Rattle.std.specs.Prelude.{◌≡◌, ⊤};
 ghost use Rattle.libbsdudp.specs.Calls.{stack_in};
-ghost use Rattle.libbsdudp.specs.Ether.{AnswersHost, AnswersLink, HasAged, Arrives, IsFramed, IsLinkAsked, IsLinkBooted, IsLinkEnded, ReportsAddress, ReportsError, ReportsNeighbour, ReportsTallies, handle_link};
+ghost use Rattle.libbsdudp.specs.Ether.{AnswersHost, AnswersLink, HasAged, Arrives, ArrivesFate, IsFramed, IsLinkAsked, IsLinkBooted, IsLinkEnded, ReportsAddress, ReportsError, ReportsNeighbour, ReportsTallies, handle_link};
 
 use crate::errors::{INVALID, NO_LINK, NO_MEMORY, NO_STACK};
 use crate::ether_calls;
@@ -11,7 +11,7 @@ use crate::handle::Handle;
 use crate::link_handle::LinkHandle;
 use crate::link_owned::OwnedLink;
 use crate::link_plain::{CLink, CNeighbour, CTallies};
-use crate::plain::CConfig;
+use crate::plain::{CConfig, CFate};
 use ether_host::LinkLayer;
 use std::alloc::Global;
 
@@ -92,6 +92,37 @@ pub extern "C" fn bsdudp_core_ether_receive(
         &mut handle.value_mut().stack,
         &mut link.value_mut().layer,
         frame,
+    )
+}
+
+/// Receives a frame as `bsdudp_core_ether_receive` does, and writes what became of its packet. Returns 0, or -EMSGSIZE
+/// if it has more than 65,549 bytes.
+///
+///     int bsdudp_core_ether_receive_fate(struct bsdudp_core *, struct bsdudp_core *link, const uint8_t *frame,
+///                                        size_t len, struct bsdudp_fate *)
+#[tactic(auto, using(crate::proofs::EtherAnswered::host_answered))]
+#[unsafe(no_mangle)]
+pub extern "C" fn bsdudp_core_ether_receive_fate(
+    handle: &mut Handle,
+    link: &mut LinkHandle,
+    frame: &[u8],
+    fate: &mut CFate,
+) -> i32
+    ensures { AnswersHost (stack_in handle.old) (handle_link link.old) result (stack_in handle.new)
+        (handle_link link.new)
+        (fate.new ≡ fate.old) (ArrivesFate frame.now result fate.old fate.new) }
+{
+    if !handle.is_live() {
+        return NO_STACK;
+    }
+    if !link.is_live() {
+        return NO_LINK;
+    }
+    ether_calls::receive_fate(
+        &mut handle.value_mut().stack,
+        &mut link.value_mut().layer,
+        frame,
+        fate,
     )
 }
 

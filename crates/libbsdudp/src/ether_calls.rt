@@ -3,12 +3,13 @@ ghost use Rattle.std.specs.Prelude.{◌+◌, ◌≤◌, length};
 ghost use Rattle.params.specs.declared.TheConstants.{IP_MAX_PACKET};
 ghost use Rattle.flat_ether.specs.declared.sizes.TheConstants.{ETHER_HEADER, ETHER_MTU};
 ghost use Rattle.ether_host.specs.Inside.{link_seen};
-ghost use Rattle.libbsdudp.specs.Ether.{GivesFrame, HasAged, Arrives, IsFramed, ReportsAddress, ReportsError, ReportsNeighbour, ReportsTallies, both};
+ghost use Rattle.libbsdudp.specs.Ether.{GivesFrame, HasAged, Arrives, ArrivesFate, HasFrameFate, IsFramed, ReportsAddress, ReportsError, ReportsNeighbour, ReportsTallies, both};
 
 use crate::errors::{
     BAD_LENGTH, CONNECTION_REFUSED, HOST_UNREACHABLE, IN_USE, INVALID, count, refused,
 };
 use crate::link_plain::{CNeighbour, CTallies};
+use crate::plain::CFate;
 use ether_host::LinkLayer;
 use flat_ether::{AddressState, ETHER_HEADER, ETHER_MTU, NetFault};
 use net_stack::Stack;
@@ -29,6 +30,33 @@ pub(crate) fn receive(stack: &mut Stack, layer: &mut LinkLayer, frame: &[u8]) ->
     }
     layer.receive(stack, frame);
     0
+}
+
+/// Receives a frame that isn't too long, and returns what became of its packet.
+fn take(stack: &mut Stack, layer: &mut LinkLayer, frame: &[u8]) -> CFate
+    requires { length frame.now ≤ ETHER_HEADER + IP_MAX_PACKET }
+    ensures { HasFrameFate frame.now result (both stack.old (link_seen layer.old))
+        (both stack.new (link_seen layer.new)) }
+{
+    CFate::of_frame(layer.receive(stack, frame))
+}
+
+/// Receives a frame, and writes what became of its packet.
+pub(crate) fn receive_fate(
+    stack: &mut Stack,
+    layer: &mut LinkLayer,
+    frame: &[u8],
+    fate: &mut CFate,
+) -> i32
+    ensures { ArrivesFate frame.now result fate.old fate.new (both stack.old (link_seen layer.old))
+        (both stack.new (link_seen layer.new)) }
+{
+    if frame.len() <= LONGEST {
+        *fate = take(stack, layer, frame);
+        0
+    } else {
+        BAD_LENGTH
+    }
 }
 
 /// Takes the next frame, into a buffer that is long enough.

@@ -3,9 +3,9 @@
 #![tactic(auto)]
 
 ghost use Rattle.std.specs.Prelude.{◌≡◌, None, Some, ⊤};
-ghost use Rattle.flat_model.specs.Machine.Event.{Bind, Close, Connect, Send, Set_option, Tick};
+ghost use Rattle.flat_model.specs.Machine.Event.{Bind, Close, Connect, Send, Set_limit, Set_option, Tick};
 ghost use Rattle.flat_model.specs.declared.option.Opt.TheVariants.{Broadcast, ReusePort};
-ghost use Rattle.libbsdudp.specs.Calls.{Answers, AnswersArrival, HasTicked, AnswersCall, AnswersTransmit, IsOpened, IsReceived, AnswersSend, stack_in};
+ghost use Rattle.libbsdudp.specs.Calls.{Answers, AnswersArrival, AnswersFate, HasTicked, AnswersCall, AnswersTransmit, IsOpened, IsReceived, AnswersSend, stack_in};
 ghost use Rattle.libbsdudp.specs.Plain.{addr_of};
 
 mod asks;
@@ -34,7 +34,7 @@ use errors::NO_STACK;
 use exchange::with_held;
 use flat_model::Opt;
 use handle::Handle;
-use plain::CAddr;
+use plain::{CAddr, CFate};
 
 /// Receives a packet. Returns 0, or -EMSGSIZE if it has more than 65,535 bytes.
 ///
@@ -45,6 +45,19 @@ pub extern "C" fn bsdudp_core_rx(handle: &mut Handle, packet: &[u8]) -> i32
     ensures { Answers (stack_in handle.old) result (stack_in handle.new) ⊤ (AnswersArrival packet.now result) }
 {
     with_held!(handle, NO_STACK, held => calls::rx(&mut held.stack, packet))
+}
+
+/// Receives a packet as `bsdudp_core_rx` does, and writes what became of it. Returns 0, or -EMSGSIZE if it has more
+/// than 65,535 bytes.
+///
+///     int bsdudp_core_rx_fate(struct bsdudp_core *, const uint8_t *packet, size_t len, struct bsdudp_fate *)
+#[tactic(auto, using(crate::proofs::Answered::answered))]
+#[unsafe(no_mangle)]
+pub extern "C" fn bsdudp_core_rx_fate(handle: &mut Handle, packet: &[u8], fate: &mut CFate) -> i32
+    ensures { Answers (stack_in handle.old) result (stack_in handle.new) (fate.new ≡ fate.old)
+        (AnswersFate packet.now result fate.old fate.new) }
+{
+    with_held!(handle, NO_STACK, held => calls::rx_fate(&mut held.stack, packet, fate))
 }
 
 /// Takes the oldest packet of the output queue. Returns its length in bytes, or 0 if the queue is empty; -EMSGSIZE if
@@ -181,4 +194,16 @@ pub extern "C" fn bsdudp_core_set_reuse_port(handle: &mut Handle, fd: u32, on: b
         (AnswersCall (Set_option fd ReusePort on) result) }
 {
     with_held!(handle, NO_STACK, held => calls::set(&mut held.stack, fd, Opt::ReusePort, on))
+}
+
+/// Sets the size in bytes of a socket's receive queue. Returns 0, or a negative error code.
+///
+///     int bsdudp_core_set_receive_limit(struct bsdudp_core *, uint32_t fd, uint16_t limit)
+#[tactic(auto, using(crate::proofs::Answered::answered))]
+#[unsafe(no_mangle)]
+pub extern "C" fn bsdudp_core_set_receive_limit(handle: &mut Handle, fd: u32, limit: u16) -> i32
+    ensures { Answers (stack_in handle.old) result (stack_in handle.new) ⊤
+        (AnswersCall (Set_limit fd limit) result) }
+{
+    with_held!(handle, NO_STACK, held => calls::limit(&mut held.stack, fd, limit))
 }

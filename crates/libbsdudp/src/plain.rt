@@ -109,3 +109,19 @@ pub struct CRange {
     /// 1 if more fragments follow the one that brought these bytes, otherwise 0.
     pub more: u8,
 }
+
+/// `struct bsdudp_fate`.
+#[repr(C)]
+#[derive(Clone, Copy)]
+pub struct CFate {
+    /// The sockets that got the datagram: bit k is descriptor 3 + k.
+    pub got: u64,
+    /// The sockets that lost it.
+    pub lost: u64,
+    /// The index of the counter that counts the drop; 0 if there is none.
+    pub cause: u32,
+    /// 1 if the datagram was delivered, 2 if the fragment is kept, 3 if the packet or its datagram was dropped.
+    pub kind: u8,
+    /// 1 if the packet is a fragment that completed its datagram, otherwise 0.
+    pub completed: u8,
+}

@@ -1,7 +1,7 @@
 //! The queries, which leave the stack unchanged.
 ghost use Rattle.std.specs.Prelude.{◌≡◌, ⊤};
 ghost use Rattle.libbsdudp.specs.Calls.{Answers, AnswersQuestion, stack_in};
-ghost use Rattle.libbsdudp.specs.Queries.{ReportsCounter, ReportsName, ReportsNext, ReportsOldest, ReportsOutput, ReportsPacket, ReportsRange, ReportsReadable, ReportsUnfinished, ReportsUsage, ReportsWaiting};
+ghost use Rattle.libbsdudp.specs.Queries.{ReportsCounter, ReportsLimit, ReportsName, ReportsNext, ReportsOldest, ReportsOutput, ReportsPacket, ReportsRange, ReportsReadable, ReportsUnfinished, ReportsUsage, ReportsWaiting};
 
 use crate::asks;
 use crate::errors::NO_STACK;
@@ -19,6 +19,17 @@ pub extern "C" fn bsdudp_core_name(handle: &mut Handle, fd: u32, name: &mut CNam
         (AnswersQuestion (ReportsName fd result name.old name.new)) }
 {
     with_held!(handle, NO_STACK, held => asks::name(&held.stack, fd, name))
+}
+
+/// Returns the size in bytes that was set for a socket's receive queue, 0 if none was set, or -EBADF.
+///
+///     int bsdudp_core_receive_limit(struct bsdudp_core *, uint32_t fd)
+#[tactic(auto, using(crate::proofs::Answered::asked))]
+#[unsafe(no_mangle)]
+pub extern "C" fn bsdudp_core_receive_limit(handle: &mut Handle, fd: u32) -> i32
+    ensures { Answers (stack_in handle.old) result (stack_in handle.new) ⊤ (AnswersQuestion (ReportsLimit fd result)) }
+{
+    with_held!(handle, NO_STACK, held => asks::receive_limit(&held.stack, fd))
 }
 
 /// Reads the sender and the length of the oldest queued datagram of a socket. Returns 0, or a negative error code if

@@ -5,9 +5,11 @@ use Rattle.std.specs.List.{remove}
 use Rattle.flat_model.specs.Amounts.Weight.{Weight, Item, nothing, ◌⊕◌, all_of}
 use Rattle.flat_model.specs.Machine.State.{State}
 use Rattle.flat_model.specs.Machine.Ledger.{exact_ledger, weight_of_state}
-use Rattle.flat_model.specs.Machine.Arrival.{Looped, Arrives, AllArrive}
+use Rattle.flat_model.specs.Machine.Arrival.{Looped, Arrives, AllArrive, silent}
+use Rattle.flat_model.specs.Machine.Fate.{told}
+use Rattle.flat_model.specs.declared.fate.Fate.{Fate}
 use Rattle.flat_model.specs.declared.counters.Counters.{Counters}
-use Rattle.flat_model.proofs.Laws.{nothing-both, times-both}
+use Rattle.flat_model.proofs.Laws.{arrives_too, itself, nothing-both, times-both}
 use Rattle.mbuf_chain.specs.Chain.{Entry, PoolView, chain_of, entry_of, no_entry}
 use Rattle.mbuf_chain.specs.Owners.{times_among, IsOwned, Moves}
 use Rattle.mbuf_chain.specs.Frames.{SameAt}
@@ -115,15 +117,15 @@ one_owned {q = q} {s = s} {ds = ds} {c = c} t u a =
     λ k. omega (arith, a.owned k, times-append k (numbers q u) (held_all q ds.datagrams ++ queued_chains q s.queues))
 
 pub one_more : {v : NetView} {t u u1 : TrainView} {q q1 q2 : PoolView} {s s2 : SocksView} {ds ds2 : TableView}
-    {a b : Counters} {c : ℕ} (tag : ℕ)
+    {a b : Counters} {c : ℕ} {fate : Fate} (tag : ℕ)
     → AreArriving v t (host_view q s ds a) u → IsHeld q u → BeginPlain q u
     → IsOwned q (numbers q u ++ (held_all q ds.datagrams ++ queued_chains q s.queues)) → IsReady q ds
     → 0 < u.len → queued_packets q1 u1 ≡ remove (queued_packets q u) 0
     → queued_packet_at q u 0 ≡ record { number = c; entries = (chain_of q1 c).entries; tag = tag } → IsHeld q1 u1
     → Moves q (numbers q u) q1 (c ∷ numbers q1 u1)
-    → IsArrived (host_view q1 s ds a) c (host_view q2 s2 ds2 b)
+    → IsArrived (host_view q1 s ds a) c fate (host_view q2 s2 ds2 b)
     → IsOneMore v t q2 s2 ds2 b u1
-one_more {v} {t} {u} {u1} {q} {q1} {q2} {s} {s2} {ds} {ds2} {a} {b} {c} tag w held plain owned table some
+one_more {v} {t} {u} {u1} {q} {q1} {q2} {s} {s2} {ds} {ds2} {a} {b} {c} {fate} tag w held plain owned table some
     is_queued_packets is_queued_packet held1 m arrived =
     let x : Aside q ds s (numbers q u) q1 (c ∷ numbers q1 u1) = taken u u1 owned table w.parts.ready m in
     let f : IsFirst q u q1 c u1 = is_first q q1 u u1 c tag held plain some is_queued_packets is_queued_packet in
@@ -152,7 +154,10 @@ one_more {v} {t} {u} {u1} {q} {q1} {q2} {s} {s2} {ds} {ds2} {a} {b} {c} tag w he
             let mid : State = with_net q2 s2 (unfinished q2 ds2.datagrams) b rest in
             let step : Arrives exact_ledger Looped wl (item_at q1 c) (with_net q1 s (unfinished q1 ds.datagrams) a rest)
             mid =
-            arrived.step rest wl Looped f.plain (alone rest acc) in
+            arrives_too exact_ledger exact_ledger (itself exact_ledger) (told fate) silent (λ end new is h. h.1)
+            Looped wl
+            (item_at q1 c) (with_net q1 s (unfinished q1 ds.datagrams) a rest) mid
+            (arrived.step rest wl Looped f.plain (alone rest acc)) in
             let first : Arrives exact_ledger Looped (all_of (λ (item : Item). item.weight) (train_packets q1 u1))
             (item_at q1 c) (with_net q s (unfinished q ds.datagrams) a rest) mid =
             subst (λ (h : Weight). Arrives exact_ledger Looped h (item_at q1 c)

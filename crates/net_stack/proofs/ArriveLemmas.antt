@@ -1,5 +1,5 @@
 -- The outcomes of a packet that arrives.
-use Rattle.std.proofs.Common.{◌≡◌, ◌⊎◌, ℕ, ◌<◌, ◌≤◌, min, Bool, true, false, List, [], ◌∷◌, ◌++◌, length, take, drop, None, Some, is_some, refl, sym, ap, ◌∙◌, subst, arith, inl, inr}
+use Rattle.std.proofs.Common.{◌≡◌, ◌⊎◌, ℕ, ◌<◌, ◌≤◌, min, Bool, true, false, List, [], ◌∷◌, ◌++◌, length, take, drop, None, Some, Result, Ok, Err, is_some, refl, sym, ap, ◌∙◌, subst, arith, inl, inr}
 use Rattle.std.specs.Prelude.{◌/◌, ◌%◌, ◌==◌, not, nat_lt, slice_index, slice_index_or}
 use Rattle.std.specs.List.{AllByRecursion as Each}
 use Rattle.std.proofs.lemmas.Bool.{true≢false, ltb-false, cases_lt}
@@ -12,7 +12,11 @@ use Rattle.flat_model.specs.Packets.Header.{head_fault, head_of, total_of}
 use Rattle.flat_model.specs.Machine.Count.{counted, counts_more}
 use Rattle.flat_model.specs.Machine.State.{State, ends}
 use Rattle.flat_model.specs.Machine.Ledger.{exact_ledger}
-use Rattle.flat_model.specs.Machine.Arrival.{Origin, By_wire, Looped, Arrives, Passes, FragmentArrives, WholeArrives, counts_packet, carried, is_for_us, is_fragment}
+use Rattle.flat_model.specs.Machine.Arrival.{Origin, By_wire, Looped, ArrivesAs, PassesAs, FragmentArrivesAs, WholeArrivesAs, counts_packet, carried, is_for_us, is_fragment}
+use Rattle.flat_model.specs.Machine.Fate.{told, told_whole}
+use Rattle.flat_model.specs.declared.fate.Fate.{Fate}
+use Rattle.flat_model.specs.declared.fate.Fate.TheVariants.{Completed, Dropped}
+use Rattle.flat_model.specs.declared.fate.Reached.{Reached}
 use Rattle.flat_model.specs.declared.counter.Counter.TheVariants.{IpTotal}
 use Rattle.flat_model.specs.declared.counters.Counters.{Counters}
 use Rattle.flat_model.specs.declared.counters.Why.{Why}
@@ -33,7 +37,7 @@ use Rattle.ip_reass.specs.Arrivals as reass
 use Rattle.sock_calls.specs.Sockets.{SocksView, IsSocks, queued_chains, with_sockets, with_net}
 use Rattle.sock_calls.specs.Delivery.{NetView, net_state, KeepsParts, IsInput}
 use Rattle.sock_calls.proofs.Laws.{keeps_trans, only_weighs, without_weighs}
-use Rattle.net_stack.specs.Inside.Arrivals.{is_ours_or_all, IsFragmentTaken, IsArrived}
+use Rattle.net_stack.specs.Inside.Arrivals.{fate_of, is_ours_or_all, IsFragmentTaken, IsArrived}
 use Rattle.net_stack.proofs.Aside.{Aside, aside, aside_keeps, as_held, host_view, BesideSocks, beside_socks}
 
 -- ---- a chain with other entries
@@ -69,23 +73,23 @@ freed {p} {q} {ds} {s} c owned table socks e = aside (c ∷ []) [] owned table s
 -- ---- a fragment
 
 -- the fragment in chain c was added to the unfinished datagrams; `hand` are the chains that the caller owns afterwards
-pub record Arrived (p : PoolView) (ds : TableView) (a : Counters) (c : ℕ) (h : IpHead) (q : PoolView) (es : TableView)
-    (b : Counters) (hand : List ℕ) (Then : Weight → State → State → Type 0) : Type 0 where
+pub record Arrived (p : PoolView) (ds : TableView) (a : Counters) (c : ℕ) (h : IpHead) (fate : Fate) (q : PoolView)
+    (es : TableView) (b : Counters) (hand : List ℕ) (Then : Weight → State → State → Type 0) : Type 0 where
   pub step : (rest : State) (held : Weight) (origin : Origin) (new : State) → CameBy origin (chain_of p c)
       → IsAccounted p (reass.with_waiting p ds.datagrams a rest) (held ⊕ weight_at p c)
       → Then held (reass.with_waiting q es.datagrams b rest) new
-      → FragmentArrives exact_ledger origin held (flat_head h) (carried_at p c)
+      → FragmentArrivesAs exact_ledger (told fate) origin held (flat_head h) (carried_at p c)
       (reass.with_waiting p ds.datagrams a rest) new
   pub accounts : (rest : State) (held : Weight) → IsAccounted p (reass.with_waiting p ds.datagrams a rest)
       (held ⊕ weight_at p c) → IsAccounted q (reass.with_waiting q es.datagrams b rest) (held ⊕ weight_owned q hand)
   pub moves : Moves p (c ∷ held_all p ds.datagrams) q (hand ++ held_all q es.datagrams)
 
 -- its datagram is still incomplete, or the fragment was dropped
-pub waits : {p q : PoolView} {ds es : TableView} {s : SocksView} {a b : Counters} {c : ℕ} {h : IpHead}
+pub waits : {p q : PoolView} {ds es : TableView} {s : SocksView} {a b : Counters} {c : ℕ} {h : IpHead} {fate : Fate}
     → IsOwned p (c ∷ (held_all p ds.datagrams ++ queued_chains p s.queues)) → IsSocks p s
-    → Arrived p ds a c h q es b [] (λ held now new. new ≡ now)
-    → IsFragmentTaken (host_view p s ds a) c h (host_view q s es b)
-waits {p} {q} {ds} {es} {s} {a} {b} {c} {h} owned socks is =
+    → Arrived p ds a c h fate q es b [] (λ held now new. new ≡ now)
+    → IsFragmentTaken (host_view p s ds a) c h fate (host_view q s es b)
+waits {p} {q} {ds} {es} {s} {a} {b} {c} {h} {fate} owned socks is =
     let beside : BesideSocks p s (c ∷ held_all p ds.datagrams) q [] (held_all q es.datagrams) =
     beside_socks (c ∷ held_all p ds.datagrams) [] (held_all q es.datagrams) owned socks is.moves in
     let now : (rest : State) → with_net q s (unfinished q es.datagrams) b rest
@@ -106,12 +110,13 @@ waits {p} {q} {ds} {es} {s} {a} {b} {c} {h} owned socks is =
 
 -- its datagram is complete, and was delivered to the sockets
 pub completes : {p q : PoolView} {ds es : TableView} {s : SocksView} {a b : Counters} {c d : ℕ} {h : IpHead}
-    {u : NetView} (g : IpHead) → IsOwned p (c ∷ (held_all p ds.datagrams ++ queued_chains p s.queues)) → IsSocks p s
-    → Arrived p ds a c h q es b (d ∷ []) (λ held now new. WholeArrives exact_ledger held g.src g.dst g.proto
-    (item_at q d) now new)
-    → IsInput (host_view q s es b) d g.src g.dst g.proto u
-    → IsFragmentTaken (host_view p s ds a) c h u
-completes {p} {q} {ds} {es} {s} {a} {b} {c} {d} {h} {u} g owned socks is input =
+    {u : NetView} {whole : Result Reached Why} (g : IpHead)
+    → IsOwned p (c ∷ (held_all p ds.datagrams ++ queued_chains p s.queues)) → IsSocks p s
+    → Arrived p ds a c h (Completed whole) q es b (d ∷ []) (λ held now new. WholeArrivesAs exact_ledger
+    (told_whole whole) held g.src g.dst g.proto (item_at q d) now new)
+    → IsInput (host_view q s es b) d g.src g.dst g.proto whole u
+    → IsFragmentTaken (host_view p s ds a) c h (Completed whole) u
+completes {p} {q} {ds} {es} {s} {a} {b} {c} {d} {h} {u} {whole} g owned socks is input =
     let beside : BesideSocks p s (c ∷ held_all p ds.datagrams) q (d ∷ []) (held_all q es.datagrams) =
     beside_socks (c ∷ held_all p ds.datagrams) (d ∷ []) (held_all q es.datagrams) owned socks is.moves in
     let now : (rest : State) → with_net q s (unfinished q es.datagrams) b rest
@@ -126,8 +131,8 @@ completes {p} {q} {ds} {es} {s} {a} {b} {c} {d} {h} {u} g owned socks is input =
     record {
       step = λ rest held origin came acc.
           is.step (with_sockets p s rest) held origin (net_state u rest) came acc
-          (subst (λ (t : State). WholeArrives exact_ledger held g.src g.dst g.proto (item_at q d) t (net_state u rest))
-          (now rest) (input.step rest held (mid rest held acc)));
+          (subst (λ (t : State). WholeArrivesAs exact_ledger (told_whole whole) held g.src g.dst g.proto (item_at q d) t
+          (net_state u rest)) (now rest) (input.step rest held (mid rest held acc)));
       parts = record {
         accounts = λ rest held acc. input.parts.accounts rest held (mid rest held acc);
         ready = input.parts.ready;
@@ -170,14 +175,23 @@ headed bytes h none says =
 
 -- ---- a packet
 
+-- what is told of a whole datagram is told of its packet
+pub as_fate : (whole : Result Reached Why) (held : Weight) (source destination protocol : ℕ) (item : Item)
+    (old new : State)
+    → WholeArrivesAs exact_ledger (told_whole whole) held source destination protocol item old new
+    → WholeArrivesAs exact_ledger (told (fate_of whole)) held source destination protocol item old new
+as_fate (Ok reached) held source destination protocol item old new arrives = arrives
+as_fate (Err why) held source destination protocol item old new arrives = arrives
+
 -- it is dropped: its header has a fault, or it's for another machine
 pub ends_here : {p q : PoolView} {ds : TableView} {s : SocksView} {a b e : Counters} {c : ℕ} (why : Why) → IsReady p ds
     → IsSocks p s → IsOwned p (c ∷ (held_all p ds.datagrams ++ queued_chains p s.queues)) → q ≡ without p c
     → b ≡ counts_more IpTotal 1 a → e ≡ counted why b
     → ((rest : State) (held : Weight) (origin : Origin)
-    → Arrives exact_ledger origin held (item_at p c) (with_net p s (unfinished p ds.datagrams) a rest)
+    → ArrivesAs exact_ledger (told (Dropped why)) origin held (item_at p c)
+    (with_net p s (unfinished p ds.datagrams) a rest)
     (ends why (counts_packet (with_net p s (unfinished p ds.datagrams) a rest))))
-    → IsArrived (host_view p s ds a) c (host_view q s ds e)
+    → IsArrived (host_view p s ds a) c (Dropped why) (host_view q s ds e)
 ends_here {p} {q} {ds} {s} {a} {b} {e} {c} why table socks owned gone is_b is_e ended =
     let beside : Aside p ds s (c ∷ []) q [] = freed c owned table socks gone in
     let count : e ≡ counted why (counts_more IpTotal 1 a) = is_e ∙ ap (counted why) is_b in
@@ -185,33 +199,39 @@ ends_here {p} {q} {ds} {s} {a} {b} {e} {c} why table socks owned gone is_b is_e 
     ≡ ends why (counts_packet (with_net p s (unfinished p ds.datagrams) a rest)) =
     λ rest. beside.shows e rest ∙ (λ i. with_net p s (unfinished p ds.datagrams) (count i) rest) in
     record {
-      step = λ rest held origin came acc. subst (λ (t : State). Arrives exact_ledger origin held (item_at p c)
-          (with_net p s (unfinished p ds.datagrams) a rest) t) (sym (now rest)) (ended rest held origin);
+      step = λ rest held origin came acc. subst (λ (t : State). ArrivesAs exact_ledger (told (Dropped why)) origin held
+          (item_at p c) (with_net p s (unfinished p ds.datagrams) a rest) t) (sym (now rest)) (ended rest held origin);
       parts = aside_keeps a e beside;
     }
 
 pub refused : (bytes : List ℕ) (origin : Origin) (held : Weight) (w : Weight) (old : State) (why : Why)
     → head_fault bytes ≡ Some why
-    → Arrives exact_ledger origin held (record { bytes = bytes; weight = w }) old (ends why (counts_packet old))
+    → ArrivesAs exact_ledger (told (Dropped why)) origin held (record { bytes = bytes; weight = w }) old
+    (ends why (counts_packet old))
 refused bytes origin held w old why is = record {
   none = λ e. absurd (none-some why (sym e ∙ is));
-  some = λ y e. ap (λ (x : Why). ends x (counts_packet old)) (same_Some why y (sym is ∙ e));
+  some = λ y e. (
+    same_Some why y (sym is ∙ e),
+    ap (λ (x : Why). ends x (counts_packet old)) (same_Some why y (sym is ∙ e)),
+  );
 }
 
-pub passes : (bytes : List ℕ) (origin : Origin) (held : Weight) (w : Weight) (old new : State) → head_fault bytes ≡ None
-    → Passes exact_ledger origin held (record { bytes = bytes; weight = w }) (counts_packet old) new
-    → Arrives exact_ledger origin held (record { bytes = bytes; weight = w }) old new
-passes bytes origin held w old new none p = record {
+pub passes : (fate : Fate) (bytes : List ℕ) (origin : Origin) (held : Weight) (w : Weight) (old new : State)
+    → head_fault bytes ≡ None
+    → PassesAs exact_ledger (told fate) origin held (record { bytes = bytes; weight = w }) (counts_packet old) new
+    → ArrivesAs exact_ledger (told fate) origin held (record { bytes = bytes; weight = w }) old new
+passes fate bytes origin held w old new none p = record {
   none = λ e. p;
   some = λ why e. absurd (none-some why (sym none ∙ e));
 }
 
 pub forwarded : (bytes : List ℕ) (origin : Origin) (held : Weight) (w : Weight) (old : State) → head_fault bytes ≡ None
     → is_for_us old.config (head_of bytes).destination ≡ false
-    → Arrives exact_ledger origin held (record { bytes = bytes; weight = w }) old (ends CantForward (counts_packet old))
+    → ArrivesAs exact_ledger (told (Dropped CantForward)) origin held (record { bytes = bytes; weight = w }) old
+    (ends CantForward (counts_packet old))
 forwarded bytes origin held w old none other =
-    passes bytes origin held w old (ends CantForward (counts_packet old)) none
-    (record { yes = λ e. absurd (true≢false (sym e ∙ other)); no = λ e. refl })
+    passes (Dropped CantForward) bytes origin held w old (ends CantForward (counts_packet old)) none
+    (record { yes = λ e. absurd (true≢false (sym e ∙ other)); no = λ e. (refl, refl) })
 
 -- ---- trimming the end of a chain keeps the cluster of its first entry
 
@@ -309,32 +329,34 @@ counted_now {p} {q} {ds} {s} {a} {b} is rest = is.cut.beside.shows b rest
 
 -- it passes the tests of its header, and of its destination
 ours_pass : {p q : PoolView} {ds : TableView} {s : SocksView} {a b : Counters} {c : ℕ} {h : IpHead}
-    (is : IsForUs p ds s a c h q b) (rest : State) (held : Weight) (origin : Origin) (new : State)
-    → (is_fragment (flat_head h) ≡ true → FragmentArrives exact_ledger origin held (flat_head h) (carried (item_at p c))
-    (counts_packet (with_net p s (unfinished p ds.datagrams) a rest)) new)
-    → (is_fragment (flat_head h) ≡ false → WholeArrives exact_ledger held h.src h.dst h.proto (carried (item_at p c))
-    (counts_packet (with_net p s (unfinished p ds.datagrams) a rest)) new)
-    → Arrives exact_ledger origin held (item_at p c) (with_net p s (unfinished p ds.datagrams) a rest) new
-ours_pass {p} {q} {ds} {s} {a} {b} {c} {h} is rest held origin new part all =
+    (fate : Fate) (is : IsForUs p ds s a c h q b) (rest : State) (held : Weight) (origin : Origin) (new : State)
+    → (is_fragment (flat_head h) ≡ true → FragmentArrivesAs exact_ledger (told fate) origin held (flat_head h)
+    (carried (item_at p c)) (counts_packet (with_net p s (unfinished p ds.datagrams) a rest)) new)
+    → (is_fragment (flat_head h) ≡ false → WholeArrivesAs exact_ledger (told fate) held h.src h.dst h.proto
+    (carried (item_at p c)) (counts_packet (with_net p s (unfinished p ds.datagrams) a rest)) new)
+    → ArrivesAs exact_ledger (told fate) origin held (item_at p c) (with_net p s (unfinished p ds.datagrams) a rest) new
+ours_pass {p} {q} {ds} {s} {a} {b} {c} {h} fate is rest held origin new part all =
     let old : State = with_net p s (unfinished p ds.datagrams) a rest in
     let bytes : List ℕ = string (chain_of p c) in
-    passes bytes origin held (weight_at p c) old new is.head.none (record {
+    passes fate bytes origin held (weight_at p c) old new is.head.none (record {
       yes = λ e. subst (λ (x : IpHead). Choice (is_fragment (flat_head x))
-          (FragmentArrives exact_ledger origin held (flat_head x) (carried (item_at p c)) (counts_packet old) new)
-          (WholeArrives exact_ledger held x.src x.dst x.proto (carried (item_at p c)) (counts_packet old) new))
+          (FragmentArrivesAs exact_ledger (told fate) origin held (flat_head x) (carried (item_at p c))
+          (counts_packet old) new)
+          (WholeArrivesAs exact_ledger (told fate) held x.src x.dst x.proto (carried (item_at p c))
+          (counts_packet old) new))
           is.head.says (record { yes = part; no = all });
       no = λ e. absurd (true≢false (sym (is.ours rest) ∙ ap (λ (x : IpHead). is_for_us old.config x.dst) is.head.says
           ∙ e));
     })
 
 pub fragment_arrives : {p q : PoolView} {ds : TableView} {s : SocksView} {a b : Counters} {c : ℕ} {h : IpHead}
-    {u : NetView} → IsForUs p ds s a c h q b → is_fragment (flat_head h) ≡ true
-    → IsFragmentTaken (host_view q s ds b) c h u → IsArrived (host_view p s ds a) c u
-fragment_arrives {p} {q} {ds} {s} {a} {b} {c} {h} {u} is part taken = record {
-  step = λ rest held origin came acc. ours_pass is rest held origin (net_state u rest)
-      (λ e. subst (λ (x : Item). FragmentArrives exact_ledger origin held (flat_head h) x
+    {fate : Fate} {u : NetView} → IsForUs p ds s a c h q b → is_fragment (flat_head h) ≡ true
+    → IsFragmentTaken (host_view q s ds b) c h fate u → IsArrived (host_view p s ds a) c fate u
+fragment_arrives {p} {q} {ds} {s} {a} {b} {c} {h} {fate} {u} is part taken = record {
+  step = λ rest held origin came acc. ours_pass fate is rest held origin (net_state u rest)
+      (λ e. subst (λ (x : Item). FragmentArrivesAs exact_ledger (told fate) origin held (flat_head h) x
       (counts_packet (with_net p s (unfinished p ds.datagrams) a rest)) (net_state u rest)) (carried_cut is)
-      (subst (λ (t : State). FragmentArrives exact_ledger origin held (flat_head h) (carried_at q c) t
+      (subst (λ (t : State). FragmentArrivesAs exact_ledger (told fate) origin held (flat_head h) (carried_at q c) t
       (net_state u rest)) (counted_now is rest)
       (taken.step rest held origin (came_cut origin h.total (chain_of p c) (chain_of q c) is.cut.entries came)
       (is.cut.beside.accounts a b rest held acc))))
@@ -343,11 +365,11 @@ fragment_arrives {p} {q} {ds} {s} {a} {b} {c} {h} {u} is part taken = record {
 }
 
 pub whole_arrives : {p q r : PoolView} {ds : TableView} {s : SocksView} {a b : Counters} {c : ℕ} {h : IpHead}
-    {u : NetView} → IsForUs p ds s a c h q b → is_fragment (flat_head h) ≡ false
+    {whole : Result Reached Why} {u : NetView} → IsForUs p ds s a c h q b → is_fragment (flat_head h) ≡ false
     → IsChanged q ds s c r (without_first 20 (chain_of q c).entries)
-    → IsInput (host_view r s ds b) c h.src h.dst h.proto u
-    → IsArrived (host_view p s ds a) c u
-whole_arrives {p} {q} {r} {ds} {s} {a} {b} {c} {h} {u} is all off input =
+    → IsInput (host_view r s ds b) c h.src h.dst h.proto whole u
+    → IsArrived (host_view p s ds a) c (fate_of whole) u
+whole_arrives {p} {q} {r} {ds} {s} {a} {b} {c} {h} {whole} {u} is all off input =
     let item : item_at r c ≡ carried (item_at p c) =
     (λ i. record {
       bytes = (ap flat_bytes off.entries ∙ without_first_bytes 20 (chain_of q c).entries) i;
@@ -356,12 +378,14 @@ whole_arrives {p} {q} {r} {ds} {s} {a} {b} {c} {h} {u} is all off input =
     let cut : KeepsParts (host_view p s ds a) (c ∷ []) (host_view r s ds b) (c ∷ []) =
     keeps_trans (aside_keeps a b is.cut.beside) (aside_keeps b b off.beside) in
     record {
-      step = λ rest held origin came acc. ours_pass is rest held origin (net_state u rest)
+      step = λ rest held origin came acc. ours_pass (fate_of whole) is rest held origin (net_state u rest)
           (λ e. absurd (true≢false (sym e ∙ all)))
-          (λ e. subst (λ (x : Item). WholeArrives exact_ledger held h.src h.dst h.proto x
+          (λ e. as_fate whole held h.src h.dst h.proto (carried (item_at p c))
+          (counts_packet (with_net p s (unfinished p ds.datagrams) a rest)) (net_state u rest)
+          (subst (λ (x : Item). WholeArrivesAs exact_ledger (told_whole whole) held h.src h.dst h.proto x
           (counts_packet (with_net p s (unfinished p ds.datagrams) a rest)) (net_state u rest)) item
-          (subst (λ (t : State). WholeArrives exact_ledger held h.src h.dst h.proto (item_at r c) t (net_state u rest))
-          (off.beside.shows b rest ∙ counted_now is rest)
-          (input.step rest held (cut.accounts rest held acc))));
+          (subst (λ (t : State). WholeArrivesAs exact_ledger (told_whole whole) held h.src h.dst h.proto (item_at r c) t
+          (net_state u rest)) (off.beside.shows b rest ∙ counted_now is rest)
+          (input.step rest held (cut.accounts rest held acc)))));
       parts = keeps_trans cut input.parts;
     }

@@ -7,6 +7,8 @@ mod PartSteps
 mod ArriveAll
 mod Runs
 mod OneWire
+mod Limits
+mod Endings
 mod InPlace
 mod SendLemmas
 mod Boot

@@ -232,6 +232,27 @@ reass_step s q es c event reply is can table m step =
 
 -- ---- a step that changes all parts except the output queue
 
+input_output : (s : StackView) (q : PoolView) (w : SocksView) (es : TableView) → IsStack s
+    → Moves s.pool (held_all s.pool s.reass.datagrams ++ queued_chains s.pool s.socks.queues) q
+    (held_all q es.datagrams ++ queued_chains q w.queues) → OutputKept s.pool q s.output
+input_output s q w es is m =
+    let p : PoolView = s.pool in
+    let xs : List ℕ = held_all p s.reass.datagrams ++ queued_chains p s.socks.queues in
+    let zs : List ℕ = numbers p s.output in
+    let same : SameAt p q zs =
+    same_beside zs m (λ k. omega (arith, is.all k, times-append k xs zs))
+    (λ k h. omega (arith, h, is.all k, times-append k xs zs, live_at_most p k)) in
+    output_kept p q s.output same is.output
+
+pub input_shows : (s : StackView) (q : PoolView) (w : SocksView) (es : TableView) (c : Counters) → IsStack s
+    → Moves s.pool (held_all s.pool s.reass.datagrams ++ queued_chains s.pool s.socks.queues) q
+    (held_all q es.datagrams ++ queued_chains q w.queues)
+    → with_net q w (unfinished q es.datagrams) c (rest_of_stack s)
+    ≡ state_of (record s { pool = q; socks = w; reass = es; counters = c })
+input_shows s q w es c is m =
+    let o : OutputKept s.pool q s.output = input_output s q w es is m in
+    λ i. with_net q w (unfinished q es.datagrams) c (record (rest_of_stack s) { output = sym o.shows i })
+
 pub input_step : (s : StackView) (q : PoolView) (w : SocksView) (es : TableView) (c : Counters) (event : Event)
     (reply : Reply) → IsStack s → IsEvent event → IsSocks q w → IsReady q es
     → Moves s.pool (held_all s.pool s.reass.datagrams ++ queued_chains s.pool s.socks.queues) q
@@ -243,12 +264,7 @@ input_step s q w es c event reply is can ready table m step =
     let n : StackView = record s { pool = q; socks = w; reass = es; counters = c } in
     let xs : List ℕ = held_all p s.reass.datagrams ++ queued_chains p s.socks.queues in
     let zs : List ℕ = numbers p s.output in
-    let same : SameAt p q zs =
-    same_beside zs m (λ k. omega (arith, is.all k, times-append k xs zs))
-    (λ k h. omega (arith, h, is.all k, times-append k xs zs, live_at_most p k)) in
-    let o : OutputKept p q s.output = output_kept p q s.output same is.output in
-    let new : with_net q w (unfinished q es.datagrams) c (rest_of_stack s) ≡ state_of n =
-    λ i. with_net q w (unfinished q es.datagrams) c (record (rest_of_stack s) { output = sym o.shows i }) in
+    let o : OutputKept p q s.output = input_output s q w es is m in
     stepped s n event reply is can refl ready table o.queue
     (moves_beside (stack_chains s) (stack_chains n) zs m
     (λ k. omega (arith, times-append k xs zs))
@@ -257,4 +273,4 @@ input_step s q w es c event reply is can ready table m step =
       times-append k (held_all q es.datagrams ++ queued_chains q w.queues) (numbers q s.output),
       ap (times_among k) o.chains,
     )))
-    (subst (λ (t : State). Step (state_of s) event reply t) new step)
+    (subst (λ (t : State). Step (state_of s) event reply t) (input_shows s q w es c is m) step)

@@ -10,7 +10,10 @@ use Rattle.flat_model.specs.Amounts.Layout.{Need, Room, Plain, Cluster, filled, 
 use Rattle.flat_model.specs.Machine.Count.{counted}
 use Rattle.flat_model.specs.Machine.State.{State, ends}
 use Rattle.flat_model.specs.Machine.Ledger.{HasBuffers, IsFree, exact_ledger}
-use Rattle.flat_model.specs.Machine.Arrival.{Arrives, By_wire}
+use Rattle.flat_model.specs.Machine.Arrival.{ArrivesAs, By_wire}
+use Rattle.flat_model.specs.Machine.Fate.{told}
+use Rattle.flat_model.specs.declared.fate.Fate.{Fate}
+use Rattle.flat_model.specs.declared.fate.Fate.TheVariants.{Dropped}
 use Rattle.flat_model.specs.declared.counters.Counters.{Counters}
 use Rattle.flat_model.specs.declared.counters.Why.TheVariants.{NoBufs}
 use Rattle.flat_model.proofs.Laws.{count_cons}
@@ -106,7 +109,7 @@ pub lost : {p q : PoolView} {s : SocksView} {r t : TableView} {a b d : Counters}
     (packet : List ℕ) → IsSocks p s → IsOwned p (held_all p r.datagrams ++ queued_chains p s.queues)
     → IsAsked p r a need answer q t b
     → need ≡ need_of (wire (length packet)) → answer ≡ false → d ≡ counted NoBufs b
-    → HasCome (host_view p s r a) packet (host_view q s t d)
+    → HasCome (host_view p s r a) packet (Dropped NoBufs) (host_view q s t d)
 lost {p} {q} {s} {r} {t} {a} {b} {d} {need} {answer} packet socks owned is is_need no_answer is_d =
     let beside = asked_socks socks owned is in
     let mid : State → State = λ rest. record (with_net p s (unfinished p r.datagrams) a rest)
@@ -121,7 +124,7 @@ lost {p} {q} {s} {r} {t} {a} {b} {d} {need} {answer} packet socks owned is is_ne
         subst (λ (n : Need). HasBuffers exact_ledger (with_net p s (unfinished p r.datagrams) a rest) nothing n answer
             (mid rest)) is_need (is.reserves (with_net p s (unfinished p r.datagrams) a rest) nothing refl refl
             acc).has_buffers,
-        record { yes = λ e. absurd (true≢false (sym e ∙ no_answer)); no = λ e. now rest },
+        record { yes = λ e. absurd (true≢false (sym e ∙ no_answer)); no = λ e. (refl, now rest) },
       );
       parts = asked_keeps d socks owned is;
     }
@@ -143,12 +146,14 @@ stored_ready {c = c} socks owned is ready placed =
     }
 
 pub came : {p q q1 : PoolView} {s : SocksView} {r t : TableView} {a b : Counters} {need : Need} {answer : Bool} {c : ℕ}
-    {u : NetView} (packet : List ℕ) → IsSocks p s → IsOwned p (held_all p r.datagrams ++ queued_chains p s.queues)
+    {fate : Fate} {u : NetView} (packet : List ℕ) → IsSocks p s → IsOwned p
+    (held_all p r.datagrams ++ queued_chains p s.queues)
     → IsAsked p r a need answer q t b → need ≡ need_of (wire (length packet)) → answer ≡ true → IsReady q t
     → IsPacketStored q packet q1 c
-    → IsArrived (host_view q1 s t b) c u
-    → HasCome (host_view p s r a) packet u
-came {p} {q} {q1} {s} {r} {t} {a} {b} {need} {answer} {c} {u} packet socks owned is is_need yes_answer ready placed
+    → IsArrived (host_view q1 s t b) c fate u
+    → HasCome (host_view p s r a) packet fate u
+came {p} {q} {q1} {s} {r} {t} {a} {b} {need} {answer} {c} {fate} {u} packet socks owned is is_need yes_answer ready
+    placed
     arrived =
     let beside = asked_socks socks owned is in
     let x : Aside q t s [] q1 (c ∷ []) = (stored_ready socks owned is ready placed).beside in
@@ -187,9 +192,10 @@ came {p} {q} {q1} {s} {r} {t} {a} {b} {need} {answer} {c} {u} packet socks owned
                   (free_each q (mid rest) placed.clusters (asked rest acc).accounted placed.free.exist
                   placed.free.free);
             },
-            subst (λ (i : Item). Arrives exact_ledger (By_wire (length packet)) nothing i (mid rest) (net_state u rest))
-                item
-                (subst (λ (m : State). Arrives exact_ledger (By_wire (length packet)) nothing (item_at q1 c) m
+            subst (λ (i : Item). ArrivesAs exact_ledger (told fate) (By_wire (length packet)) nothing i (mid rest)
+                (net_state u rest)) item
+                (subst (λ (m : State). ArrivesAs exact_ledger (told fate) (By_wire (length packet)) nothing
+                (item_at q1 c) m
                 (net_state u rest)) (x.shows b rest ∙ now rest)
                 (arrived.step rest nothing (By_wire (length packet))
                 (came_by_wire (chain_of q1 c) placed.clusters packet placed.made.entries placed.number placed.bytes_are)

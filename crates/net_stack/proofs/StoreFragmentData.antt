@@ -1,5 +1,5 @@
 -- A fragment from the wire that is stored directly, from the bytes of its packet: one step of the machine.
-use Rattle.std.proofs.Common.{◌≡◌, ℕ, ◌-◌, ◌≤◌, Bool, true, false, cond, List, [], ◌∷◌, ◌++◌, length, take, drop, refl, sym, ap, ◌∙◌, subst, arith, inl}
+use Rattle.std.proofs.Common.{◌≡◌, ℕ, ◌-◌, ◌≤◌, Bool, true, false, cond, Result, List, [], ◌∷◌, ◌++◌, length, take, drop, refl, sym, ap, ◌∙◌, subst, arith, inl}
 use Rattle.std.specs.Prelude.{All, count_by, ◌==◌, ◌&&◌, nat_le}
 use Rattle.std.proofs.lemmas.Bool.{true≢false, le-leb, leb-true, leb-false}
 use Rattle.std.proofs.lemmas.List.{take_all}
@@ -12,8 +12,13 @@ use Rattle.flat_model.specs.Packets.Header.{total_of}
 use Rattle.flat_model.specs.Machine.Count.{counts_more}
 use Rattle.flat_model.specs.Machine.State.{State}
 use Rattle.flat_model.specs.Machine.Ledger.{IsFree, exact_ledger, has_enough}
-use Rattle.flat_model.specs.Machine.Step.{ComesIn}
-use Rattle.flat_model.specs.Machine.Arrival.{By_wire, Arrives, FragmentArrives, WholeArrives, carried, counts_packet, is_for_us, is_fragment}
+use Rattle.flat_model.specs.Machine.Step.{ComesInAs}
+use Rattle.flat_model.specs.Machine.Fate.{told, told_whole}
+use Rattle.flat_model.specs.declared.fate.Fate.{Fate}
+use Rattle.flat_model.specs.declared.fate.Fate.TheVariants.{Completed}
+use Rattle.flat_model.specs.declared.fate.Reached.{Reached}
+use Rattle.flat_model.specs.declared.counters.Why.{Why}
+use Rattle.flat_model.specs.Machine.Arrival.{By_wire, ArrivesAs, FragmentArrivesAs, WholeArrivesAs, carried, counts_packet, is_for_us, is_fragment}
 use Rattle.flat_model.specs.declared.counter.Counter.TheVariants.{IpTotal}
 use Rattle.flat_model.specs.declared.counters.Counters.{Counters}
 use Rattle.flat_model.proofs.Laws.{count_cons}
@@ -79,24 +84,26 @@ module _ (p : PoolView) (s : SocksView) (r : TableView) (a c : Counters) (packet
       && le-leb (count_by is_cluster rooms) (free_clusters p) (omega (arith, i.fits.clusters, most)) j)
 
   -- the packet arrives if its fragment arrives with the decoded header
-  arrives : (rest new : State) (w : Weight)
-      → FragmentArrives exact_ledger (By_wire (length packet)) nothing (flat_head h)
+  arrives : (fate : Fate) (rest new : State) (w : Weight)
+      → FragmentArrivesAs exact_ledger (told fate) (By_wire (length packet)) nothing (flat_head h)
       (record { bytes = drop 20 packet; weight = w }) (counts_packet (old rest)) new
-      → Arrives exact_ledger (By_wire (length packet)) nothing (record { bytes = packet; weight = w }) (old rest) new
-  arrives rest new w step =
+      → ArrivesAs exact_ledger (told fate) (By_wire (length packet)) nothing (record { bytes = packet; weight = w })
+      (old rest) new
+  arrives fate rest new w step =
       let total : total_of packet ≡ length packet = sym (ap (λ (x : IpHead). x.total) i.head.says) ∙ i.fits.total in
       let all : take (total_of packet) packet ≡ packet = take_all (total_of packet) packet (omega (arith, total)) in
       let item : carried (record { bytes = packet; weight = w }) ≡ record { bytes = drop 20 packet; weight = w } =
       λ j. record { bytes = drop 20 (all j); weight = w } in
-      let now : FragmentArrives exact_ledger (By_wire (length packet)) nothing (flat_head h)
+      let now : FragmentArrivesAs exact_ledger (told fate) (By_wire (length packet)) nothing (flat_head h)
       (carried (record { bytes = packet; weight = w })) (counts_packet (old rest)) new =
-      subst (λ (x : Item). FragmentArrives exact_ledger (By_wire (length packet)) nothing (flat_head h) x
+      subst (λ (x : Item). FragmentArrivesAs exact_ledger (told fate) (By_wire (length packet)) nothing (flat_head h) x
       (counts_packet (old rest)) new) (sym item) step in
-      passes packet (By_wire (length packet)) nothing w (old rest) new i.head.none (record {
+      passes fate packet (By_wire (length packet)) nothing w (old rest) new i.head.none (record {
         yes = λ e. subst (λ (x : IpHead). Choice (is_fragment (flat_head x))
-            (FragmentArrives exact_ledger (By_wire (length packet)) nothing (flat_head x)
+            (FragmentArrivesAs exact_ledger (told fate) (By_wire (length packet)) nothing (flat_head x)
             (carried (record { bytes = packet; weight = w })) (counts_packet (old rest)) new)
-            (WholeArrives exact_ledger nothing x.src x.dst x.proto (carried (record { bytes = packet; weight = w }))
+            (WholeArrivesAs exact_ledger (told fate) nothing x.src x.dst x.proto
+            (carried (record { bytes = packet; weight = w }))
             (counts_packet (old rest)) new)) i.head.says
             (record { yes = λ _. now; no = λ f. absurd (true≢false (sym i.part ∙ f)) });
         no = λ e. absurd (true≢false (sym (i.ours rest)
@@ -113,14 +120,15 @@ module _ (p : PoolView) (s : SocksView) (r : TableView) (a c : Counters) (packet
   module _ (result : Arrival) (q : PoolView) (t : TableView) (b : Counters)
       (is : ArrivesAtOnce p r.datagrams c packet h result q t.datagrams b) where
     -- the packet is stored in mbufs of this layout, with these clusters
-    comes_in : (rest new : State) (cs : List ℕ) (rooms : List Room) (w : Weight) → IsAccounted p (old rest) nothing
+    comes_in : (fate : Fate) (rest new : State) (cs : List ℕ) (rooms : List Room) (w : Weight) → IsAccounted p
+        (old rest) nothing
         → wire (length packet) ≡ rooms → length rooms ≤ 2 → count_by is_cluster rooms ≤ 1
         → length cs ≡ count_by is_cluster rooms
         → flat.weight_of (entries_on cs rooms) ≡ w → ((j : ℕ) → bag_times j cs ≤ 1) → All (IsFree (old rest) nothing) cs
-        → FragmentArrives exact_ledger (By_wire (length packet)) nothing (flat_head h)
+        → FragmentArrivesAs exact_ledger (told fate) (By_wire (length packet)) nothing (flat_head h)
         (record { bytes = drop 20 packet; weight = w }) (counts_packet (old rest)) new
-        → ComesIn exact_ledger packet (old rest) new
-    comes_in rest new cs rooms w acc are few most number is once free fragment =
+        → ComesInAs exact_ledger (told fate) packet (old rest) new
+    comes_in fate rest new cs rooms w acc are few most number is once free fragment =
         let weight : flat.weight_of (entries_on cs (wire (length packet))) ≡ w =
         ap (λ (rooms : List Room). flat.weight_of (entries_on cs rooms)) are ∙ is in (
           true,
@@ -130,44 +138,46 @@ module _ (p : PoolView) (s : SocksView) (r : TableView) (a c : Counters) (packet
             yes = λ _. (
               cs,
               record { number = number ∙ sym (ap (count_by is_cluster) are); distinct = once; free = free },
-              subst (λ (w : Weight). Arrives exact_ledger (By_wire (length packet)) nothing
-                  (record { bytes = packet; weight = w }) (old rest) new) (sym weight) (arrives rest new w fragment),
+              subst (λ (w : Weight). ArrivesAs exact_ledger (told fate) (By_wire (length packet)) nothing
+                  (record { bytes = packet; weight = w }) (old rest) new) (sym weight)
+                  (arrives fate rest new w fragment),
             );
             no = λ e. absurd (true≢false e);
           },
         )
 
-    pub comes : (rest new : State) → IsAccounted p (old rest) nothing
-        → GoesOn nothing q result (reass.with_waiting q t.datagrams b (with_sockets p s rest)) new
-        → ComesIn exact_ledger packet (old rest) new
-    comes rest new acc goes =
-        let chain = is.step (with_sockets p s rest) nothing new (mid_accounts rest nothing acc) goes in
+    pub comes : (fate : Fate) (rest new : State) → IsAccounted p (old rest) nothing
+        → GoesOn (told fate) nothing q result (reass.with_waiting q t.datagrams b (with_sockets p s rest)) new
+        → ComesInAs exact_ledger (told fate) packet (old rest) new
+    comes fate rest new acc goes =
+        let chain = is.step fate (with_sockets p s rest) nothing new (mid_accounts rest nothing acc) goes in
         let w : Weight = stored_weight (nat_le 208 (length packet)) is.cluster in
-        let fragment : FragmentArrives exact_ledger (By_wire (length packet)) nothing (flat_head h)
+        let fragment : FragmentArrivesAs exact_ledger (told fate) (By_wire (length packet)) nothing (flat_head h)
         (record { bytes = drop 20 packet; weight = w }) (counts_packet (old rest)) new =
-        subst (λ (m : State). FragmentArrives exact_ledger (By_wire (length packet)) nothing (flat_head h)
+        subst (λ (m : State). FragmentArrivesAs exact_ledger (told fate) (By_wire (length packet)) nothing (flat_head h)
         (record { bytes = drop 20 packet; weight = w }) m new) (mid_is rest)
-        (stored_arrives nothing h packet is.cluster (mid rest) new i.fits.many i.fits.total chain) in
+        (stored_arrives fate nothing h packet is.cluster (mid rest) new i.fits.many i.fits.total chain) in
         by_size (nat_le 208 (length packet)) refl fragment
       where
         k : ℕ
         k = is.cluster
 
         by_size : (b : Bool) → nat_le 208 (length packet) ≡ b
-            → FragmentArrives exact_ledger (By_wire (length packet)) nothing (flat_head h)
+            → FragmentArrivesAs exact_ledger (told fate) (By_wire (length packet)) nothing (flat_head h)
             (record { bytes = drop 20 packet; weight = stored_weight b is.cluster }) (counts_packet (old rest)) new
-            → ComesIn exact_ledger packet (old rest) new
+            → ComesInAs exact_ledger (told fate) packet (old rest) new
         by_size true large fragment =
             let many : 208 ≤ length packet = leb-true 208 (length packet) large in
             let free = is.free many in
-            comes_in rest new (k ∷ []) (Cluster (length packet) ∷ []) (record { mbufs = 1; bag = k ∷ [] }) acc
+            comes_in fate rest new (k ∷ []) (Cluster (length packet) ∷ []) (record { mbufs = 1; bag = k ∷ [] }) acc
             (one_cluster 0 (length packet) (omega arith) many (omega (arith, i.fits.few))) (omega arith) (omega arith)
             refl
             (weighs k (length packet)) (once k)
             (All-from_recursion (IsFree (old rest) nothing) (k ∷ [])
             (free_each p (old rest) (k ∷ []) acc (free.0, tt) (free.1, tt))) fragment
         by_size false small fragment =
-            comes_in rest new [] (Plain 100 ∷ Plain (length packet - 100) ∷ []) (record { mbufs = 2; bag = [] }) acc
+            comes_in fate rest new [] (Plain 100 ∷ Plain (length packet - 100) ∷ [])
+            (record { mbufs = 2; bag = [] }) acc
             (two_plain (length packet) i.fits.many (leb-false 208 (length packet) small)) (omega arith) (omega arith)
             refl
             (two_weigh 100 (length packet - 100)) (λ j. omega arith) (All-from_recursion (IsFree (old rest) nothing) [] tt)
@@ -200,23 +210,25 @@ module _ (p : PoolView) (s : SocksView) (r : TableView) (a c : Counters) (packet
       }
 
       -- it waits, or ended
-      pub came_kept : in_hand result ≡ [] → ((x y : State) → y ≡ x → GoesOn nothing q result x y)
-          → HasCome (host_view p s r a) packet (host_view q s t b)
-      came_kept none waits = record {
-        step = λ rest acc. comes rest (then_net rest) acc (waits _ _ (now rest));
+      pub came_kept : (fate : Fate) → in_hand result ≡ []
+          → ((x y : State) → y ≡ x → GoesOn (told fate) nothing q result x y)
+          → HasCome (host_view p s r a) packet fate (host_view q s t b)
+      came_kept fate none waits = record {
+        step = λ rest acc. comes fate rest (then_net rest) acc (waits _ _ (now rest));
         parts = subst (λ (hand : List ℕ). KeepsParts (host_view p s r a) [] (host_view q s t b) hand) none placed;
       }
 
 -- its datagram is complete, and was delivered to the sockets
 pub came_whole : {p q : PoolView} {s : SocksView} (r t : TableView) {a b c : Counters} {packet : List ℕ} {h : IpHead}
-    {d : ℕ} {u : NetView} (g : IpHead) → IsCounted p s r a c packet h
+    {d : ℕ} {whole : Result Reached Why} {u : NetView} (g : IpHead) → IsCounted p s r a c packet h
     → ArrivesAtOnce p r.datagrams c packet h (Whole d g) q t.datagrams b → IsSocks p s
     → IsOwned p (held_all p r.datagrams ++ queued_chains p s.queues)
     → Moves p (held_all p r.datagrams) q (d ∷ held_all q t.datagrams)
     → ((rest : State) (held : Weight) → IsAccounted p (reass.with_waiting p r.datagrams c rest) held
     → IsAccounted q (reass.with_waiting q t.datagrams b rest) (held ⊕ weight_owned q (d ∷ [])))
-    → IsInput (host_view q s t b) d g.src g.dst g.proto u → HasCome (host_view p s r a) packet u
-came_whole {p} {q} {s} r t {a} {b} {c} {packet} {h} {d} {u} g i is socks owned moves accounts input =
+    → IsInput (host_view q s t b) d g.src g.dst g.proto whole u
+    → HasCome (host_view p s r a) packet (Completed whole) u
+came_whole {p} {q} {s} r t {a} {b} {c} {packet} {h} {d} {whole} {u} g i is socks owned moves accounts input =
     let kept : KeepsParts (host_view p s r a) [] (host_view q s t b) (d ∷ []) =
     placed p s r a c packet h i (Whole d g) q t b is socks owned moves accounts in
     let same : (rest : State) → with_net q s (unfinished q t.datagrams) b rest
@@ -224,8 +236,9 @@ came_whole {p} {q} {s} r t {a} {b} {c} {packet} {h} {d} {u} g i is socks owned m
     now p s r a c packet h i (Whole d g) q t b is socks owned moves accounts in
     record {
       step = λ rest acc.
-          comes p s r a c packet h i (Whole d g) q t b is rest (net_state u rest) acc
-          (subst (λ (m : State). WholeArrives exact_ledger nothing g.src g.dst g.proto (item_at q d) m
+          comes p s r a c packet h i (Whole d g) q t b is (Completed whole) rest (net_state u rest) acc
+          (subst (λ (m : State). WholeArrivesAs exact_ledger (told_whole whole) nothing g.src g.dst g.proto
+          (item_at q d) m
           (net_state u rest))
           (same rest) (input.step rest nothing (kept.accounts rest nothing acc)));
       parts = keeps_trans kept input.parts;

@@ -11,6 +11,10 @@ use Rattle.flat_model.specs.declared.address.Addr.{Addr}
 use Rattle.flat_model.specs.declared.config.Config.{Config}
 use Rattle.flat_model.specs.declared.counters.Counters.{Counters}
 use Rattle.flat_model.specs.declared.errno.Errno.{Errno}
+use Rattle.flat_model.specs.Machine.Fate.{Fated}
+use Rattle.flat_model.specs.Machine.State.{State}
+use Rattle.flat_model.specs.declared.fate.Fate.{Fate}
+use Rattle.flat_model.proofs.Laws.{fated_step}
 use Rattle.mbuf_chain.specs.Chain.{PoolView}
 use Rattle.mbuf_chain.specs.Owners.{times_among, IsOwned}
 use Rattle.mbuf_chain.specs.Train.{TrainView, numbers}
@@ -28,7 +32,7 @@ use Rattle.net_stack.specs.Inside.Sending.{HasSent, no_train, out_chains}
 use Rattle.net_stack.specs.declared.host.Host.{Host}
 use Rattle.net_stack.specs.Inside.Fields.{Fields, stack_of as seen_in, IsStackInside}
 use Rattle.net_stack.proofs.CallLemmas.{Called, called}
-use Rattle.net_stack.proofs.PartSteps.{Stepped, accounts, stepped, input_step, split}
+use Rattle.net_stack.proofs.PartSteps.{Stepped, accounts, stepped, input_shows, input_step, split}
 
 -- each value of a byte slice is below 256
 pub are_bytes : (xs : List ℕ) → ((k : ℕ) → Fits w8 (get_or xs k 0)) → IsBytes xs
@@ -49,12 +53,22 @@ come_owned s is = λ k. omega (
       (held_all s.pool s.reass.datagrams ++ queued_chains s.pool s.socks.queues) (numbers s.pool s.output),
 )
 
-pub rx_step : (s : StackView) (packet : List ℕ) (q : PoolView) (w : SocksView) (es : TableView) (c : Counters)
-    → IsStack s → IsEvent (Comes packet) → IsReady q es
-    → HasCome (host_view s.pool s.socks s.reass s.counters) packet (host_view q w es c)
+pub rx_step : (s : StackView) (packet : List ℕ) (fate : Fate) (q : PoolView) (w : SocksView) (es : TableView)
+    (c : Counters) → IsStack s → IsEvent (Comes packet) → IsReady q es
+    → HasCome (host_view s.pool s.socks s.reass s.counters) packet fate (host_view q w es c)
     → Stepped s (Comes packet) Done (record s { pool = q; socks = w; reass = es; counters = c })
-rx_step s packet q w es c is can ready came = input_step s q w es c (Comes packet) Done is can came.parts.ready ready
-    came.parts.moves (refl, came.step (rest_of_stack s) (accounts s is))
+rx_step s packet fate q w es c is can ready came = input_step s q w es c (Comes packet) Done is can came.parts.ready
+    ready
+    came.parts.moves
+    (fated_step (state_of s) _ packet fate (came.step (rest_of_stack s) (accounts s is)))
+
+-- and its fate
+pub rx_fated : (s : StackView) (packet : List ℕ) (fate : Fate) (q : PoolView) (w : SocksView) (es : TableView)
+    (c : Counters) → IsStack s → HasCome (host_view s.pool s.socks s.reass s.counters) packet fate (host_view q w es c)
+    → Fated (state_of s) packet fate (state_of (record s { pool = q; socks = w; reass = es; counters = c }))
+rx_fated s packet fate q w es c is came =
+    subst (λ (t : State). Fated (state_of s) packet fate t) (input_shows s q w es c is came.parts.moves)
+    (came.step (rest_of_stack s) (accounts s is))
 
 -- ---- a send
 
@@ -130,12 +144,24 @@ sent_called s v h fd to bytes result is e can sent =
     }
 
 -- the fields of a stack after a packet arrived
-pub come_called : (s : Fields) (v : StackView) (h : Host) (packet : List ℕ) → IsStackInside s → seen_in s ≡ v
-    → IsEvent (Comes packet) → HasCome (arrival_view s.host) packet (arrival_view h) → IsReady h.pool h.reass
+pub come_called : (s : Fields) (v : StackView) (h : Host) (packet : List ℕ) (fate : Fate) → IsStackInside s →
+    seen_in s ≡ v
+    → IsEvent (Comes packet) → HasCome (arrival_view s.host) packet fate (arrival_view h) → IsReady h.pool h.reass
     → KeepsOutput s.host.net h.net → Called v (Comes packet) Done (record s { host = h })
-come_called s v h packet is e can came ready output =
+come_called s v h packet fate is e can came ready output =
     let new : Net → Fields = λ n. record s { host = record h { net = n } } in
     let same : Net = record (s.host.net) { counters = h.net.counters } in
     subst (λ (n : Net). Called v (Comes packet) Done (new n)) (sym output)
     (called s (new same) v (Comes packet) Done is e refl refl refl
-    (rx_step (seen_in s) packet h.pool h.socks h.reass h.net.counters is.stack can ready came))
+    (rx_step (seen_in s) packet fate h.pool h.socks h.reass h.net.counters is.stack can ready came))
+
+-- and its fate
+pub come_fated : (s : Fields) (v : StackView) (h : Host) (packet : List ℕ) (fate : Fate) → IsStackInside s
+    → seen_in s ≡ v → HasCome (arrival_view s.host) packet fate (arrival_view h) → KeepsOutput s.host.net h.net
+    → Fated (state_of v) packet fate (state_of (seen_in (record s { host = h })))
+come_fated s v h packet fate is e came output =
+    let new : Net → Fields = λ n. record s { host = record h { net = n } } in
+    let same : Net = record (s.host.net) { counters = h.net.counters } in
+    subst (λ (n : Net). Fated (state_of v) packet fate (state_of (seen_in (new n)))) (sym output)
+    (subst (λ (x : StackView). Fated (state_of x) packet fate (state_of (seen_in (new same)))) e
+    (rx_fated (seen_in s) packet fate h.pool h.socks h.reass h.net.counters is.stack came))

@@ -4,3 +4,4 @@ pub mod Runs
 pub mod Wire
 pub mod Questions
 pub mod Inside
+pub mod Isolation

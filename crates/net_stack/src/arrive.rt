@@ -3,10 +3,10 @@ ghost use Rattle.std.specs.Prelude.{◌≡◌, ◌≤◌, [], ◌∷◌, true, l
 ghost use Rattle.mbuf_chain.specs.Chain.{IsLive, chain_of, string};
 ghost use Rattle.mbuf_chain.specs.Train.{IsHeld, numbers};
 ghost use Rattle.ip_out.specs.Packets.{BeginPlain};
-ghost use Rattle.net_stack.specs.Inside.Arrivals.{EndsInChain, IsHeadForUs};
+ghost use Rattle.net_stack.specs.Inside.Arrivals.{EndsInChain, IsHeadForUs, fate_by};
 ghost use Rattle.net_stack.specs.Inside.Hosts.{TrainArrives, ArrivesInChain, PartsFit, FragmentIsTaken};
 
-use crate::host::Host;
+use crate::host::{Ending, Host};
 use crate::receive::{is_for_us, is_fragment};
 use chain_ops::{trim_back, trim_front};
 use flat_model::{Counter, Why};
@@ -34,27 +34,31 @@ fn head_for_us(pool: &Pool, socks: &Socks, chain: &Chain) -> Result<IpHead, Why>
 
 impl Host {
     /// A fragment for this machine arrives. If it completes its datagram, that arrives.
-    pub(crate) fn take_fragment(&mut self, chain: Chain, head: IpHead)
+    pub(crate) fn take_fragment(&mut self, chain: Chain, head: IpHead) -> Ending
         requires fit { PartsFit self.old (chain ∷ []) }
         requires headed { (chain_of self.old.pool chain).front.header ≡ true }
         requires total { length (string (chain_of self.old.pool chain)) ≡ head.total }
         requires header { IP_HEADER ≤ head.total }
         requires offset { head.offset ≤ IP_MAX_PACKET }
-        ensures { FragmentIsTaken self.old chain head self.new }
+        ensures { FragmentIsTaken self.old chain head (fate_by result self.new.reached) self.new }
     {
         match self
             .reass
             .arrive(&mut self.pool, &mut self.net.counters, chain, head)
         {
-            Arrival::Whole(chain, head) => self.socks.input(
-                &mut self.pool,
-                &mut self.reass,
-                &mut self.net.counters,
-                chain,
-                head,
-            ),
-            Arrival::Kept => {}
-            Arrival::Dropped(_) => {}
+            Arrival::Whole(chain, head) => {
+                let whole = self.socks.input(
+                    &mut self.pool,
+                    &mut self.reass,
+                    &mut self.net.counters,
+                    chain,
+                    head,
+                    &mut self.reached,
+                );
+                Ending::of_completed(whole)
+            }
+            Arrival::Kept => Ending::Waits,
+            Arrival::Dropped(why) => Ending::Ends(why),
         }
     }
 
@@ -64,10 +68,10 @@ impl Host {
     /// `CantForward` if it's for another machine, because packets aren't forwarded. Bytes after its total length are
     /// trimmed. A fragment goes to the reassembly, and a datagram that it completes to the sockets; any other packet
     /// goes to the sockets directly, without its header. Each dropped packet is counted for its cause.
-    pub(crate) fn arrive(&mut self, chain: Chain)
+    pub(crate) fn arrive(&mut self, chain: Chain) -> Ending
         requires fit { PartsFit self.old (chain ∷ []) }
         requires headed { (chain_of self.old.pool chain).front.header ≡ true }
-        ensures { ArrivesInChain self.old chain self.new }
+        ensures { ArrivesInChain self.old chain (fate_by result self.new.reached) self.new }
     {
         self.net.counters.count(Counter::IpTotal);
         let head = match head_for_us(&self.pool, &self.socks, &chain) {
@@ -75,21 +79,23 @@ impl Host {
             Err(why) => {
                 self.pool.free_chain(chain);
                 self.net.counters.count_ended(why);
-                return;
+                return Ending::Ends(why);
             }
         };
         trim_back(&mut self.pool, &chain, u32::from(head.total));
         if is_fragment(&head) {
-            self.take_fragment(chain, head);
+            self.take_fragment(chain, head)
         } else {
             trim_front(&mut self.pool, &chain, IP_HEADER);
-            self.socks.input(
+            let whole = self.socks.input(
                 &mut self.pool,
                 &mut self.reass,
                 &mut self.net.counters,
                 chain,
                 head,
+                &mut self.reached,
             );
+            Ending::of_whole(whole)
         }
     }
 

@@ -1,13 +1,15 @@
 //! The calls that change only one part of the stack.
-ghost use Rattle.std.specs.Prelude.{◌≡◌, ◌≤◌, [], drop, length, IfNone, IfOk, IfSome, OnErr};
-ghost use Rattle.flat_model.specs.Machine.Event.{Open, Bind, Connect, Receive, Close, Set_option, Transmit, Tick, Ask_counters, Ask_usage, Done, Counted, Shown};
+ghost use Rattle.std.specs.Prelude.{◌≡◌, ◌≤◌, [], drop, length, take, IfNone, IfOk, IfSome, OnErr};
+ghost use Rattle.flat_model.specs.Machine.Event.{Open, Bind, Connect, Receive, Close, Set_limit, Set_option, Transmit, Tick, Ask_counters, Ask_usage, Done, Counted, Shown};
 ghost use Rattle.flat_model.specs.Machine.Replies.{opened_reply, done_reply, received_reply, given_reply, FitsRoom};
 ghost use Rattle.flat_model.specs.Machine.Step.{Step};
+ghost use Rattle.ip_reass.specs.Expiring.{expired_among};
 ghost use Rattle.net_stack.specs.Stack.{state_of};
 
 use crate::stack::Stack;
 use crate::transmit::take_packet;
 use flat_model::{Addr, Counter, Counters, Errno, Mbstat, Opt};
+use ip_reass::Expired;
 
 impl Stack {
     /// Opens a socket, with the lowest free descriptor from 3 to 66 (volume 2 chapter 15).
@@ -52,6 +54,16 @@ impl Stack {
         ensures { Step (state_of self.old) (Set_option fd option on) (done_reply result) (state_of self.new) }
     {
         self.host.socks.setsockopt(fd, option, on)
+    }
+
+    /// Sets the size in bytes of a socket's receive queue, with 16 for each sender's address: `SO_RCVBUF`. The
+    /// datagrams in it may take twice as many bytes of memory (`sbreserve` of volume 2, chapter 16), and never more:
+    /// unlike in 4.4BSD, a datagram's own mbufs count in the test. With 0 the socket is as a new one: 41,600 bytes, and
+    /// 4.4BSD's test. The queue keeps its datagrams. Error: `BadDescriptor`; nothing changes then.
+    pub fn set_receive_limit(&mut self, fd: u32, limit: u16) -> Result<(), Errno>
+        ensures { Step (state_of self.old) (Set_limit fd limit) (done_reply result) (state_of self.new) }
+    {
+        self.host.socks.set_limit(fd, limit)
     }
 
     /// Removes the oldest datagram from a socket's queue, copies to `buffer` the bytes that fit, and returns its sender
@@ -105,6 +117,21 @@ impl Stack {
         host.net
             .counters
             .count_more(Counter::IpFragtimeout, u64::from(ended));
+    }
+
+    /// Does the same as `tick`, and puts the datagrams that it drops into `expired`, oldest first, as many as it has
+    /// places for. Returns how many are dropped. The other places of `expired` are unchanged.
+    pub fn tick_told(&mut self, expired: &mut [Expired]) -> usize
+        ensures step { Step (state_of self.old) Tick Done (state_of self.new) }
+        ensures number { result ≡ length (expired_among (state_of self.old).unfinished) }
+        ensures told { take result expired.new
+            ≡ take (length expired.new) (expired_among (state_of self.old).unfinished) }
+        ensures rest { drop result expired.new ≡ drop result expired.old }
+    {
+        let host = self.host.as_ref();
+        let count = host.reass.expiring(&host.pool, expired);
+        self.tick();
+        count
     }
 
     /// All counters since boot.

@@ -6,7 +6,7 @@ ghost use Rattle.flat_model.specs.Machine.Replies.{received_reply, FitsRoom};
 ghost use Rattle.mbuf_chain.specs.Heads.{nth_heads};
 ghost use Rattle.ip_out.specs.Questions.{nth_packet, oldest_length};
 ghost use Rattle.ip_reass.specs.Questions.{nth_range, nth_unfinished};
-ghost use Rattle.sock_calls.specs.Questions.{bytes_queued_at, memory_queued_at, next_datagram, readable, socket_name};
+ghost use Rattle.sock_calls.specs.Questions.{bytes_queued_at, memory_queued_at, next_datagram, readable, receive_limit_at, socket_name};
 ghost use Rattle.net_stack.specs.Questions.{WouldReply, chains_held, nth_references};
 ghost use Rattle.net_stack.specs.Stack.{state_of};
 
@@ -67,8 +67,8 @@ impl Stack {
         copy_oldest(&host.pool, &host.socks, fd, buffer)
     }
 
-    /// The number of bytes queued at a socket, including 16 for each sender's address, 0 to 41,600. A datagram that
-    /// exceeds this limit is dropped (`sb_cc` of volume 2, chapter 16). Error: `BadDescriptor`.
+    /// The number of bytes queued at a socket, including 16 for each sender's address: 0 to 41,600, or to its limit. A
+    /// datagram that exceeds that is dropped (`sb_cc` of volume 2, chapter 16). Error: `BadDescriptor`.
     pub fn bytes_queued(&self, fd: u32) -> Result<u32, Errno>
         ensures { result ≡ bytes_queued_at fd (state_of self.now) }
     {
@@ -162,6 +162,14 @@ impl Stack {
         ensures { result ≡ memory_queued_at fd (state_of self.now) }
     {
         self.host.socks.memory_queued(fd)
+    }
+
+    /// The size in bytes that `set_receive_limit` has set for a socket's receive queue. 0: none is set, as for a new
+    /// socket (`SO_RCVBUF` of `getsockopt`, volume 2, chapter 17). Error: `BadDescriptor`.
+    pub fn receive_limit(&self, fd: u32) -> Result<u16, Errno>
+        ensures { result ≡ receive_limit_at fd (state_of self.now) }
+    {
+        self.host.socks.receive_limit(fd)
     }
 
     /// The mbufs of a holder's chain at index `i`, in order, for drawing them: each one's head fields and its bytes,

@@ -10,10 +10,10 @@ ghost use Rattle.ip_reass.specs.Arrivals.{flat_head};
 ghost use Rattle.ip_reass.specs.AtOnce.{fits_at_once};
 ghost use Rattle.ip_reass.specs.Table.{IsReady};
 ghost use Rattle.sock_calls.specs.Whole.{HasSpace, HasWire};
-ghost use Rattle.net_stack.specs.Inside.Arrivals.{IsPacketStored, IsWholeForUs, is_ours_or_all};
+ghost use Rattle.net_stack.specs.Inside.Arrivals.{IsPacketStored, IsWholeForUs, fate_by, is_ours_or_all};
 ghost use Rattle.net_stack.specs.Inside.Hosts.{CanStore, HasAsked, PacketArrives, PartsFit, IsProcessed};
 
-use crate::host::Host;
+use crate::host::{Ending, Host};
 use chain_ops::theorems::stored_layout;
 use chain_ops::{Space, from_wire, space_for, trim_back, wire_need};
 use flat_model::{Counter, Counters, Why};
@@ -21,8 +21,10 @@ use ip_out::{Headed, IpHead, read_packet};
 use ip_reass::{Arrival, fits_at_once, is_sound};
 use ledger::{are_free, reserve};
 use mbuf_chain::{Chain, Pool};
-use params::{IP_MAX_PACKET, LIMITED_BROADCAST, LOOPBACK, MINCLSIZE, reads_in_place};
-use sock_calls::Socks;
+use params::{
+    FIRST_DESCRIPTOR, IP_MAX_PACKET, LIMITED_BROADCAST, LOOPBACK, MINCLSIZE, reads_in_place,
+};
+use sock_calls::{Socks, Taken};
 use udp::read;
 
 /// Whether packets to the address are for this machine: one of its three addresses, or 255.255.255.255.
@@ -126,15 +128,15 @@ impl Host {
     /// Receives a packet of at most 65,535 bytes from the wire. If the pool has too few free buffers for it, all
     /// unfinished datagrams are freed, and if there are still too few, the packet is dropped and counted.
     #[inline(always)]
-    pub(crate) fn receive(&mut self, packet: &[u8])
+    pub(crate) fn receive(&mut self, packet: &[u8]) -> Ending
         requires fit { PartsFit self.old [] }
         requires most { length packet.now ≤ IP_MAX_PACKET }
-        ensures { PacketArrives self.old packet.now self.new }
+        ensures { PacketArrives self.old packet.now (fate_by result self.new.reached) self.new }
     {
         if reads_in_place() {
-            self.receive_in_place(packet);
+            self.receive_in_place(packet)
         } else {
-            self.receive_stored(packet);
+            self.receive_stored(packet)
         }
     }
 
@@ -142,39 +144,44 @@ impl Host {
     /// no buffer.
     // Looped packets and reassembled datagrams are in chains already. They go through `arrive` and `Socks::input`,
     // which read a chain wherever it's split: that's why there are two paths.
-    fn receive_in_place(&mut self, packet: &[u8])
+    fn receive_in_place(&mut self, packet: &[u8]) -> Ending
         requires fit { PartsFit self.old [] }
         requires most { length packet.now ≤ IP_MAX_PACKET }
-        ensures { PacketArrives self.old packet.now self.new }
+        ensures { PacketArrives self.old packet.now (fate_by result self.new.reached) self.new }
     {
         let Some(space) = self.make_space(packet.len() as u32) else {
             self.net.counters.count_ended(Why::NoBufs);
-            return;
+            return Ending::Ends(Why::NoBufs);
         };
-        if let Err(why) = self.process(space, packet) {
-            count_dropped(&mut self.net.counters, why);
+        match self.process(space, packet) {
+            Ok(ending) => ending,
+            Err(why) => {
+                count_dropped(&mut self.net.counters, why);
+                Ending::Ends(why)
+            }
         }
     }
 
     /// The way of a library for small flash: the packet is stored first, and then arrives as a looped packet does.
-    fn receive_stored(&mut self, packet: &[u8])
+    fn receive_stored(&mut self, packet: &[u8]) -> Ending
         requires fit { PartsFit self.old [] }
         requires most { length packet.now ≤ IP_MAX_PACKET }
-        ensures { PacketArrives self.old packet.now self.new }
+        ensures { PacketArrives self.old packet.now (fate_by result self.new.reached) self.new }
     {
         if self.reserve_buffers(packet.len() as u32) {
             let chain = put_packet(&mut self.pool, packet);
-            self.arrive(chain);
+            self.arrive(chain)
         } else {
             let net = &mut self.net;
             net.counters.count_ended(Why::NoBufs);
+            Ending::Ends(Why::NoBufs)
         }
     }
 
     /// Processes a packet that has this space in the pool: a fragment goes to the reassembly, and a whole datagram to
     /// its sockets. `Err`: nothing has changed, and the packet is to be dropped for this cause.
     #[inline(always)]
-    fn process(&mut self, space: Space, packet: &[u8]) -> Result<(), Why>
+    fn process(&mut self, space: Space, packet: &[u8]) -> Result<Ending, Why>
         requires can { CanStore self.old packet.now }
         requires space { HasSpace self.old.pool (length packet.now) space }
         ensures { IsProcessed self.old packet.now self.new result }
@@ -184,19 +191,18 @@ impl Host {
         if !is_for_us(&self.socks, head.dst) {
             // Counted here, because its cause is known.
             count_dropped(&mut self.net.counters, Why::CantForward);
-            return Ok(());
+            return Ok(Ending::Ends(Why::CantForward));
         }
         if !is_fragment(&head) {
             return self.receive_datagram(space, headed);
         }
-        self.receive_fragment(space, headed);
-        Ok(())
+        Ok(self.receive_fragment(space, headed))
     }
 
     /// Receives a whole datagram for this machine: stores it in the queue of the socket that matches it. If it takes
     /// several mbufs or is a broadcast, `receive_by_chain` does that. `Err` is as for `process`.
     #[inline(always)]
-    fn receive_datagram(&mut self, space: Space, headed: Headed<'_>) -> Result<(), Why>
+    fn receive_datagram(&mut self, space: Space, headed: Headed<'_>) -> Result<Ending, Why>
         requires can { CanStore self.old headed.packet.now }
         requires space { HasSpace self.old.pool (length headed.packet.now) space }
         requires whole { IsWholeForUs self.old.socks.pcbs headed.packet.now }
@@ -206,72 +212,84 @@ impl Host {
             Space::InMbuf => false,
             Space::InCluster => true,
             Space::InMore => {
-                self.receive_by_chain(headed);
-                return Ok(());
+                return Ok(self.receive_by_chain(headed));
             }
         };
         let head = headed.head();
         if self.socks.is_broadcast(head.dst) {
-            self.receive_by_chain(headed);
-            return Ok(());
+            return Ok(self.receive_by_chain(headed));
         }
         let datagram = read(headed)?;
-        self.socks.take(&mut self.pool, is_large, &datagram)?;
-        self.net.counters.count(Counter::IpTotal);
-        Ok(())
+        match self.socks.take(&mut self.pool, is_large, &datagram) {
+            Taken::Stored(fd) => {
+                self.net.counters.count(Counter::IpTotal);
+                Ok(Ending::Got((fd - FIRST_DESCRIPTOR) as u8))
+            }
+            Taken::Full(fd) => {
+                count_dropped(&mut self.net.counters, Why::UdpFullSocket);
+                Ok(Ending::Lost((fd - FIRST_DESCRIPTOR) as u8))
+            }
+            Taken::NoPort => Err(Why::UdpNoPort),
+        }
     }
 
     /// Receives a whole datagram for this machine that takes several mbufs or is a broadcast: its data are stored in a
     /// chain of their own. Its buffers must be free.
     #[inline(never)]
-    fn receive_by_chain(&mut self, headed: Headed<'_>)
+    fn receive_by_chain(&mut self, headed: Headed<'_>) -> Ending
         requires can { CanStore self.old headed.packet.now }
         requires whole { IsWholeForUs self.old.socks.pcbs headed.packet.now }
-        ensures { PacketArrives self.old headed.entry.packet.now self.new }
+        ensures { PacketArrives self.old headed.entry.packet.now (fate_by result self.new.reached) self.new }
     {
         match read(headed) {
             Ok(datagram) => {
                 self.net.counters.count(Counter::IpTotal);
-                self.socks.deliver(
+                let whole = self.socks.deliver(
                     &mut self.pool,
                     &mut self.reass,
                     &mut self.net.counters,
                     &datagram,
+                    &mut self.reached,
                 );
+                Ending::of_whole(whole)
             }
-            Err(why) => count_dropped(&mut self.net.counters, why),
+            Err(why) => {
+                let net = &mut self.net;
+                count_dropped(&mut net.counters, why);
+                Ending::Ends(why)
+            }
         }
     }
 
     /// Receives a fragment for this machine: without its header if `can_store_data`, otherwise in a new chain.
     #[inline(never)]
     // It reads the header again: if the header were passed on, every packet would store it in memory.
-    fn receive_fragment(&mut self, space: Space, headed: Headed<'_>)
+    fn receive_fragment(&mut self, space: Space, headed: Headed<'_>) -> Ending
         requires can { CanStore self.old headed.packet.now }
         requires space { HasSpace self.old.pool (length headed.packet.now) space }
         requires fragment { flat.is_fragment (flat_head (head_in headed.packet.now)) ≡ true }
         requires ours { is_ours_or_all self.old.socks.pcbs.addr self.old.socks.pcbs.bcast
             (head_in headed.packet.now).dst ≡ true }
-        ensures { PacketArrives self.old headed.entry.packet.now self.new }
+        ensures { PacketArrives self.old headed.entry.packet.now (fate_by result self.new.reached) self.new }
     {
         let head = headed.head();
         if can_store_data(&self.pool, space, &head, headed.packet) {
-            self.store_fragment_data(headed.packet, head);
+            self.store_fragment_data(headed.packet, head)
         } else {
-            self.store_fragment(headed);
+            self.store_fragment(headed)
         }
     }
 
     /// Receives a fragment for this machine for which `fits_at_once` is true: stores it without its header. If it
     /// completes its datagram, that arrives.
-    fn store_fragment_data(&mut self, packet: &[u8], head: IpHead)
+    fn store_fragment_data(&mut self, packet: &[u8], head: IpHead) -> Ending
         requires fit { PartsFit self.old [] }
         requires faultless { head_fault packet.now ≡ None }
         requires says { head ≡ head_in packet.now }
         requires fragment { flat.is_fragment (flat_head head) ≡ true }
         requires ours { is_ours_or_all self.old.socks.pcbs.addr self.old.socks.pcbs.bcast head.dst ≡ true }
         requires fits { fits_at_once self.old.pool head packet.now ≡ true }
-        ensures { PacketArrives self.old packet.now self.new }
+        ensures { PacketArrives self.old packet.now (fate_by result self.new.reached) self.new }
     {
         let counters = &mut self.net.counters;
         counters.count(Counter::IpTotal);
@@ -279,15 +297,19 @@ impl Host {
             .reass
             .arrive_bytes(&mut self.pool, counters, packet, head)
         {
-            Arrival::Whole(chain, head) => self.socks.input(
-                &mut self.pool,
-                &mut self.reass,
-                &mut self.net.counters,
-                chain,
-                head,
-            ),
-            Arrival::Kept => {}
-            Arrival::Dropped(_) => {}
+            Arrival::Whole(chain, head) => {
+                let whole = self.socks.input(
+                    &mut self.pool,
+                    &mut self.reass,
+                    &mut self.net.counters,
+                    chain,
+                    head,
+                    &mut self.reached,
+                );
+                Ending::of_completed(whole)
+            }
+            Arrival::Kept => Ending::Waits,
+            Arrival::Dropped(why) => Ending::Ends(why),
         }
     }
 
@@ -295,17 +317,17 @@ impl Host {
     /// buffers must be free.
     #[inline(never)]
     // It reads the header again: if the header were passed on, every packet would store it in memory.
-    fn store_fragment(&mut self, headed: Headed<'_>)
+    fn store_fragment(&mut self, headed: Headed<'_>) -> Ending
         requires can { CanStore self.old headed.packet.now }
         requires fragment { flat.is_fragment (flat_head (head_in headed.packet.now)) ≡ true }
         requires ours { is_ours_or_all self.old.socks.pcbs.addr self.old.socks.pcbs.bcast
             (head_in headed.packet.now).dst ≡ true }
-        ensures { PacketArrives self.old headed.entry.packet.now self.new }
+        ensures { PacketArrives self.old headed.entry.packet.now (fate_by result self.new.reached) self.new }
     {
         let head = headed.head();
         let chain = put_packet(&mut self.pool, headed.packet);
         self.net.counters.count(Counter::IpTotal);
         trim_back(&mut self.pool, &chain, u32::from(head.total));
-        self.take_fragment(chain, head);
+        self.take_fragment(chain, head)
     }
 }

@@ -9,7 +9,7 @@ ghost use Rattle.net_stack.specs.Boots.{IsUnbooted, free_pool};
 ghost use Rattle.net_stack.specs.Stack.{IsStack, state_of};
 
 use crate::host::Host;
-use flat_model::{Config, ConfigFault};
+use flat_model::{Config, ConfigFault, Reached};
 use ip_reass::Reass;
 use mbuf_chain::Pool;
 use mbuf_pool::{Sizes, Store};
@@ -105,6 +105,7 @@ impl Stack {
             socks,
             reass,
             net: Net::new(config.mtu, config.first_id),
+            reached: Reached::nobody(),
         };
         match Box::new(alloc, host) {
             Ok(host) => Ok(Stack { config, host }),
@@ -141,6 +142,7 @@ impl Stack {
             socks,
             reass,
             net,
+            reached: _,
         } = Box::into_inner(host);
         socks.end_empty();
         reass.end(&mut pool);

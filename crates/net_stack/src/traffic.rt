@@ -2,12 +2,13 @@
 ghost use Rattle.std.specs.Prelude.{◌≡◌, ◌≤◌, length, IfSome};
 ghost use Rattle.params.specs.declared.TheConstants.{IP_MAX_PACKET};
 ghost use Rattle.flat_model.specs.Machine.Event.{Comes, Done, IsAddr, Send};
+ghost use Rattle.flat_model.specs.Machine.Fate.{Fated};
 ghost use Rattle.flat_model.specs.Machine.Replies.{sent_reply};
 ghost use Rattle.flat_model.specs.Machine.Step.{Step};
 ghost use Rattle.net_stack.specs.Stack.{state_of};
 
 use crate::stack::Stack;
-use flat_model::{Addr, Errno};
+use flat_model::{Addr, Errno, Fate};
 
 /// Returns the address unchanged. Its contract adds the ranges of its numbers, which a send of the flat machine has.
 // The prover takes these ranges from an `Addr` that a body reads, but not from one in an `Option`. Hence the match.
@@ -33,6 +34,19 @@ impl Stack {
         ensures { Step (state_of self.old) (Comes packet.now) Done (state_of self.new) }
     {
         self.host.receive(packet);
+    }
+
+    /// Does the same as `rx`, and returns what became of the packet: the sockets that got it and those that lost it, or
+    /// that it's kept as a fragment, or the cause that it's dropped for.
+    #[inline(always)]
+    pub fn rx_told(&mut self, packet: &[u8]) -> Fate
+        requires { length packet.now ≤ IP_MAX_PACKET }
+        ensures step { Step (state_of self.old) (Comes packet.now) Done (state_of self.new) }
+        ensures fate { Fated (state_of self.old) packet.now result (state_of self.new) }
+    {
+        let host = self.host.as_mut();
+        let ending = host.receive(packet);
+        host.fate(ending)
     }
 
     /// Sends a datagram to an address, or to the peer if `to` is `None`, and returns its length (`sosend`, `udp_output`

@@ -6,7 +6,7 @@ use Rattle.flat_model.specs.declared.config.Config.{Config}
 use Rattle.net_stack.specs.Stack.{StackView, IsStack, state_of}
 use Rattle.chain_script.specs.Drawings.{served}
 use Rattle.link_script.specs.Boots.{BootsRun}
-use Rattle.link_script.specs.Says.{SaysBy}
+use Rattle.page.specs.Says.{SaysLine}
 use Rattle.page.specs.States.{all_sockets, below, cluster_object, output_objects, unfinished_objects}
 use Rattle.page.specs.Served.{Handed, drawn_number, drawn_text}
 use Rattle.script_loop.specs.Serves.{Serves}
@@ -32,7 +32,7 @@ pub record Pictured (config : Config) (script : List ℕ) (answer len : ℕ) (be
   pub unread : Option (List ℕ)
   pub new : State
   pub allowed : BootsRun config (served outcome)
-  pub answered : Serves (SaysBy Step) (boot config) new (Some script) unread (Some []) (Some replies) (served outcome)
+  pub answered : Serves (SaysLine Step) (boot config) new (Some script) unread (Some []) (Some replies) (served outcome)
   pub drawn : IfOk outcome (λ text. IfSome text (IsStateText new))
   pub numbered : answer ≡ drawn_number outcome
   pub counted : len ≡ length (drawn_text outcome)

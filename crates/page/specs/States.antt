@@ -11,7 +11,7 @@ use Rattle.mbuf_chain.specs.Heads.{heads, nth_heads}
 use Rattle.mbuf_chain.specs.declared.mbuf_head.MbufHead.{MbufHead}
 use Rattle.ip_reass.specs.Questions.{nth_unfinished}
 use Rattle.ip_reass.specs.declared.questions.UnfinishedDatagram.{UnfinishedDatagram}
-use Rattle.sock_calls.specs.Questions.{bytes_queued_at, memory_queued_at}
+use Rattle.sock_calls.specs.Questions.{bytes_queued_at, memory_queued_at, receive_limit_at}
 use Rattle.net_stack.specs.Questions.{chains_held, nth_references}
 use Rattle.net_stack.specs.Stack.{StackView, state_of}
 use Rattle.net_stack.specs.declared.questions.Holder.{Holder}
@@ -89,6 +89,7 @@ socket_text s fd (Ok cc) =
     codes "{\"socket\":" ++ decimal fd
     ++ codes ",\"cc\":" ++ decimal cc
     ++ codes ",\"mbcnt\":" ++ number_text (result_ok (memory_queued_at fd (state_of s)))
+    ++ codes ",\"limit\":" ++ number_text (result_ok (receive_limit_at fd (state_of s)))
     ++ held_objects s (Socket fd) 0
 
 abbrev pub socket_objects : StackView → ℕ → List ℕ

@@ -7,13 +7,14 @@
 
 ghost use Rattle.flat_model.specs.Machine.State.{boot};
 ghost use Rattle.flat_model.specs.Machine.Step.{Step};
-ghost use Rattle.link_script.specs.Says.{SaysBy};
 ghost use Rattle.link_script.specs.Boots.{BootsRun};
 ghost use Rattle.chain_script.specs.Machines.{booted};
 ghost use Rattle.chain_script.specs.Steps as chain_steps;
 ghost use Rattle.chain_script.specs.Boots as chain_sizes;
+ghost use Rattle.page.specs.Says.{SaysLine};
 ghost use Rattle.page.specs.Served.{Drawn, PageRun, machine_config, sizes_of};
 
+mod caller;
 mod handed;
 mod headers;
 mod marks;
@@ -23,10 +24,11 @@ mod records;
 mod settings;
 mod state;
 
+use caller::run_lines;
 use chain_script::{draw_slot, run_chains};
 use handed::{hand_over, number_of};
 pub use headers::{PageHeader, bsdudp_page_header};
-use link_script::{RunFault, run};
+use link_script::RunFault;
 pub use marks::{PageMarks, bsdudp_page_marks};
 pub use play::{bsdudp_page_capture, bsdudp_page_hosts, bsdudp_page_play};
 pub use records::{PageCapture, bsdudp_page_records};
@@ -34,8 +36,9 @@ pub use settings::{PageMachine, PagePool};
 pub use state::bsdudp_page_state;
 use std::alloc::Global;
 
-/// Serves a script of `bsdudp run` on a new machine, and writes the replies to the front of the buffer: `uint32_t
-/// bsdudp_page_run(const struct page_machine *, const uint8_t *script, size_t, uint8_t *room, size_t, size_t *len)`.
+/// Serves a script of `bsdudp run`, which may also have lines `setsockopt FD rcvbuf N`, on a new machine, and writes
+/// the replies to the front of the buffer: `uint32_t bsdudp_page_run(const struct page_machine *, const uint8_t
+/// *script, size_t, uint8_t *room, size_t, size_t *len)`.
 ///
 /// Returns the outcome's number: 0 if all lines got a reply, otherwise that of the fault. `len` is then the length of
 /// the replies in bytes. If the buffer is shorter, it is unchanged, and the page calls again with a longer one.
@@ -51,12 +54,12 @@ pub extern "C" fn bsdudp_page_run(
     buffer: &mut [u8],
     len: &mut usize,
 ) -> u32
-    ensures reported { PageRun (SaysBy Step) (boot (machine_config machine.now)) (BootsRun (machine_config machine.now))
-        script.now result len.new buffer.old buffer.new }
+    ensures reported { PageRun (SaysLine Step) (boot (machine_config machine.now))
+        (BootsRun (machine_config machine.now)) script.now result len.new buffer.old buffer.new }
 {
     let mut reader = script;
     let mut replies = Vec::new(alloc);
-    let outcome = run(alloc, machine.config(), &mut reader, &mut replies);
+    let outcome = run_lines(alloc, machine.config(), &mut reader, &mut replies);
     *len = hand_over(replies.as_slice(), buffer);
     number_of(outcome)
 }

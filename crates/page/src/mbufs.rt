@@ -1,8 +1,10 @@
 //! The mbufs of a stack as JSON objects, one per line.
 ghost use Rattle.std.specs.Prelude.{◌≡◌, ◌≤◌, ◌++◌, length, take, decimal, OnOk};
+ghost use Rattle.std.specs.Result.{result_ok};
 ghost use Rattle.hex.specs.Hex.{encode_lower};
 ghost use Rattle.net_stack.specs.Questions.{chains_held};
 ghost use Rattle.net_stack.specs.Stack.{state_of};
+ghost use Rattle.sock_calls.specs.Questions.{receive_limit_at};
 ghost use Rattle.params.specs.declared.TheConstants.{MAX_SOCKETS};
 ghost use Rattle.page.specs.Pictured.{stack_objects};
 ghost use Rattle.page.specs.States.{all_sockets, below, chain_objects, cluster_object, counted_text, first_number, header_fields, held_objects, holder_field, key_fields, late_text, len_in, link_fields, mbuf_object, mbuf_objects, number_text, output_objects, place_fields, references_text, socket_objects, tag_in, unfinished_objects};
@@ -152,6 +154,16 @@ fn put_held(text: &mut Vec<u8>, stack: &Stack, holder: Holder, i: u32) -> Result
     put_chains(text, stack, holder)
 }
 
+/// Returns the size that was set for a socket's receive queue, or 0. `None` if the socket isn't open.
+fn limit_of(stack: &Stack, fd: u32) -> Option<u32>
+    ensures { result ≡ result_ok (receive_limit_at fd (state_of stack.now)) }
+{
+    match stack.receive_limit(fd) {
+        Ok(limit) => Some(u32::from(limit)),
+        Err(_) => None,
+    }
+}
+
 /// Appends the socket at index `place`, where 0 is descriptor 3, with its queue; nothing if it isn't open.
 fn put_socket(text: &mut Vec<u8>, stack: &Stack, place: u32) -> Result<(), AllocError>
     requires { place ≤ MAX_SOCKETS }
@@ -164,6 +176,7 @@ fn put_socket(text: &mut Vec<u8>, stack: &Stack, place: u32) -> Result<(), Alloc
     put_field(text, b"{\"socket\":", Some(fd))?;
     put_field(text, b",\"cc\":", Some(cc))?;
     put_field(text, b",\"mbcnt\":", stack.memory_queued(fd).ok())?;
+    put_field(text, b",\"limit\":", limit_of(stack, fd))?;
     put_held(text, stack, Holder::Socket(fd), 0)
 }
 

@@ -4,19 +4,18 @@ ghost use Rattle.flat_model.specs.Machine.State.{State, boot};
 ghost use Rattle.flat_model.specs.Machine.Step.{Step};
 ghost use Rattle.chain_script.specs.Drawings.{served};
 ghost use Rattle.link_script.specs.Boots.{BootsRun};
-ghost use Rattle.link_script.specs.Says.{SaysBy};
 ghost use Rattle.net_stack.specs.Stack.{state_of};
-ghost use Rattle.script_loop.specs.Serves.{IsServed, Serves};
-ghost use Rattle.stack_call.specs.Moves.{StackSteps};
+ghost use Rattle.script_loop.specs.Serves.{Serves};
 ghost use Rattle.page.specs.Pictured.{IsStateText, Pictured};
+ghost use Rattle.page.specs.Says.{SaysLine};
 ghost use Rattle.page.specs.Served.{machine_config};
 
+use crate::caller::serve_lines;
 use crate::handed::{hand_over, number_of};
 use crate::mbufs::put_state;
 use crate::settings::PageMachine;
-use link_script::{Caller, Config, RunFault, Sink, Source, booted};
+use link_script::{Config, RunFault, Sink, Source, booted};
 use net_stack::Stack;
-use script_loop::{LineBuffers, serve_script};
 use std::alloc::{AllocError, Global};
 
 /// Returns the text of a stack; `AllocError` if the host refuses memory for it.
@@ -29,38 +28,8 @@ fn picture_of(alloc: Global, stack: &Stack) -> Result<Vec<u8>, AllocError>
     Ok(text)
 }
 
-/// Serves a script on a stack, and consumes the stack. Returns the text of its final state, or `None` if the host
+/// Serves a script on a new stack, like `run_lines`. Returns the text of the stack's final state, or `None` if the host
 /// refuses memory for it.
-fn serve_stack<R: Source, W: Sink>(
-    alloc: Global,
-    machine: Stack,
-    reader: &mut R,
-    writer: &mut W,
-) -> Result<Option<Vec<u8>>, RunFault>
-    ensures drawn { (new : State) × Serves (SaysBy StackSteps) (state_of machine) new
-        (R.remaining reader.old) (R.remaining reader.new) (W.contents writer.old) (W.contents writer.new)
-        (served result) × IfOk result (λ text. IfSome text (λ bytes. IsStateText new bytes.items)) }
-    ensures started { IsServed (served result) }
-{
-    let Ok(buffers) = LineBuffers::new(alloc) else {
-        let _ = machine.end();
-        return Err(RunFault::Memory);
-    };
-    let mut caller = Caller { machine, buffers };
-    let outcome = serve_script(alloc, &mut caller, reader, writer);
-    let text = picture_of(alloc, &caller.machine);
-    let Caller {
-        machine,
-        buffers: _buffers,
-    } = caller;
-    let _ = machine.end();
-    match outcome {
-        Ok(()) => Ok(text.ok()),
-        Err(fault) => Err(fault),
-    }
-}
-
-/// Serves a script on a new stack, like `link_script::run`. Returns the text of the stack's final state.
 #[tactic(auto, unfolding(stack_call::specs::Moves::StackSteps))]
 fn picture<R: Source, W: Sink>(
     alloc: Global,
@@ -69,23 +38,29 @@ fn picture<R: Source, W: Sink>(
     writer: &mut W,
 ) -> Result<Option<Vec<u8>>, RunFault>
     ensures booted { BootsRun config (served result) }
-    ensures drawn { (new : State) × Serves (SaysBy Step) (boot config) new
+    ensures drawn { (new : State) × Serves (SaysLine Step) (boot config) new
         (R.remaining reader.old) (R.remaining reader.new) (W.contents writer.old) (W.contents writer.new)
         (served result) × IfOk result (λ text. IfSome text (λ bytes. IsStateText new bytes.items)) }
 {
     let machine = booted(alloc, config)?;
-    serve_stack(alloc, machine, reader, writer)
+    let (machine, outcome) = serve_lines(alloc, machine, reader, writer);
+    let text = picture_of(alloc, &machine);
+    let _ = machine.end();
+    match outcome {
+        Ok(()) => Ok(text.ok()),
+        Err(fault) => Err(fault),
+    }
 }
 
-/// Serves a script of `bsdudp run` on a new machine, discards the replies, and returns the mbufs that the machine holds
-/// in its final state, as JSON objects, one per line: `uint32_t bsdudp_page_state(const struct page_machine *, const
+/// Serves a script as `bsdudp_page_run` does, discards the replies, and returns the mbufs that the machine holds in its
+/// final state, as JSON objects, one per line: `uint32_t bsdudp_page_state(const struct page_machine *, const
 /// uint8_t *script, size_t, uint8_t *room, size_t, size_t *len)`.
 ///
-/// A holder precedes its mbufs, chain by chain. An open socket has its descriptor (`socket`, with `cc`, `mbcnt` and
-/// `first`), the output queue its length (`output`, with `last` and `first`), and an unfinished datagram the mbuf of
-/// its key (`unfinished`, with `id`, `source`, `ticks` and the `first` of its fragments). An mbuf has its number
-/// (`mbuf`), `next`, `nextpkt`, `len`, `data`, `pkthdr`, `rcvif`, `cluster`, and its first 32 bytes (`bytes`). Links
-/// are mbuf numbers. The last lines are the clusters that mbufs refer to, each with its `references`.
+/// A holder precedes its mbufs, chain by chain. An open socket has its descriptor (`socket`, with `cc`, `mbcnt`,
+/// `limit` and `first`), the output queue its length (`output`, with `last` and `first`), and an unfinished datagram
+/// the mbuf of its key (`unfinished`, with `id`, `source`, `ticks` and the `first` of its fragments). An mbuf has its
+/// number (`mbuf`), `next`, `nextpkt`, `len`, `data`, `pkthdr`, `rcvif`, `cluster`, and its first 32 bytes (`bytes`).
+/// Links are mbuf numbers. The last lines are the clusters that mbufs refer to, each with its `references`.
 ///
 /// Returns the outcome's number: 0 if all lines got a reply, otherwise that of the fault. The lines are returned in the
 /// way replies are. If there are no lines, `len` is 0 and the buffer is unchanged.

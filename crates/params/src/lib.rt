@@ -97,6 +97,9 @@ pub const UDP_RECEIVE_SPACE: u32 = 40 * (1024 + SOCKADDR_BYTES);
 /// The most memory in bytes that the datagrams of a receive queue can occupy, `sb_mbmax`: twice the queue's size
 /// (volume 2, chapter 16).
 pub const UDP_RECEIVE_MEMORY: u32 = 2 * UDP_RECEIVE_SPACE;
+/// The largest size of a receive queue that a program can choose, in bytes. It has room for the longest datagram.
+/// 4.4BSD's own is 246,723 (`sbreserve` of volume 2, chapter 16); two bytes are this project's own.
+pub const MOST_RECEIVE_SPACE: u32 = 65_535;
 /// The size in bytes of a sender's address in a receive queue, a `sockaddr_in` (volume 2, chapter 6).
 pub const SOCKADDR_BYTES: u32 = 16;
 
@@ -121,5 +124,6 @@ pub const fn numbers()
     ensures ports { (FIRST_EPHEMERAL_PORT ≡ 1024) × (LAST_EPHEMERAL_PORT ≡ 5000) }
     ensures sockets { (MAX_SOCKETS ≡ 64) × (FIRST_DESCRIPTOR ≡ 3) × (UDP_SEND_SPACE ≡ 9216)
         × (UDP_RECEIVE_SPACE ≡ 41600) × (UDP_RECEIVE_MEMORY ≡ 83200) × (SOCKADDR_BYTES ≡ 16) }
+    ensures most { MOST_RECEIVE_SPACE ≡ 2 ^ 16 - 1 }
     ensures scripts { LONGEST_REQUEST ≡ 131200 }
 {}

@@ -167,7 +167,7 @@ opens i bs new last fd room lowest n rest queues empty =
         ap (λ (cs : List Block). machine rest queues (table_of i cs last)) n
             ∙ ap (λ q. record M {
               sockets = record
-                  { fd = fd; local = None; port = None; peer = None; broadcast = false; reuse_port = false; queue = q }
+                  { fd = fd; local = None; port = None; peer = None; broadcast = false; reuse_port = false; limit = 0; queue = q }
                   ∷ map (socket_with queues) bs;
             }) empty,
       );

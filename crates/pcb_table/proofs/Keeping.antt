@@ -17,7 +17,7 @@ use Rattle.pcb_table.specs.declared.block.Connection.{Connection}
 use Rattle.pcb_table.specs.Inside.Search.{youngest_block, best_block, key_port, GivesPort, block_bind_faults, block_connect_faults}
 use Rattle.pcb_table.specs.Apart.{does_match, has_score, plain, has_fd, four, has_four, lacks_port, AreApart}
 use Rattle.pcb_table.specs.Inside.Fields.{is_connected_as, IsLocated, IsCached, IsLowestUnused}
-use Rattle.pcb_table.specs.Inside.Changed.{unbound_block, block_with_option, bound_block, connected_block, disconnected_block, forgotten, connection_by, connection_of}
+use Rattle.pcb_table.specs.Inside.Changed.{unbound_block, block_with_option, limited_block, bound_block, connected_block, disconnected_block, forgotten, connection_by, connection_of}
 use Rattle.flat_model.proofs.Laws.{count_cons}
 use Rattle.pcb_table.proofs.Searching.{one_sided-most}
 use Rattle.pcb_table.proofs.Places.{one_if, one_if-most, counted-set, counted-remove, counts_at, none_counted, find_gives, find_only, best_found_as}
@@ -442,6 +442,13 @@ module _ (bs : List Block) (fd index : ℕ) (b : Block) (apart : AreApart bs) (a
   option_keeps ReusePort on cache h = (
     apart_at (block_with_option ReusePort on b) refl ported (λ local port peer e. inl e),
     cached_at (block_with_option ReusePort on b) cache (λ k e old. old) h,
+  )
+
+  pub limit_keeps : (limit : ℕ) (cache : Option Connection) → IsCached bs cache
+      → AreApart (set bs index (limited_block limit b)) × IsCached (set bs index (limited_block limit b)) cache
+  limit_keeps limit cache h = (
+    apart_at (limited_block limit b) refl ported (λ local port peer e. inl e),
+    cached_at (limited_block limit b) cache (λ k e old. old) h,
   )
 
   -- an unconnected block without a port gets one

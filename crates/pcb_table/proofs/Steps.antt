@@ -3,7 +3,7 @@ use Rattle.std.proofs.Common.{◌≡◌, ℕ, Bool, true, false, ◌&&◌, ◌||
 use Rattle.std.proofs.lemmas.Option.{none-some, same_Some}
 use Rattle.flat_model.specs.declared.lookup_key.LookupKey.{LookupKey}
 use Rattle.flat_model.specs.Packets.Header.{first_fault}
-use Rattle.flat_model.specs.Machine.Event.{Reply, Done, Refused, Bind, Close, Connect, Set_option}
+use Rattle.flat_model.specs.Machine.Event.{Reply, Done, Refused, Bind, Close, Connect, Set_limit, Set_option}
 use Rattle.flat_model.specs.Sockets.Lookup.{exact}
 use Rattle.flat_model.specs.Machine.State.{State, Socket, socket_at, change_socket}
 use Rattle.flat_model.specs.Machine.Calls.{Unless, OnSocket, GetsPort, IsNextPort, port_after, is_in_use, is_taken, lacks_reuse_port, bind_faults, connect_faults, disconnected, read_addr, source_for, set_option, unless_zero, is_reached, Connects, ConnectsTo}
@@ -20,7 +20,7 @@ use Rattle.pcb_table.specs.Apart.{plain, has_fd, AreApart}
 use Rattle.pcb_table.specs.Inside.Fields.{IsLocated}
 use Rattle.pcb_table.specs.Found.{Changes, EnsuresPort}
 use Rattle.std.specs.Prelude.{remove}
-use Rattle.pcb_table.specs.Inside.Changed.{block_with_option, bound_block, connected_block, disconnected_block}
+use Rattle.pcb_table.specs.Inside.Changed.{block_with_option, limited_block, bound_block, connected_block, disconnected_block}
 use Rattle.pcb_table.proofs.Places.{located_found, located_set, located_remove}
 use Rattle.pcb_table.proofs.Lifted.{youngest-sockets, best-sockets, sockets-find, sockets_changed, filter-map}
 
@@ -158,6 +158,10 @@ pub set_option_commutes : (queues : Queues) (option : Opt) (on : Bool) (b : Bloc
 set_option_commutes queues Broadcast on b = refl
 set_option_commutes queues ReusePort on b = refl
 
+pub limit_commutes : (queues : Queues) (limit : ℕ) (b : Block)
+    → ◌≡◌ {A = Socket} (socket_with queues (limited_block limit b)) (record (socket_with queues b) { limit = limit })
+limit_commutes queues limit b = refl
+
 pub disconnected_commutes : (queues : Queues) (b : Block)
     → socket_with queues (disconnected_block b) ≡ disconnected (socket_with queues b)
 disconnected_commutes queues b = go (is_some b.peer)
@@ -184,6 +188,18 @@ module _ (i : Interface) (bs : List Block) (last : Option ℕ) (fd index : ℕ) 
             (n ∙ located_set bs fd index b apart at (block_with_option option on))
             ∙ changed rest queues (table_of i bs last) fd (block_with_option option on) (set_option option on)
             (set_option_commutes queues option on),
+      )
+
+  pub set_limit_step : (new : List Block) (limit : ℕ) → new ≡ set bs index (limited_block limit b)
+      → IsCall (table_of i bs last) (Set_limit fd limit) Done (table_of i new last)
+  set_limit_step new limit n rest queues =
+      on_open rest queues (table_of i bs last) fd b Done (machine rest queues (table_of i new last)) _
+      (located_found bs fd index b apart at) (
+        refl,
+        ap (λ (cs : List Block). machine rest queues (table_of i cs last))
+            (n ∙ located_set bs fd index b apart at (limited_block limit))
+            ∙ changed rest queues (table_of i bs last) fd (limited_block limit)
+            (λ socket. record socket { limit = limit }) (limit_commutes queues limit),
       )
 
   pub close_step : (new : List Block) → new ≡ remove bs index

@@ -53,6 +53,7 @@ socket_with queues b = record {
   peer = b.peer;
   broadcast = b.broadcast;
   reuse_port = b.reuse_port;
+  limit = b.receive_limit;
   queue = queues b.fd;
 }
 

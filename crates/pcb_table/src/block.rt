@@ -2,7 +2,7 @@
 ghost use Rattle.std.specs.Prelude.{◌≡◌, ◌&&◌};
 ghost use Rattle.flat_model.specs.Sockets.Lookup as flat;
 ghost use Rattle.flat_model.specs.Sockets.Lookup.{is_addr, wildcards};
-ghost use Rattle.pcb_table.specs.Inside.Changed.{block_with_option, bound_block, connected_block, connection_of, disconnected_block, unbound_block};
+ghost use Rattle.pcb_table.specs.Inside.Changed.{block_with_option, bound_block, limited_block, connected_block, connection_of, disconnected_block, unbound_block};
 ghost use Rattle.pcb_table.specs.Inside.Search.{does_agree};
 ghost use Rattle.pcb_table.specs.Apart.{does_match, has_score, plain};
 
@@ -24,6 +24,9 @@ pub struct Block {
     pub broadcast: bool,
     /// Whether other sockets with this option may bind to the same address and port (SO_REUSEPORT).
     pub reuse_port: bool,
+    /// The size in bytes of the receive queue that a program has chosen (SO_RCVBUF), or 0.
+    // Two bytes, because that much of a block was padding: a longer one takes 256 bytes more for 64 sockets.
+    pub receive_limit: u16,
 }
 
 /// The two ends of a block whose four values are all set.
@@ -58,6 +61,16 @@ impl Block {
                 reuse_port: on,
                 ..self
             },
+        }
+    }
+
+    /// The block with this size of the receive queue.
+    pub(crate) fn with_limit(self, limit: u16) -> Block
+        ensures { result ≡ limited_block limit self }
+    {
+        Block {
+            receive_limit: limit,
+            ..self
         }
     }
 

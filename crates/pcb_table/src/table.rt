@@ -1,6 +1,6 @@
 //! The control blocks of a machine, and the calls on them.
 ghost use Rattle.std.specs.Prelude.{◌≡◌, ◌≢◌, ◌==◌, ◌||◌, ◌<◌, ◌≤◌, [], true, All, None, Some, Ok, IfNone, IfOk, IfSome, OnErr, OnOk, OnSome, length, option_map};
-ghost use Rattle.flat_model.specs.Machine.Event.{Bind, Close, Connect, Open, Set_option};
+ghost use Rattle.flat_model.specs.Machine.Event.{Bind, Close, Connect, Open, Set_limit, Set_option};
 ghost use Rattle.flat_model.specs.Machine.State.{State};
 ghost use Rattle.flat_model.specs.Machine.Step.{Step};
 ghost use Rattle.flat_model.specs.Machine.Calls.{disconnected};
@@ -109,6 +109,19 @@ impl Pcbs {
     {
         let (_, block) = self.blocks.indexed(fd)?;
         Some(block)
+    }
+
+    /// The size in bytes of an open socket's receive queue that a program has chosen, or 0. The number of steps doesn't
+    /// depend on the number of sockets, unless `params::indexes_sockets` returns `false`.
+    #[inline(always)]
+    pub fn limit(&self, fd: u32) -> u16
+        requires { IsOpen fd self.now }
+        ensures { option_map (λ b. b.receive_limit) (block_at fd self.now) ≡ Some result }
+    {
+        match self.indexed(fd) {
+            Some(block) => block.receive_limit,
+            None => self.blocks.located(fd).block.receive_limit,
+        }
     }
 
     /// The local and the foreign end of an open socket, with 0 for each value that is unset.
@@ -261,6 +274,23 @@ impl Pcbs {
         };
         self.blocks
             .set_block(at.index, at.block.with_option(option, on));
+        Ok(())
+    }
+
+    /// Sets the size in bytes of a socket's receive queue; 0 is no size of its own. The queue keeps its datagrams.
+    ///
+    /// # Errors
+    ///
+    /// `BadDescriptor` if the socket isn't open. Nothing changes then.
+    pub fn set_limit(&mut self, fd: u32, limit: u16) -> Result<(), Errno>
+        ensures step { IsCall self.old (Set_limit fd limit) (done_reply result) self.new }
+        ensures descriptors { KeepsOpen self.old self.new }
+        ensures err { OnErr result (self.new ≡ self.old) }
+    {
+        let Some(at) = self.blocks.locate(fd) else {
+            return Err(Errno::BadDescriptor);
+        };
+        self.blocks.set_block(at.index, at.block.with_limit(limit));
         Ok(())
     }
 

@@ -37,15 +37,11 @@ unknown Machine word = Unknown word (nearest word host_commands)
 unknown Host word = Unknown word (nearest word hosted_commands)
 unknown Wire word = of_host (find (has_name word) hosted_commands) (Unknown word (nearest word wire_commands))
 
--- `rx pcap`, `rx udp` and `rx raw` have forms of their own
-abbrev pub is_rx : Command → Bool
-is_rx command.Rx = true
-is_rx _ = false
-
 abbrev pub begins_so : List ℕ → List (List ℕ) → Bool
 begins_so word [] = false
 begins_so word (first ∷ rest) = bytes_eq first word
 
+-- `rx pcap`, `rx udp` and `rx raw` have forms of their own
 abbrev pub arrival_form : List (List ℕ) → Command
 arrival_form rest =
     if begins_so (codes "pcap") rest then command.RxPcap
@@ -53,8 +49,15 @@ arrival_form rest =
     else if begins_so (codes "raw") rest then command.RxRaw
     else command.Rx
 
+-- `setsockopt FD rcvbuf` has a form of its own
+abbrev pub set_form : List (List ℕ) → Command
+set_form [] = command.SetSockOpt
+set_form (fd ∷ rest) = if begins_so (codes "rcvbuf") rest then command.SetRcvBuf else command.SetSockOpt
+
 abbrev pub narrowed : Command → List (List ℕ) → Command
-narrowed asked rest = if is_rx asked then arrival_form rest else asked
+narrowed command.Rx rest = arrival_form rest
+narrowed command.SetSockOpt rest = set_form rest
+narrowed asked rest = asked
 
 -- The words after the command, by its arguments: the first word that is wrong, missing or too much.
 abbrev pub AdvisesAfter : Command → List Argument → List (List ℕ) → Advice → Type 0

@@ -104,12 +104,28 @@ fn arrival_form(rest: Option<&[u8]>) -> Command
     }
 }
 
+/// Returns the command of a line `setsockopt`: `setsockopt FD rcvbuf` has a form of its own.
+fn set_form(rest: Option<&[u8]>) -> Command
+    ensures { result ≡ advice.set_form (left rest.entry) }
+{
+    let Some(words) = rest else {
+        return Command::SetSockOpt;
+    };
+    let (_, more) = first_word(words);
+    if begins_so(b"rcvbuf", more) {
+        Command::SetRcvBuf
+    } else {
+        Command::SetSockOpt
+    }
+}
+
 /// Returns the command, or the one with a form of its own.
 fn narrowed(asked: Command, rest: Option<&[u8]>) -> Command
     ensures { result ≡ advice.narrowed asked (left rest.entry) }
 {
     match asked {
         Command::Rx => arrival_form(rest),
+        Command::SetSockOpt => set_form(rest),
         _ => asked,
     }
 }

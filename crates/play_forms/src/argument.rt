@@ -59,7 +59,8 @@ fn is_count(word: &[u8]) -> bool
 fn is_option(word: &[u8]) -> bool
     ensures { MatchBool result (Takes argument.Option word.now) (¬ Takes argument.Option word.now) }
 {
-    word == b"broadcast".as_slice() || word == b"reuseport".as_slice()
+    word == b"broadcast".as_slice()
+        || (word == b"reuseport".as_slice() || word == b"rcvbuf".as_slice())
 }
 
 /// Returns whether a word sets an option or clears it.
@@ -81,7 +82,7 @@ impl Argument {
             Argument::Port => "PORT (0 to 65535)",
             Argument::Len => "LEN (1 to 65535)",
             Argument::Count => "N (1 to 65535)",
-            Argument::Option => "OPT (broadcast or reuseport)",
+            Argument::Option => "OPT (broadcast, reuseport or rcvbuf)",
             Argument::Switch => "ON (1 or 0)",
             Argument::Bytes => "BYTES (digits, \"text\" or @N)",
             Argument::Topic => "WHAT (sockets, unfinished, queue, counters or pool)",

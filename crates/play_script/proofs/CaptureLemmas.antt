@@ -3,7 +3,7 @@ use Rattle.std.proofs.Common.{◌≡◌, ℕ, zero, suc, ◌-◌, ◌<◌, ◌�
 use Rattle.std.proofs.KnownBytes.{Appends-nil}
 use Rattle.std.proofs.lemmas.List.{map-append}
 use Rattle.std.proofs.lemmas.List.Concat.{flat_map-append}
-use Rattle.flat_model.specs.Machine.Event.{Event, Reply, Tick}
+use Rattle.flat_model.specs.Machine.Event.{Event, Reply, Set_limit, Tick}
 use Rattle.flat_model.specs.Runs.Run.{Turn}
 use Rattle.capture.specs.Records.{Captured, record_bytes}
 use Rattle.capture.specs.declared.pcap.header.Order.TheVariants.{Little}
@@ -13,7 +13,7 @@ use Rattle.play_script.specs.Actions.{moved_in, turns_with}
 use Rattle.play_script.specs.Captures.{Captures, Logs, after_ticks, all_passes, later_by, moved_by, pass_if, passes, tick_in, ticks_after, ticks_by, turn_of}
 use Rattle.play_script.specs.Inside.{events_of, ticks_of}
 use Rattle.play_script.specs.declared.action.Action.{Action}
-use Rattle.play_script.specs.declared.action.Action.TheVariants.{Call, Ticks}
+use Rattle.play_script.specs.declared.action.Action.TheVariants.{Call, Limit, Ticks}
 use Rattle.request.specs.Requests.{event_of}
 
 -- ---- what is written
@@ -82,6 +82,8 @@ pub Captures-action : (number : ℕ) (old new : Traced) (action : Action) (reply
     → Captures number old (turns_with (events_of action) reply) new
 Captures-action number old new (Call request) reply moved n is ticks h =
     Captures-one number old new (event_of request) reply moved n is ticks h
+Captures-action number old new (Limit fd limit) reply moved n is ticks h =
+    Captures-one number old new (Set_limit fd limit) reply moved n is ticks h
 Captures-action number old new (Ticks count) reply moved n is ticks h = (
   subst (λ (ps : List Pass). Keeps old new (passes_bytes ps)) (sym (ticks_pass number count old.ticks reply))
       (subst (λ (m : Option (List ℕ)). Keeps old new (passes_bytes (pass_if old.ticks number m)))

@@ -1,19 +1,24 @@
 -- Laws of plain lines: a line has at most one kind of request.
-use Rattle.std.proofs.Common.{◌≡◌, ℕ, true, List, Some}
-use Rattle.flat_model.specs.Machine.Event.{Event}
-use Rattle.flat_model.specs.Scripts.Script as script
-use Rattle.flat_model.specs.Scripts.Script.{all_events}
+use Rattle.std.proofs.Common.{◌≡◌, ℕ, ◌<◌, ◌^◌, true, List, Some, inl, inr, sym, arith, subst}
+use Rattle.flat_model.specs.Machine.Event.{Event, IsEvent}
+use Rattle.flat_model.proofs.Laws.{in_range}
 use Rattle.play_pcap.specs.Asks.{IsAsked}
 use Rattle.play_pcap.specs.declared.ask.Details.{Details}
 use Rattle.play_script.specs.Settings.{has_dashes}
 use Rattle.play_show.specs.Topics.{topic_asked}
 use Rattle.play_show.specs.declared.topic.Topic.{Topic}
-use Rattle.play_script.specs.Asks.{IsTicks}
+use Rattle.play_script.specs.Asks.{Calls, IsTicks}
 use Rattle.play_script.proofs.LineLemmas.{call-capture, call-settings, call-show, ticks-capture, ticks-settings, ticks-show}
+
+-- an event that a line requests has its values in range
+pub Calls-in_range : (plain : List ℕ) (event : Event) → Calls plain event → IsEvent event
+Calls-in_range plain event (inl asks) = in_range plain event asks.form
+Calls-in_range plain event (inr (fd, limit, is, asks)) =
+    let small : limit < 2 ^ 16 = omega (arith, asks.4.0) in subst IsEvent (sym is) small
 
 -- the line requests neither an event nor ticks
 abbrev pub IsIdle : List ℕ → Type 0
-IsIdle plain = ((event : Event) → ¬ script.Asks all_events plain event) × ((n : ℕ) → ¬ IsTicks plain n)
+IsIdle plain = ((event : Event) → ¬ Calls plain event) × ((n : ℕ) → ¬ IsTicks plain n)
 
 -- for a line that requests to be shown something
 pub Show-idle : (plain : List ℕ) (topic : Topic) → topic_asked plain ≡ Some topic → IsIdle plain

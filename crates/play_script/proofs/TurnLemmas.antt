@@ -10,16 +10,13 @@ use Rattle.flat_model.specs.Machine.State.{State, boot}
 use Rattle.flat_model.specs.Machine.Step.{Step}
 use Rattle.flat_model.specs.Runs.Run.{Turn, Leads}
 use Rattle.flat_model.specs.declared.config.Config.{Config}
-use Rattle.flat_model.specs.Scripts.Script as script
-use Rattle.flat_model.specs.Scripts.Script.{all_events}
-use Rattle.flat_model.proofs.Laws.{in_range}
 use Rattle.script_loop.specs.Printed.{Prints}
 use Rattle.play_script.specs.Settings.{IsSet}
 use Rattle.play_script.specs.declared.fault.SettingFault.{SettingFault}
 use Rattle.play_script.specs.declared.fault.SettingFault.TheVariants.{Late}
 use Rattle.play_pcap.specs.Traces.{Traced, Keeps, passes_bytes}
-use Rattle.play_script.specs.Asks.{Ask, Call, Ticks, Show, Capture, Settings, IsTicks, Writes}
-use Rattle.play_script.proofs.Laws.{Settings-idle, Show-idle}
+use Rattle.play_script.specs.Asks.{Ask, Call, Ticks, Show, Capture, Settings, Calls, IsTicks, Writes}
+use Rattle.play_script.proofs.Laws.{Calls-in_range, Settings-idle, Show-idle}
 use Rattle.play_script.proofs.CaptureLemmas.{Joins, Keeps-none, Captures-join, Captures-more}
 use Rattle.play_script.proofs.PlayLemmas.{Captures-same, Named-turns}
 use Rattle.play_script.specs.Actions.{Does, turns_with}
@@ -60,13 +57,13 @@ Makes has plain number old new t u =
 
 Makes-one : (has : List ℕ → List ℕ → Type 0) (number : ℕ) (old new : State) (t u : Traced) (shown plain : List ℕ)
     (wanted : Option (List ℕ)) (event : Event) (reply : Reply)
-    → script.Asks all_events plain event → Does Step old (event ∷ []) reply new
+    → Calls plain event → Does Step old (event ∷ []) reply new
     → Captures number t (turns_with (event ∷ []) reply) u
     → Makes has plain number old new t u
 Makes-one has number old new t u shown plain wanted event reply asks (mid, step, same) captured = (
   turn_of event reply ∷ [],
   inl (event, reply, asks, refl),
-  (in_range plain event asks.form, mid, step, same),
+  (Calls-in_range plain event asks, mid, step, same),
   captured,
 )
 

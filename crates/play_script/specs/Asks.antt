@@ -1,7 +1,7 @@
 -- The request of a plain line of a play script (this project's own).
-use Rattle.std.specs.Prelude.{◌≡◌, ℕ, ◌<◌, true, List, [], ◌∷◌, codes, Option, Some, None}
-use Rattle.flat_model.specs.Machine.Event.{Event}
-use Rattle.flat_model.specs.Scripts.Grammar.{words, IsNumber}
+use Rattle.std.specs.Prelude.{◌≡◌, ◌⊎◌, ℕ, ◌<◌, true, List, [], ◌∷◌, codes, Option, Some, None}
+use Rattle.flat_model.specs.Machine.Event.{Event, Set_limit}
+use Rattle.flat_model.specs.Scripts.Grammar.{words, IsNumber, WritesDescriptor}
 use Rattle.flat_model.specs.Scripts.Script as script
 use Rattle.flat_model.specs.Scripts.Script.{all_events}
 use Rattle.play_pcap.specs.Asks.{IsAsked}
@@ -21,9 +21,21 @@ pub data Ask : Type 0 where
 abbrev pub IsTicks : List ℕ → ℕ → Type 0
 IsTicks plain n = (digits : List ℕ) × (words plain ≡ codes "tick" ∷ digits ∷ []) × IsNumber 65535 digits n × (0 < n)
 
+-- the line sets the size of a descriptor's receive queue, from 1 to 65,535 bytes
+abbrev pub IsLimit : List ℕ → ℕ → ℕ → Type 0
+IsLimit plain fd limit =
+    (f n : List ℕ) × (words plain ≡ codes "setsockopt" ∷ f ∷ codes "rcvbuf" ∷ n ∷ [])
+    × WritesDescriptor f fd × IsNumber 65535 n limit × (0 < limit)
+
+-- the line requests one event: it is a line of `bsdudp run`, or sets the size of a receive queue
+abbrev pub Calls : List ℕ → Event → Type 0
+Calls plain event =
+    script.Asks all_events plain event
+    ⊎ ((fd limit : ℕ) × (event ≡ Set_limit fd limit) × IsLimit plain fd limit)
+
 -- the line makes this request
 abbrev pub Writes : List ℕ → Ask → Type 0
-Writes plain (Call event) = script.Asks all_events plain event
+Writes plain (Call event) = Calls plain event
 Writes plain (Ticks n) = IsTicks plain n
 Writes plain (Show topic) = topic_asked plain ≡ Some topic
 Writes plain (Capture name details) = IsAsked plain name details

@@ -1,6 +1,6 @@
 -- Definitions that only this crate uses.
 use Rattle.std.specs.Prelude.{◌≡◌, ℕ, Bool, List, [], ◌∷◌, replicate, Some, None}
-use Rattle.flat_model.specs.Machine.Event.{Event, Reply, Tick}
+use Rattle.flat_model.specs.Machine.Event.{Event, Reply, Set_limit, Tick}
 use Rattle.flat_model.specs.Machine.State.{State}
 use Rattle.flat_model.specs.declared.config.Config.{Config}
 use Rattle.play_pcap.specs.Traces.{Traced}
@@ -9,7 +9,7 @@ use Rattle.play_script.specs.Captures.{tick_in}
 use Rattle.play_script.specs.Plays.{CapturedView}
 use Rattle.play_script.specs.Reports.{Play, ReportsAsk, stays_head}
 use Rattle.play_script.specs.declared.action.Action.{Action}
-use Rattle.play_script.specs.declared.action.Action.TheVariants.{Call, Ticks}
+use Rattle.play_script.specs.declared.action.Action.TheVariants.{Call, Limit, Ticks}
 use Rattle.play_script.specs.declared.printer.Printer.{Printer}
 use Rattle.play_script.specs.declared.execute.Executed.{Executed}
 use Rattle.play_script.specs.declared.execute.Executed.TheVariants as executed
@@ -18,16 +18,19 @@ use Rattle.request.specs.Requests.{event_of, room_of}
 -- the events of an action
 abbrev pub events_of : Action → List Event
 events_of (Call request) = event_of request ∷ []
+events_of (Limit fd limit) = Set_limit fd limit ∷ []
 events_of (Ticks n) = replicate n Tick
 
 -- how many bytes it has, or requests
 abbrev pub most_of : Action → ℕ
 most_of (Call request) = room_of request
+most_of (Limit fd limit) = 0
 most_of (Ticks n) = 0
 
 -- how many ticks it lets pass
 abbrev pub ticks_of : Action → ℕ
 ticks_of (Call request) = tick_in (event_of request)
+ticks_of (Limit fd limit) = 0
 ticks_of (Ticks n) = n
 
 -- the state of a player, by its fields

@@ -4,15 +4,13 @@ use Rattle.flat_model.specs.Machine.Event.{Event, Reply, Tick, Done}
 use Rattle.flat_model.specs.Machine.Ledger.{exact_ledger}
 use Rattle.flat_model.specs.Machine.State.{State, boot}
 use Rattle.flat_model.specs.Runs.Run.{Turn, Leads}
-use Rattle.flat_model.specs.Scripts.Script.{all_events}
-use Rattle.flat_model.specs.Scripts.Script as script
 use Rattle.flat_model.specs.declared.config.Config.{Config}
 use Rattle.play_line.specs.Time.{TimedView, timed}
 use Rattle.play_line.specs.declared.fault.SyntaxError.{SyntaxError}
 use Rattle.play_script.specs.Settings.{IsSet}
 use Rattle.play_pcap.specs.Traces.{Keeps, passes_bytes}
 use Rattle.play_script.specs.Captures.{all_passes, turn_of}
-use Rattle.play_script.specs.Asks.{IsTicks, Settings, Writes}
+use Rattle.play_script.specs.Asks.{Calls, IsTicks, Settings, Writes}
 use Rattle.play_script.specs.Lines.{Reading, Nothing, TooLong, Faulty, Asks, reading_part}
 use Rattle.play_script.specs.Plays.{PlaysIn}
 use Rattle.play_script.specs.Reports.{Play}
@@ -22,10 +20,10 @@ use Rattle.play_script.specs.Reports.{Play}
 -- played.
 abbrev pub AreAskedTurns : (List ℕ → List ℕ → Type 0) → List ℕ → List Turn → Type 0
 AreAskedTurns has plain turns =
-    ((event : Event) × (reply : Reply) × script.Asks all_events plain event × (turns ≡ turn_of event reply ∷ []))
+    ((event : Event) × (reply : Reply) × Calls plain event × (turns ≡ turn_of event reply ∷ []))
     ⊎ ((n : ℕ) × IsTicks plain n × (turns ≡ replicate n (turn_of Tick Done)))
     ⊎ PlaysIn has plain turns
-    ⊎ (((event : Event) → ¬ script.Asks all_events plain event) × ((n : ℕ) → ¬ IsTicks plain n) × (turns ≡ []))
+    ⊎ (((event : Event) → ¬ Calls plain event) × ((n : ℕ) → ¬ IsTicks plain n) × (turns ≡ []))
 
 -- the same for a line after this many ticks
 abbrev pub ArePlayedTurns : (List ℕ → List ℕ → Type 0) → ℕ → Reading → List Turn → Type 0

@@ -1,5 +1,6 @@
 -- The meaning of the code's own types (this project's own).
 use Rattle.std.specs.Prelude.{ℕ, ◌≤◌, List, ◌++◌, codes, if◌then◌else◌, Option, Some, None}
+use Rattle.flat_model.specs.Machine.Event.{Set_limit}
 use Rattle.flat_model.specs.Scripts.Grammar.{words}
 use Rattle.flat_model.specs.Scripts.Texts.{hex_text}
 use Rattle.params.specs.declared.TheConstants.{IP_MAX_PACKET}
@@ -9,7 +10,7 @@ use Rattle.play_text.specs.Texts.{if_there}
 use Rattle.play_script.specs.Asks as asks
 use Rattle.play_script.specs.Lines.{Reading, Nothing, TooLong, Faulty, Asks}
 use Rattle.play_script.specs.declared.ask.Ask.{Ask}
-use Rattle.play_script.specs.declared.ask.Ask.TheVariants.{Call, Ticks, Show, Capture, Settings}
+use Rattle.play_script.specs.declared.ask.Ask.TheVariants.{Call, Limit, Ticks, Show, Capture, Settings}
 use Rattle.play_script.specs.declared.line.Kind.{Kind}
 use Rattle.play_script.specs.declared.line.Kind.TheVariants as kind
 use Rattle.play_script.specs.declared.line.Line.{Line}
@@ -35,6 +36,7 @@ is_reading kind.Asks line = Asks line.shown (plain_line line) (expected_on line)
 
 abbrev pub ask_of : Ask → asks.Ask
 ask_of (Call request) = asks.Call (event_of request)
+ask_of (Limit fd limit) = asks.Call (Set_limit fd limit)
 ask_of (Ticks n) = asks.Ticks n
 ask_of (Show topic) = asks.Show topic
 ask_of (Capture capture) = asks.Capture capture.name.now capture.details
@@ -48,6 +50,7 @@ asked_by None = None
 -- no packet exceeds the maximum length, and no range of records ends before it begins
 abbrev pub IsSoundAsk : Ask → Type 0
 IsSoundAsk (Call request) = room_of request ≤ IP_MAX_PACKET
+IsSoundAsk (Limit fd limit) = Unit {0}
 IsSoundAsk (Ticks n) = Unit {0}
 IsSoundAsk (Show topic) = Unit {0}
 IsSoundAsk (Capture capture) = IsOrdered capture.details.range

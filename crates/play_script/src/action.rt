@@ -1,7 +1,7 @@
 //! The action of a line on a machine, and the machine's reply.
 ghost use Rattle.std.specs.Prelude.{◌≡◌, ◌≤◌, length, replicate, IfSome};
 ghost use Rattle.params.specs.declared.TheConstants.{IP_MAX_PACKET};
-ghost use Rattle.flat_model.specs.Machine.Event.{Done, Tick};
+ghost use Rattle.flat_model.specs.Machine.Event.{Done, Set_limit, Tick};
 ghost use Rattle.net_stack.specs.Stack.{state_of};
 ghost use Rattle.request.specs.Replies.{len_of, packet_behind, reply_of};
 ghost use Rattle.stack_call.specs.Moves.{StackSteps};
@@ -20,8 +20,22 @@ use stack_call::call;
 pub(crate) enum Action<'a> {
     /// One call.
     Call(Request<'a>),
+    /// Setting the size of a descriptor's receive queue.
+    Limit(u32, u16),
     /// This many ticks.
     Ticks(u32),
+}
+
+/// Sets the size of a descriptor's receive queue, and returns the reply of the call.
+#[tactic(auto, unfolding(stack_call::specs::Moves::StackSteps))]
+pub fn set_limit(stack: &mut Stack, fd: u32, limit: u16) -> Reply<'static>
+    ensures step { StackSteps (state_of stack.old) (Set_limit fd limit) (reply_of result) (state_of stack.new) }
+    ensures len { len_of result ≡ 0 }
+{
+    match stack.set_receive_limit(fd, limit) {
+        Ok(()) => Reply::Done,
+        Err(errno) => Reply::Refused(errno),
+    }
 }
 
 /// Lets this many ticks pass.
@@ -46,6 +60,7 @@ pub(crate) fn perform<'r>(stack: &mut Stack, action: Action<'_>, buffer: &'r mut
 {
     match action {
         Action::Call(request) => call(stack, request, buffer),
+        Action::Limit(fd, limit) => set_limit(stack, fd, limit),
         Action::Ticks(count) => {
             tick_all(stack, count);
             Reply::Done
@@ -75,7 +90,7 @@ pub(crate) fn moved_by<'a>(action: &Action<'a>, reply: &Reply<'a>) -> Option<&'a
     match *action {
         Action::Call(Request::Packet(packet)) => Some(packet),
         Action::Call(Request::Transmit) => given(reply),
-        Action::Call(_) => None,
+        Action::Call(_) | Action::Limit(_, _) => None,
         Action::Ticks(_) => None,
     }
 }
@@ -96,7 +111,7 @@ pub(crate) fn ticks_of(action: &Action<'_>) -> u32
 {
     match *action {
         Action::Call(Request::Tick) => 1,
-        Action::Call(_) => 0,
+        Action::Call(_) | Action::Limit(_, _) => 0,
         Action::Ticks(count) => count,
     }
 }

@@ -9,6 +9,8 @@ use request::Request;
 pub enum Ask<'l, 'r> {
     /// One call, or a packet that arrives.
     Call(Request<'r>),
+    /// The size in bytes of a descriptor's receive queue, 1 to 65,535.
+    Limit(u32, u16),
     /// This many ticks, 1 to 65,535.
     Ticks(u32),
     /// A query about the host.

@@ -130,6 +130,16 @@ fn execute_ask<T: Sink, F: Folder>(
             );
             ACTED
         }
+        Ask::Limit(fd, limit) => {
+            execute_action(
+                &mut captured.stack,
+                &mut captured.capture,
+                captured.buffer.as_mut_slice(),
+                Action::Limit(fd, limit),
+                report,
+            );
+            ACTED
+        }
         Ask::Ticks(count) => {
             execute_action(
                 &mut captured.stack,

@@ -5,6 +5,7 @@ ghost use Rattle.play_script.specs.Asks.{AsksFor};
 ghost use Rattle.play_script.specs.Views.{asked_by, IsSoundAsk};
 
 use crate::ask::Ask;
+use crate::limit::limit_of;
 use crate::settings::is_settings;
 use crate::ticks::ticks_of;
 use play_show::topic_of;
@@ -28,6 +29,9 @@ pub fn ask_of<'l, 'r>(plain: &'l [u8], buffer: &'r mut [u8]) -> Option<Ask<'l, '
     }
     if let Some(count) = ticks_of(plain) {
         return Some(Ask::Ticks(count));
+    }
+    if let Some((fd, limit)) = limit_of(plain) {
+        return Some(Ask::Limit(fd, limit));
     }
     match request_of(plain, buffer) {
         Some(request) => Some(Ask::Call(request)),

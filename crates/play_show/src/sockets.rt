@@ -24,11 +24,22 @@ fn put_ends(text: &mut Buffer<SHOWN>, name: SocketName) {
     }
 }
 
-/// Appends how many datagrams wait in a socket, the sender of the oldest one, and how many bytes wait in all.
+/// Returns how many bytes a receive queue may hold: the limit that was set, if it isn't 0.
+fn space_of(limit: u16) -> u32 {
+    if limit == 0 {
+        UDP_RECEIVE_SPACE
+    } else {
+        u32::from(limit)
+    }
+}
+
+/// Appends how many datagrams wait in a socket, the sender of the oldest one, and how many bytes wait in all, of how
+/// many.
 fn put_waiting(
     text: &mut Buffer<SHOWN>,
     next: Result<NextDatagram, Errno>,
     queued: Result<u32, Errno>,
+    space: u32,
 ) {
     let Ok(next) = next else {
         add(text, &[Text(b"no datagram")]);
@@ -51,10 +62,17 @@ fn put_waiting(
                 Text(b", "),
                 Number(queued),
                 Text(b" of "),
-                Amount(UDP_RECEIVE_SPACE, b"byte"),
+                Amount(space, b"byte"),
                 Text(b" queued"),
             ],
         );
+    }
+}
+
+/// Appends the size of a receive queue, if it was set.
+fn put_limit(text: &mut Buffer<SHOWN>, limit: u16) {
+    if limit != 0 {
+        add(text, &[Text(b", rcvbuf "), Number(u32::from(limit))]);
     }
 }
 
@@ -72,10 +90,17 @@ pub(crate) fn put_sockets(machine: &Stack, text: &mut Buffer<SHOWN>) -> u32 {
                 &[
                     Either(name.broadcast, b", broadcast", b""),
                     Either(name.reuse_port, b", reuseport", b""),
-                    Text(b"; "),
                 ],
             );
-            put_waiting(text, machine.next_datagram(fd), machine.bytes_queued(fd));
+            let limit = machine.receive_limit(fd).unwrap_or(0);
+            put_limit(text, limit);
+            add(text, &[Text(b"; ")]);
+            put_waiting(
+                text,
+                machine.next_datagram(fd),
+                machine.bytes_queued(fd),
+                space_of(limit),
+            );
             add(text, &[Text(b"\n")]);
         }
     }

@@ -6,9 +6,9 @@ use Rattle.flat_model.specs.Machine.Step.{Step}
 use Rattle.flat_model.specs.Runs.Run.{Turn}
 use Rattle.flat_model.specs.Scripts.Texts.{reply_text}
 use Rattle.flat_model.specs.declared.counters.Counters.{Counters}
-use Rattle.flat_model.proofs.Laws.{in_range}
 use Rattle.net_stack.specs.Stack.{StackView, state_of}
 use Rattle.play_script.specs.Asks.{Call, Writes}
+use Rattle.play_script.proofs.Laws.{Calls-in_range}
 use Rattle.play_show.specs.declared.snapshot.Snapshot.{Snapshot}
 use Rattle.play_script.specs.Outcomes.{reply_line, drops_text}
 use Rattle.segment.specs.Law.{Calls}
@@ -37,7 +37,7 @@ answered_by_call plain s t text below event reply before after asks step looks i
   (
     Some (Call event),
     asks,
-    (in_range plain event asks.form, t, step, refl),
+    (Calls-in_range plain event asks, t, step, refl),
     (reply, before, after, refl, looks, (below, ap (λ (t : List ℕ). Replied t below) is)),
   ),
 )

@@ -14,7 +14,7 @@ use crate::link_line::execute_link;
 use crate::spare::{Counting, Spare};
 use crate::ticks::{exchange, tick_stack};
 use net_stack::Stack;
-use play_script::{Ask, Line, Report, moved_by_call};
+use play_script::{Ask, Line, Report, moved_by_call, set_limit};
 use play_show::snapshot_of;
 use segment::Segment;
 use stack_call::call;
@@ -52,6 +52,14 @@ fn execute_stack(
             let after = snapshot_of(stack);
             let moved = moved_by_call(&request, &reply);
             report.set_below(stack, moved, (&before, &after));
+            report.set_reply(&before.counters, &after.counters, &reply);
+            Ok(())
+        }
+        Ask::Limit(fd, limit) => {
+            let before = snapshot_of(stack);
+            let reply = set_limit(stack, fd, limit);
+            let after = snapshot_of(stack);
+            report.set_below(stack, None, (&before, &after));
             report.set_reply(&before.counters, &after.counters, &reply);
             Ok(())
         }

@@ -112,6 +112,7 @@ fn form_of<'r>(asked: Command, rest: Option<&[u8]>, buffer: &'r mut [u8]) -> Opt
         | Command::RecvFrom
         | Command::Close
         | Command::SetSockOpt
+        | Command::SetRcvBuf
         | Command::RxPcap
         | Command::RxUdp
         | Command::RxRaw

@@ -197,6 +197,7 @@ fn form_of<'l>(asked: Command, rest: Option<&'l [u8]>) -> Option<WireAsk<'l>>
         | Command::RecvFrom
         | Command::Close
         | Command::SetSockOpt
+        | Command::SetRcvBuf
         | Command::Rx
         | Command::RxPcap
         | Command::RxUdp

@@ -58,6 +58,22 @@ fn short_lengths(rt: HostRuntime) {
     }
 }
 
+/// From 256 bytes on, half of each 256 bytes is summed in lanes: no turn, whole turns, and a rest. All words of a turn
+/// differ, and so do the turns.
+#[test]
+fn lengths_with_lanes(rt: HostRuntime) {
+    let mut bytes = [0u8; 1480];
+    for (at, byte) in bytes.iter_mut().enumerate() {
+        *byte = ((at * 7 + at / 256 * 31 + 3) % 256) as u8;
+    }
+    for len in [255, 256, 257, 513, 1480] {
+        assert!(rt;
+            agrees_with_the_plain_program(&bytes[..len]),
+            "at length {len}"
+        );
+    }
+}
+
 /// The longest IPv4 packet.
 #[test]
 fn the_longest_packet(rt: HostRuntime) {

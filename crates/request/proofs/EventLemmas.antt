@@ -10,7 +10,7 @@ use Rattle.hex.proofs.HexLemmas.{decode_of-ok, decode_of-same}
 use Rattle.flat_model.specs.declared.address.Addr.{Addr}
 use Rattle.flat_model.specs.declared.option.Opt.{Opt}
 use Rattle.flat_model.specs.declared.option.Opt.TheVariants.{Broadcast, ReusePort}
-use Rattle.flat_model.specs.Machine.Event.{Event, Open, Bind, Connect, Send, Receive, Close, Set_option, Comes, Transmit, Tick, Ask_counters, Ask_usage}
+use Rattle.flat_model.specs.Machine.Event.{Event, Open, Bind, Connect, Send, Receive, Close, Set_option, Set_limit, Comes, Transmit, Tick, Ask_counters, Ask_usage}
 use Rattle.flat_model.specs.Scripts.Grammar.{keyword, HasArguments, IsLine, IsNumber, IsAddress, IsEnd, IsHex, option_name, switch_name}
 use Rattle.request.proofs.AddressLemmas.{IsAddress-dotted}
 use Rattle.request.proofs.KeywordLemmas.{place, index, place-keyword}
@@ -101,6 +101,8 @@ events-same (Set_option fd option on) (Set_option fd' option' on') args h k e =
     ap (λ (n : ℕ). Set_option n option on) (number-same 4294967295 fd fd' h.0 k.0 (omega arith) (cc words) h.2 k.2)
     ∙ ap (λ (o : Opt). Set_option fd' o on) (option-same option option' (cc words))
     ∙ ap (λ (b : Bool). Set_option fd' option' b) (switch-same on on' (cc words))
+events-same (Set_limit fd limit) b args h k e = absurd h
+events-same a (Set_limit fd limit) args h k e = absurd k
 events-same (Comes packet) (Comes packet') args h k e =
     let words : h.0 ∷ [] ≡ k.0 ∷ [] = sym h.1 ∙ k.1 in
     ap Comes (hex-same packet packet' h.0 k.0 (cc words) h.2 k.2)

@@ -1,7 +1,7 @@
 -- Which keyword an event has.
 use Rattle.std.proofs.Common.{◌≡◌, ℕ, ◌+◌, ◌<◌, if◌then◌else◌, List, codes, bytes_eq, slice_index_or, Option, Some, None, refl, sym, ap, ◌∙◌, arith}
 use Rattle.flat_model.specs.declared.address.Addr.{Addr}
-use Rattle.flat_model.specs.Machine.Event.{Event, Open, Bind, Connect, Send, Receive, Close, Set_option, Comes, Transmit, Tick, Ask_counters, Ask_usage}
+use Rattle.flat_model.specs.Machine.Event.{Event, Open, Bind, Connect, Send, Receive, Close, Set_option, Set_limit, Comes, Transmit, Tick, Ask_counters, Ask_usage}
 use Rattle.flat_model.specs.Scripts.Grammar.{keyword}
 use Rattle.request.specs.declared.keyword.Keyword.{Keyword}
 use Rattle.request.specs.declared.keyword.Keyword.TheVariants as line
@@ -37,6 +37,7 @@ index (Connect fd address) = 2
 index (Receive fd most) = 3
 index (Close fd) = 4
 index (Set_option fd option on) = 5
+index (Set_limit fd limit) = 5
 index (Comes packet) = 6
 index Transmit = 7
 index Tick = 8
@@ -54,6 +55,7 @@ place-keyword (Send fd None bytes) = refl
 place-keyword (Receive fd most) = refl
 place-keyword (Close fd) = refl
 place-keyword (Set_option fd option on) = refl
+place-keyword (Set_limit fd limit) = refl
 place-keyword (Comes packet) = refl
 place-keyword Transmit = refl
 place-keyword Tick = refl
@@ -105,6 +107,7 @@ listed (Send fd None bytes) = (4, omega arith, refl)
 listed (Receive fd most) = (2, omega arith, refl)
 listed (Close fd) = (9, omega arith, refl)
 listed (Set_option fd option on) = (10, omega arith, refl)
+listed (Set_limit fd limit) = (10, omega arith, refl)
 listed (Comes packet) = (0, omega arith, refl)
 listed Transmit = (1, omega arith, refl)
 listed Tick = (5, omega arith, refl)

@@ -28,12 +28,20 @@ both_swap frames i j h k =
     (sym (and_from _ _ (lt-ltb i (length (map flying frames)) (omega (arith, n)))
     (lt-ltb j (length (map flying frames)) (omega (arith, n)))))
 
-pub copied : (frames : List Frame) (i room : ℕ) (frame : Frame) → i < length frames → frame ≡ get_or frames i frame
-    → length frames < room
-    → map flying (frames ++ frame ∷ [])
+-- a frame that is a copy of another
+pub same_flying : (f g : Frame) → f.sender ≡ g.sender → f.wait ≡ g.wait
+    → take f.len f.room.value ≡ take g.len g.room.value → flying f ≡ flying g
+same_flying f g sender wait packet =
+    ap (λ n. record { sender = n; packet = take f.len f.room.value; wait = f.wait }) sender
+    ∙ ap (λ (p : List ℕ). record { sender = g.sender; packet = p; wait = f.wait }) packet
+    ∙ ap (λ n. record { sender = g.sender; packet = take g.len g.room.value; wait = n }) wait
+
+pub copied : (frames : List Frame) (i room : ℕ) (frame copy : Frame) → i < length frames
+    → frame ≡ get_or frames i frame → flying copy ≡ flying frame → length frames < room
+    → map flying (frames ++ copy ∷ [])
     ≡ take room (map flying frames ++ option_to_list (slice_get (map flying frames) i))
-copied frames i room frame h is more =
-    map-append flying frames (frame ∷ [])
+copied frames i room frame copy h is same more =
+    map-append flying frames (copy ∷ []) ∙ ap (λ (f : Flying). map flying frames ++ f ∷ []) same
     ∙ sym (take_all room (map flying frames ++ flying frame ∷ [])
     (omega (arith, length-append (map flying frames) (flying frame ∷ []), length-map frames flying)))
     ∙ ap (λ (o : Option Flying). take room (map flying frames ++ option_to_list o))

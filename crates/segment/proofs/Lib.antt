@@ -10,6 +10,8 @@ mod Changing
 mod History
 mod Sources
 mod Hosts
+mod Apart
+mod Delivering
 mod Wires
 mod Bare
 mod Framing

@@ -1,11 +1,10 @@
 -- Packets that wait, taken one by one.
-use Rattle.std.proofs.Common.{◌≡◌, ℕ, ◌+◌, ◌<◌, Bool, true, false, List, [], ◌∷◌, ◌++◌, length, map, take, drop, get_or, zero, suc, None, Some, refl, sym, ap, ◌∙◌, subst, arith, cond}
+use Rattle.std.proofs.Common.{◌≡◌, ℕ, ◌+◌, ◌<◌, Bool, List, [], ◌∷◌, ◌++◌, length, map, take, drop, get_or, zero, suc, None, Some, refl, sym, ap, ◌∙◌, subst}
 use Rattle.std.specs.Prelude.{if◌then◌else◌, filter_map}
 use Rattle.std.specs.List.{AllByRecursion as Each, cons_option}
-use Rattle.std.proofs.lemmas.List.{length-append, map-append, take_more}
+use Rattle.std.proofs.lemmas.List.{map-append, take_more}
 use Rattle.std.proofs.lemmas.List.Elements.{All-from_recursion, filter_map-append}
-use Rattle.flat_model.specs.declared.config.Config.{Config}
-use Rattle.segment.specs.Flying.{Flying, transmits_of, comes, received, sent_by, goes_to}
+use Rattle.segment.specs.Flying.{Flying, transmits_of, sent_by}
 use Rattle.segment.specs.Inside.{flying}
 use Rattle.segment.specs.declared.frame.Frame.{Frame}
 use Rattle.flat_model.specs.Amounts.Weight.{Item}
@@ -82,52 +81,3 @@ received_next goes i frames frame within is =
     (take_more frames i frame within ∙ ap (λ (f : Frame). take i frames ++ f ∷ []) (sym is))
     ∙ ap (came goes) (map-append flying (take i frames) (frame ∷ []))
     ∙ filter_map-append _ (map flying (take i frames)) (flying frame ∷ [])
-
--- their number, after one more was examined
-pub counted_next : (test : Flying → Bool) (i : ℕ) (frames : List Frame) (frame : Frame) (n m : ℕ) (goes : Bool)
-    → i < length frames → frame ≡ get_or frames i frame
-    → n ≡ length (came test (map flying (take i frames))) → goes ≡ test (flying frame) → m ≡ cond goes (n + 1) n
-    → m ≡ length (came test (map flying (take (i + 1) frames)))
-counted_next test i frames frame n m goes within is before same after = go goes same after
-  where
-    all : length (came test (map flying (take (i + 1) frames)))
-        ≡ length (came test (map flying (take i frames))) + length (if_goes test (flying frame))
-    all =
-        ap length (received_next test i frames frame within is)
-        ∙ length-append (came test (map flying (take i frames))) (if_goes test (flying frame))
-
-    go : (b : Bool) → b ≡ test (flying frame) → m ≡ cond b (n + 1) n
-        → m ≡ length (came test (map flying (take (i + 1) frames)))
-    go true e h =
-        let one : length (if_goes test (flying frame)) ≡ 1 =
-        ap (λ b. length (cons_option (cond b (Some (flying frame).packet) None) [])) (sym e) in
-        omega (arith, all, before)
-    go false e h =
-        let none : length (if_goes test (flying frame)) ≡ 0 =
-        ap (λ b. length (cons_option (cond b (Some (flying frame).packet) None) [])) (sym e) in
-        omega (arith, all, before)
-
-pub more_come : (place : ℕ) (c : Config) (i : ℕ) (frames : List Frame) (frame : Frame) (a s t : StackView)
-    → i < length frames → frame ≡ get_or frames i frame
-    → AreCalls a (comes (received place c (map flying (take i frames)))) s
-    → AreCalls s (comes (if_goes (goes_to place c) (flying frame))) t
-    → AreCalls a (comes (received place c (map flying (take (i + 1) frames)))) t
-more_come place c i frames frame a s t within is before one =
-    let first = received place c (map flying (take i frames)) in
-    let next = if_goes (goes_to place c) (flying frame) in
-    subst (λ (turns : List Turn). AreCalls a turns t)
-    (sym (ap comes (received_next (goes_to place c) i frames frame within is) ∙ map-append _ first next))
-    (then_calls a s t (comes first) (comes next) before one)
-
-pub come_goes : (place : ℕ) (c : Config) (f : Flying) (s t u : StackView) (bytes : List ℕ) → goes_to place c f ≡ true
-    → bytes ≡ f.packet → u ≡ t → AreCalls s (comes (bytes ∷ [])) t
-    → AreCalls s (comes (if_goes (goes_to place c) f)) u
-come_goes place c f s t u bytes is same end calls =
-    subst (λ (b : Bool). AreCalls s (comes (cons_option (if b then Some f.packet else None) [])) u) (sym is)
-    (subst (λ (p : List ℕ). AreCalls s (comes (p ∷ [])) u) same
-    (subst (λ (x : StackView). AreCalls s (comes (bytes ∷ [])) x) (sym end) calls))
-
-pub come_not : (place : ℕ) (c : Config) (f : Flying) (s t : StackView) → goes_to place c f ≡ false → t ≡ s
-    → AreCalls s (comes (if_goes (goes_to place c) f)) t
-come_not place c f s t is same =
-    subst (λ (b : Bool). AreCalls s (comes (cons_option (if b then Some f.packet else None) [])) t) (sym is) same

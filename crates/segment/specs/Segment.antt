@@ -148,6 +148,11 @@ swapped_at place other v =
 abbrev pub are_apart : Config → Config → Bool
 are_apart c d = not (c.addr == d.addr) && (not (c.addr == d.bcast) && not (d.addr == c.bcast))
 
+-- each of these is apart from all before it
+abbrev pub all_apart : List Config → Bool
+all_apart [] = true
+all_apart (c ∷ configs) = list_all (λ (d : Config). are_apart d c) configs && all_apart configs
+
 -- A host has joined: it has the next place, and its stack has just started.
 pub record IsJoined (config : Config) (old new : SegmentView) : Type 0 where
   pub few : length old.stacks < 64

@@ -1,5 +1,5 @@
 -- The counters of each host's packets (this project's own).
-use Rattle.std.specs.Prelude.{ℕ, List, [], ◌∷◌, slice_get, slice_set, Option, Some, None}
+use Rattle.std.specs.Prelude.{ℕ, zero, suc, List, [], ◌∷◌, slice_get, slice_set, Option, Some, None}
 use Rattle.rand_pcg.specs.Lcg.{Lcg}
 use Rattle.flat_model.specs.Machine.Count.{more_by}
 use Rattle.segment.specs.Chances.{chances_at, fate_of}
@@ -19,9 +19,14 @@ tally_counted Lost t = record t { sent = more_by 1 t.sent; lost = more_by 1 t.lo
 tally_counted (Once wait) t = record t { sent = more_by 1 t.sent }
 tally_counted (Twice first second) t = record t { sent = more_by 1 t.sent; repeated = more_by 1 t.repeated }
 
--- this many packets arrived
+-- one more packet arrived
+abbrev pub with_one : Tally → Tally
+with_one t = record t { received = more_by 1 t.received }
+
+-- this many packets arrived, one after another
 abbrev pub with_received : ℕ → Tally → Tally
-with_received packets t = record t { received = more_by packets t.received }
+with_received zero t = t
+with_received (suc n) t = with_received n (with_one t)
 
 -- with the count at a place changed by this function, if there is one
 abbrev pub set_if : List Tally → ℕ → Fate → Option Tally → List Tally

@@ -1,19 +1,17 @@
 //! Packets that wait in the output queues are carried.
-ghost use Rattle.std.specs.Prelude.{◌≡◌, ◌-◌, length, map, slice_get};
+ghost use Rattle.std.specs.Prelude.{◌≡◌, ◌-◌, length};
 ghost use Rattle.std.specs.List.{list_all};
 ghost use Rattle.net_stack.specs.Runs.{AreCalls};
-ghost use Rattle.segment.specs.Flying.{comes, transmits_of, waiting};
-ghost use Rattle.segment.specs.Segment.{AreCarried, AtEach, IsCarried, IsCollected, HasComeDue, given_below, is_quiet_segment, is_silent, received_in};
-ghost use Rattle.segment.specs.Inside.{AreSentBy, flying, view};
+ghost use Rattle.segment.specs.Flying.{transmits_of, waiting};
+ghost use Rattle.segment.specs.Segment.{AreCarried, AtEach, IsCarried, IsCollected, HasComeDue, given_below, is_quiet_segment, is_silent};
+ghost use Rattle.segment.specs.Inside.{AreSentBy, view};
 
 use crate::chances::Impairment;
+use crate::deliver::deliver_all;
 use crate::flight::Flight;
-use crate::frame::Frame;
 use crate::segment::Segment;
-use crate::tally::count_all;
 use crate::watch::{NoWatcher, Watch};
-use crate::ways::{hand_all, show_due, take_all};
-use flat_model::Config;
+use crate::ways::{show_due, take_all};
 use net_stack::Stack;
 
 /// Whether no packet waits for the link of any of these.
@@ -43,19 +41,6 @@ fn collect_all<W: Watch>(
 {
     for place in 0..stacks.len() {
         take_all(flight, impairment, place, &mut stacks[place], watch);
-    }
-}
-
-/// All packets for a host arrive at it.
-fn deliver_all<W: Watch>(due: &[Frame], configs: &[Config], stacks: &mut Vec<Stack>, watch: &mut W)
-    ensures { AtEach (λ place s t. AreCalls s
-        (comes (received_in place (slice_get configs.now place) (map flying due.now))) t)
-        stacks.old.items stacks.new.items }
-{
-    for place in 0..stacks.len() {
-        if let Some(config) = configs.get(place) {
-            hand_all(due, place, config, &mut stacks[place], watch);
-        }
     }
 }
 
@@ -90,23 +75,19 @@ impl Segment {
         self.deliver_watched(&mut NoWatcher);
     }
 
-    /// Like `deliver`, and calls `due` for each packet that is due, and then, for each host from place 0 on, `comes`
-    /// before each packet that arrives at it, and `came` after it.
+    /// Like `deliver`, and calls `due` for each packet that is due. Then, packet by packet, it calls for each host that
+    /// receives it, from place 0 on, `arriving` before the packet arrives, and `arrived` after it.
     pub fn deliver_watched<W: Watch>(&mut self, watch: &mut W)
         ensures { HasComeDue (view self.old) (view self.new) }
     {
         let flight = &mut self.flight;
         flight.leave();
         self.impairment.shuffle(&mut flight.due);
-        count_all(
-            flight.due.as_slice(),
-            self.configs.as_slice(),
-            &mut self.impairment.tallies,
-        );
         show_due(flight.due.as_slice(), watch);
         deliver_all(
             flight.due.as_slice(),
-            self.configs.as_slice(),
+            &self.directory,
+            &mut self.impairment.tallies,
             &mut self.stacks,
             watch,
         );

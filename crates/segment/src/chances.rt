@@ -1,5 +1,5 @@
 //! What happens to a packet on the wire, by chances and the numbers of a generator.
-ghost use Rattle.std.specs.Prelude.{◌≡◌, map, nat_lt, vec_capacity};
+ghost use Rattle.std.specs.Prelude.{◌≡◌, map, nat_lt, vec_capacity, vec_len};
 ghost use Rattle.segment.specs.Chances.{chances_at, drawn, fate_of, seeded, shuffled, wait_of};
 ghost use Rattle.segment.specs.Tallies.{with_tally};
 ghost use Rattle.segment.specs.Inside.{flying};
@@ -151,6 +151,7 @@ impl Impairment {
             ≡ (shuffled self.old.chances.items (map flying due.old.items) self.old.random).1 }
         ensures chances { self.new.chances ≡ self.old.chances }
         ensures room { vec_capacity due.new ≡ vec_capacity due.old }
+        ensures len { vec_len due.new ≡ vec_len due.old }
         ensures tallies { self.new.tallies ≡ self.old.tallies }
     {
         for at in 0..due.len().saturating_sub(1) {

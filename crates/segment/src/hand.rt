@@ -3,6 +3,7 @@ ghost use Rattle.std.specs.Prelude.{◌≡◌, ◌&&◌, length, nat_lt, slice_g
 ghost use Rattle.segment.specs.Segment.{lost_at, repeated_at, swapped_at};
 ghost use Rattle.segment.specs.Inside.{view};
 
+use crate::flight::unused;
 use crate::segment::Segment;
 
 /// A packet that is under way.
@@ -43,10 +44,12 @@ impl Segment {
         ensures is { result ≡ nat_lt at (length (view self.old).flight) }
         ensures lost { view self.new ≡ lost_at at (view self.old) }
     {
-        if at >= self.flight.frames.len() {
+        let flight = &mut self.flight;
+        if at >= flight.frames.len() {
             return false;
         }
-        self.flight.frames.remove(at);
+        let frame = flight.frames.remove(at);
+        flight.spare.push_reserved(frame);
         true
     }
 
@@ -57,14 +60,17 @@ impl Segment {
             && nat_lt (length (view self.old).flight) (view self.old).room) }
         ensures repeated { view self.new ≡ repeated_at at (view self.old) }
     {
-        if at >= self.flight.frames.len() {
+        let flight = &mut self.flight;
+        if at >= flight.frames.len() {
             return false;
         }
-        if self.flight.frames.len() >= self.flight.frames.capacity() {
+        if flight.frames.len() >= flight.frames.capacity() {
             return false;
         }
-        let copy = self.flight.frames[at];
-        self.flight.frames.push_reserved(copy);
+        let mut copy = unused(&mut flight.spare, &mut flight.due);
+        let frame = &flight.frames[at];
+        copy.copy(frame, frame.wait);
+        flight.frames.push_reserved(copy);
         true
     }
 

@@ -1,6 +1,6 @@
 //! The laws of a segment. Each is a function that does nothing; its contract is the law.
-ghost use Rattle.std.specs.Prelude.{◌≡◌, ◌++◌, ◌∷◌, Contains, List, ℕ};
-ghost use Rattle.flat_model.specs.Runs.Run.{Turn};
+ghost use Rattle.std.specs.Prelude.{◌≡◌, ◌++◌, ◌∷◌, Contains, List, Some, false, slice_get, ℕ};
+ghost use Rattle.flat_model.specs.Runs.Run.{Run, Turn};
 ghost use Rattle.flat_model.specs.Machine.Event.{Receive, Received};
 ghost use Rattle.flat_model.specs.Machine.Ledger.{exact_ledger};
 ghost use Rattle.flat_model.specs.Machine.State.{Datagram, Socket};
@@ -12,12 +12,22 @@ ghost use Rattle.flat_ether.specs.Hosts as host;
 ghost use Rattle.flat_ether.specs.Laws.{WasReceivedOnEthernet, WasSentOnEthernet};
 ghost use Rattle.flat_ether.specs.declared.link.Link.{Link};
 ghost use Rattle.net_stack.specs.Stack.{StackView, state_of};
-ghost use Rattle.segment.specs.Segment.{SegmentView, no_hosts};
+ghost use Rattle.segment.specs.Segment.{SegmentView, is_ether, no_hosts};
 ghost use Rattle.segment.specs.Law.{Act, AreActs, AreOnSegment, turns_of};
 ghost use Rattle.segment.specs.EtherLaw.{AreOnEtherSegment, acts_of};
 
 use flat_ether::any_hosts_on_an_ethernet;
 use net_stack::stacks_on_a_wire;
+
+/// A host of a segment, whatever was done since it had no hosts: what its stack did is a run of the machine that was
+/// booted with its configuration. For a segment with one host on which nothing is carried, that is the law of a script
+/// of one machine.
+pub fn hosts_are_machines()
+    ensures { (room k : ℕ) (c : Config) (t : StackView) (acts : List Act) (last : SegmentView)
+        → AreActs (no_hosts room) acts last → is_ether last ≡ false
+        → slice_get last.configs k ≡ Some c → slice_get last.stacks k ≡ Some t
+        → Run c (turns_of k acts) (state_of t) }
+{}
 
 /// Two hosts of a segment, whatever was done since it had no hosts: hosts joined, calls were made on any of them, and
 /// packets were carried in between. Suppose that no packet with the first one's address was forged, that the first one

@@ -34,7 +34,7 @@ impl Frame {
     /// Takes the next frame of this host. Returns whether it has one.
     pub(crate) fn give(&mut self, sender: usize, stack: &mut Stack, link: &mut LinkLayer) -> bool
         ensures step { (
-          if result then Some (take self.new.len self.new.room) else None,
+          if result then Some (take self.new.len self.new.room.value) else None,
           halves stack.new
               (link_seen link.new),
         )
@@ -47,7 +47,7 @@ impl Frame {
         if u32::from(stack.mtu()) > ETHER_MTU {
             return false;
         }
-        match link.transmit(stack, &mut self.room) {
+        match link.transmit(stack, &mut *self.room) {
             Some(len) => {
                 self.len = len;
                 true
@@ -115,26 +115,27 @@ fn collect_frames<W: Watch>(
     }
 }
 
-/// How many of these frames are for the host at a place with this hardware address.
-fn count_to(due: &[Frame], place: usize, mac: Mac) -> u64
-    ensures { result ≡ length (frames_to place mac (map flying due.now)) }
+/// The counters of the host at a place with this hardware address, after these frames arrived.
+fn counted_to(due: &[Frame], place: usize, mac: Mac, before: Tally) -> Tally
+    ensures { result ≡ with_received (length (frames_to place mac (map flying due.now))) before }
 {
-    let mut frames = 0;
+    let mut tally = before;
     for at in 0..due.len() {
         if due[at].is_addressed(place, mac) {
-            frames += 1;
+            tally = tally.with_one();
         }
     }
-    frames
+    tally
 }
 
-/// How many of these frames are for the host at a place.
-fn received_count(due: &[Frame], place: usize, links: &[LinkLayer]) -> u64
-    ensures { result ≡ length (frames_received place (slice_get (map link_seen links.now) place) (map flying due.now)) }
+/// The counters of the host at a place, after these frames arrived.
+fn counted(due: &[Frame], place: usize, links: &[LinkLayer], before: Tally) -> Tally
+    ensures { result ≡ with_received
+        (length (frames_received place (slice_get (map link_seen links.now) place) (map flying due.now))) before }
 {
     match links.get(place) {
-        Some(link) => count_to(due, place, link.link().mac),
-        None => 0,
+        Some(link) => counted_to(due, place, link.link().mac, before),
+        None => before,
     }
 }
 
@@ -146,8 +147,7 @@ fn count_frames(due: &[Frame], links: &[LinkLayer], tallies: &mut Vec<Tally>)
         tallies.old.items tallies.new.items }
 {
     for place in 0..tallies.len() {
-        let frames = received_count(due, place, links);
-        tallies[place] = tallies[place].with_received(frames);
+        tallies[place] = counted(due, place, links, tallies[place]);
     }
 }
 

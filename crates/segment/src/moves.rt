@@ -1,29 +1,32 @@
 //! How packets go under way, and leave.
-ghost use Rattle.std.specs.Prelude.{◌≡◌, ◌≤◌, ◌∷◌, [], filter, length, map, vec_capacity, vec_len};
+ghost use Rattle.std.specs.Prelude.{◌≡◌, ◌+◌, ◌≤◌, ◌∷◌, [], filter, map, vec_capacity, vec_len};
 ghost use Rattle.segment.specs.Chances.{copies_before};
 ghost use Rattle.segment.specs.Flying.{flying_aged, is_due, is_early, waits};
 ghost use Rattle.segment.specs.Inside.{GoUnderWay, flying, under_way};
 
 use crate::chances::Fate;
-use crate::flight::Flight;
+use crate::flight::{Flight, empty, unused};
 use crate::frame::Frame;
 use crate::watch::Watch;
 use std::mem;
 
 /// Divides these packets into those that are due, and the others, a carry older. Both lists are empty, with enough
 /// capacity.
-fn part(all: &[Frame], due: &mut Vec<Frame>, early: &mut Vec<Frame>)
+fn part(all: &mut Vec<Frame>, due: &mut Vec<Frame>, early: &mut Vec<Frame>)
     requires empty { (due.old.items ≡ []) × (vec_len due.old ≡ 0) }
     requires early_empty { (early.old.items ≡ []) × (vec_len early.old ≡ 0) }
-    requires room { length all.now ≤ vec_capacity due.old }
-    requires early_room { length all.now ≤ vec_capacity early.old }
-    ensures due { map flying due.new.items ≡ filter is_due (map flying all.now) }
-    ensures early { map flying early.new.items ≡ map flying_aged (filter is_early (map flying all.now)) }
+    requires room { vec_len all.old ≤ vec_capacity due.old }
+    requires early_room { vec_len all.old ≤ vec_capacity early.old }
+    ensures due { map flying due.new.items ≡ filter is_due (map flying all.old.items) }
+    ensures early { map flying early.new.items ≡ map flying_aged (filter is_early (map flying all.old.items)) }
+    ensures none { vec_len all.new ≡ 0 }
+    ensures each { vec_len due.new + vec_len early.new ≡ vec_len all.old }
+    ensures room { vec_capacity all.new ≡ vec_capacity all.old }
     ensures due_room { vec_capacity due.new ≡ vec_capacity due.old }
-    ensures same_room { vec_capacity early.new ≡ vec_capacity early.old }
+    ensures early_room { vec_capacity early.new ≡ vec_capacity early.old }
 {
-    for at in 0..all.len() {
-        let mut frame = all[at];
+    all.reverse();
+    while let Some(mut frame) = all.pop() {
         if frame.wait == 0 {
             due.push_reserved(frame);
         } else {
@@ -37,17 +40,20 @@ impl Flight {
     /// A copy of the packet in `hand` goes under way, not due for `wait` carries, if the capacity allows.
     fn put(&mut self, wait: u64)
         ensures put { GoUnderWay self.old (waits wait (flying self.old.hand) ∷ []) self.new }
-        ensures hand { waits 0 (flying self.new.hand) ≡ waits 0 (flying self.old.hand) }
+        ensures hand { self.new.hand ≡ self.old.hand }
     {
-        self.hand.wait = wait;
-        if self.frames.len() < self.frames.capacity() {
-            self.frames.push_reserved(self.hand);
+        if self.frames.len() >= self.frames.capacity() {
+            return;
         }
+        let mut frame = unused(&mut self.spare, &mut self.due);
+        frame.copy(&self.hand, wait);
+        self.frames.push_reserved(frame);
     }
 
     /// Copies of the packet in `hand` go under way by its fate.
     fn put_copies(&mut self, fate: Fate)
-        ensures { GoUnderWay self.old (copies_before fate (flying self.old.hand) []) self.new }
+        ensures put { GoUnderWay self.old (copies_before fate (flying self.old.hand) []) self.new }
+        ensures hand { self.new.hand ≡ self.old.hand }
     {
         match fate {
             Fate::Lost => {}
@@ -75,9 +81,8 @@ impl Flight {
         ensures early { under_way self.new ≡ map flying_aged (filter is_early (under_way self.old)) }
         ensures room { vec_capacity self.new.frames ≡ vec_capacity self.old.frames }
     {
-        self.due.clear();
-        self.passed.clear();
+        empty(&mut self.due, &mut self.spare);
         mem::swap(&mut self.frames, &mut self.passed);
-        part(self.passed.as_slice(), &mut self.due, &mut self.frames);
+        part(&mut self.passed, &mut self.due, &mut self.frames);
     }
 }

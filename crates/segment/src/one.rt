@@ -47,7 +47,7 @@ impl Segment {
         if !link.check(config) {
             return Err(JoinFault::BadLink);
         }
-        if !is_apart(config, self.configs.as_slice()) {
+        if !is_apart(config, self.directory.configs.as_slice()) {
             return Err(JoinFault::AddressTaken);
         }
         if !is_other_mac(link.mac, self.links.as_slice()) {
@@ -70,7 +70,7 @@ impl Segment {
             IsEtherRefused (view self.old) config link fault × (view self.new ≡ view self.old)) }
     {
         self.check_ether(&config, &link)?;
-        if self.configs.reserve(1).is_err()
+        if self.directory.reserve().is_err()
             || self.stacks.reserve(1).is_err()
             || self.links.reserve(1).is_err()
             || self.impairment.chances.reserve(1).is_err()
@@ -83,7 +83,7 @@ impl Segment {
         };
         match Stack::boot(alloc, config) {
             Ok(stack) => {
-                self.configs.push_reserved(config);
+                self.directory.add(config);
                 self.stacks.push_reserved(stack);
                 self.links.push_reserved(layer);
                 self.impairment.chances.push_reserved(NO_CHANCES);

@@ -7,6 +7,7 @@ ghost use Rattle.segment.specs.Inside.{lends_stack, view};
 ghost use Rattle.std.specs.Borrow.{sem};
 
 use crate::chances::{Chances, Impairment, NO_CHANCES, seeded};
+use crate::directory::Directory;
 use crate::flight::Flight;
 use crate::tally::{NOTHING, Tally};
 use ether_host::LinkLayer;
@@ -46,7 +47,7 @@ pub enum JoinFault {
 /// under way between them. Either no host has a link below its stack, or each has one: then frames are under way. It
 /// must be consumed, by `end`.
 pub struct Segment {
-    pub(crate) configs: Vec<Config>,
+    pub(crate) directory: Directory,
     pub(crate) stacks: Vec<Stack>,
     pub(crate) links: Vec<LinkLayer>,
     pub(crate) flight: Flight,
@@ -86,7 +87,7 @@ impl Segment {
     {
         let flight = Flight::new(alloc, room)?;
         Ok(Segment {
-            configs: Vec::new(alloc),
+            directory: Directory::new(alloc),
             stacks: Vec::new(alloc),
             links: Vec::new(alloc),
             flight,
@@ -116,10 +117,10 @@ impl Segment {
         if self.is_ether() {
             return Err(JoinFault::OtherLink);
         }
-        if !is_apart(&config, self.configs.as_slice()) {
+        if !is_apart(&config, self.directory.configs.as_slice()) {
             return Err(JoinFault::AddressTaken);
         }
-        if self.configs.reserve(1).is_err()
+        if self.directory.reserve().is_err()
             || self.stacks.reserve(1).is_err()
             || self.impairment.chances.reserve(1).is_err()
             || self.impairment.tallies.reserve(1).is_err()
@@ -128,7 +129,7 @@ impl Segment {
         }
         match Stack::boot(alloc, config) {
             Ok(stack) => {
-                self.configs.push_reserved(config);
+                self.directory.add(config);
                 self.stacks.push_reserved(stack);
                 self.impairment.chances.push_reserved(NO_CHANCES);
                 self.impairment.tallies.push_reserved(NOTHING);
@@ -200,7 +201,7 @@ impl Segment {
     /// Frees all that the hosts and the segment hold.
     pub fn end(self) {
         let Segment {
-            configs: _,
+            directory: _,
             mut stacks,
             links: _links,
             flight: _,

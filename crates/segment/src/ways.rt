@@ -1,16 +1,15 @@
 //! The routes of packets: from a host to the wire, and from the wire to a host.
-ghost use Rattle.std.specs.Prelude.{◌≡◌, ◌<◌, ◌≤◌, ◌∷◌, [], drop, length, map, take};
+ghost use Rattle.std.specs.Prelude.{◌≡◌, ◌<◌, ◌≤◌, ◌∷◌, [], drop, length, take};
 ghost use Rattle.params.specs.declared.TheConstants.{MAX_MTU};
 ghost use Rattle.net_stack.specs.Runs.{AreCalls};
-ghost use Rattle.segment.specs.Flying.{comes, transmits_of, received, sent_by, waiting};
-ghost use Rattle.segment.specs.Inside.{AreSentBy, flying};
+ghost use Rattle.segment.specs.Flying.{comes, transmits_of, sent_by, waiting};
+ghost use Rattle.segment.specs.Inside.{AreSentBy};
 
 use crate::chances::Impairment;
 use crate::flight::Flight;
 use crate::frame::Frame;
 use crate::watch::Watch;
 use ether_host::Tallies;
-use flat_model::Config;
 use net_stack::Stack;
 
 /// Takes all packets that wait for the link of the host at a place. Each is sent by its fate; beyond the capacity it's
@@ -65,29 +64,11 @@ pub(crate) fn show_due<W: Watch>(due: &[Frame], watch: &mut W) {
 }
 
 /// Passes a packet to a host.
-fn hand_over<W: Watch>(stack: &mut Stack, packet: &[u8], at: Arrival, watch: &mut W)
+pub(crate) fn hand_over<W: Watch>(stack: &mut Stack, packet: &[u8], at: Arrival, watch: &mut W)
     requires { length packet.now ≤ MAX_MTU }
     ensures { AreCalls stack.old (comes (packet.now ∷ [])) stack.new }
 {
     watch.arriving(at.number, at.place, stack, Tallies::default());
     stack.rx(packet);
     watch.arrived(at.number, at.place, stack, Tallies::default());
-}
-
-/// Passes to the host at a place all of these packets that are for it.
-pub(crate) fn hand_all<W: Watch>(
-    due: &[Frame],
-    place: usize,
-    config: &Config,
-    stack: &mut Stack,
-    watch: &mut W,
-)
-    ensures { AreCalls stack.old (comes (received place config.now (map flying due.now))) stack.new }
-{
-    for at in 0..due.len() {
-        let frame = &due[at];
-        if frame.goes_to(place, config) {
-            hand_over(stack, frame.bytes(), Arrival { number: at, place }, watch);
-        }
-    }
 }

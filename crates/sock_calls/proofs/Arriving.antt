@@ -1,5 +1,5 @@
 -- A whole datagram that arrived: UDP's tests, and its delivery.
-use Rattle.std.proofs.Common.{◌≡◌, ℕ, suc, List, [], ◌∷◌, ◌++◌, map, All, Option, Some, None, is_some, refl, sym, ap, ◌∙◌, subst, arith}
+use Rattle.std.proofs.Common.{◌≡◌, ℕ, suc, List, [], ◌∷◌, ◌++◌, map, All, Option, Some, None, Ok, Err, is_some, refl, sym, ap, ◌∙◌, subst, arith}
 use Rattle.std.specs.List.{AllByRecursion as Each}
 use Rattle.std.proofs.lemmas.List.Elements.{recursion_from_All, All-from_recursion}
 use Rattle.flat_model.specs.declared.lookup_key.LookupKey.{LookupKey}
@@ -11,10 +11,12 @@ use Rattle.flat_model.proofs.Laws.{times-both}
 use Rattle.flat_model.specs.Machine.State.{State, Socket, Unfinished, ends}
 use Rattle.flat_model.specs.Machine.Count.{counted}
 use Rattle.flat_model.specs.Machine.Ledger.{exact_ledger}
-use Rattle.flat_model.specs.Machine.Arrival.{Delivers, WholeArrives}
+use Rattle.flat_model.specs.Machine.Arrival.{DeliversAs, Offered, WholeArrivesAs}
+use Rattle.flat_model.specs.Machine.Fate.{told_one, told_whole}
 use Rattle.flat_model.specs.declared.address.Addr.{Addr}
 use Rattle.flat_model.specs.declared.counters.Counters.{Counters}
 use Rattle.flat_model.specs.declared.counters.Why.{Why}
+use Rattle.flat_model.specs.declared.fate.Reached.{Reached}
 use Rattle.mbuf_chain.specs.Chain.{ChainView, Entry, PoolView, chain_of, string}
 use Rattle.mbuf_chain.specs.Owners.{IsOwned, Moves}
 use Rattle.mbuf_chain.specs.Frames.{SameAt}
@@ -27,12 +29,13 @@ use Rattle.ledger.specs.Accounts.{entries_weight, weight_at, item_at, IsAccounte
 use Rattle.ledger.proofs.Laws.{accounted_after}
 use Rattle.sockbuf.specs.SockBuf.{SockBufView}
 use Rattle.udp.specs.Datagrams as udp
-use Rattle.udp.proofs.Laws.{delivered_arrives, dropped_arrives, data_weight}
+use Rattle.udp.proofs.Laws.{delivered_arrives, dropped_arrives, data_weight, fds_of}
 use Rattle.sock_calls.specs.Sockets.{SocksFit, SocksView, queues_of, queued_chains, with_net}
 use Rattle.sock_calls.specs.Delivery.{net_view, IsDelivered, IsInput, socket_named, sockets_named}
 use Rattle.sock_calls.proofs.Frames.{Kept, kept}
 use Rattle.sock_calls.proofs.Delivered.{freed, freed_accounts, ends_here, shows_same}
 use Rattle.sock_calls.proofs.Copies.{named_is}
+use Rattle.sock_calls.proofs.Reaching.{as_whole, named_fds}
 
 -- ---- weights
 pub placed_weight : (es : List Entry) → flat.weight_of (layout_entries es) ≡ entries_weight es
@@ -72,15 +75,15 @@ all_open t destination q fds h =
     (open_all t h.found (recursion_from_All (λ (b : Block). block_at b.fd t ≡ Some b) h.found h.are_open)))
 
 -- ---- the preconditions of the delivery
-pub record Reached (p : PoolView) (c : ℕ) (xs : List ℕ) (s : SocksView) (q : PoolView) (d : ℕ) : Type 0 where
+pub record Moved (p : PoolView) (c : ℕ) (xs : List ℕ) (s : SocksView) (q : PoolView) (d : ℕ) : Type 0 where
   pub same : SameAt p q xs
   pub shows : (fd : ℕ) → queues_of q s.queues fd ≡ queues_of p s.queues fd
   pub fit : SocksFit q s (d ∷ xs)
   pub moves : Moves p (c ∷ (xs ++ queued_chains p s.queues)) q (d ∷ (xs ++ queued_chains q s.queues))
 
-pub reached : {p q : PoolView} {c d : ℕ} {xs : List ℕ} {s : SocksView} → SocksFit p s (c ∷ xs)
-    → Moves p (c ∷ []) q (d ∷ []) → Reached p c xs s q d
-reached {p} {q} {c} {d} {xs} {s} fit m =
+pub moved : {p q : PoolView} {c d : ℕ} {xs : List ℕ} {s : SocksView} → SocksFit p s (c ∷ xs)
+    → Moves p (c ∷ []) q (d ∷ []) → Moved p c xs s q d
+moved {p} {q} {c} {d} {xs} {s} fit m =
     let o = fit.owned in
     let ys : List ℕ = queued_chains p s.queues in
     let all : SameAt p q (xs ++ ys) = same_beside (xs ++ ys) m (λ k. omega (arith, o k))
@@ -119,17 +122,18 @@ same_accounts {p} {q} {s} held c d a o m e =
     })
 
 pub delivered_input : {p q r : PoolView} {t u : Table} {bs cs : List SockBufView} {us vs ws : List Unfinished}
-    {xs ys zs : List ℕ} {c e : Counters} {chain d : ℕ} {h : IpHead} {to : List ℕ} {from : Addr}
+    {xs ys zs : List ℕ} {c e : Counters} {chain d : ℕ} {h : IpHead} {to : List ℕ} {from : Addr} {reached : Reached}
     → SocksFit p (record { pcbs = t; queues = bs }) (chain ∷ xs)
     → udp.IsForSockets p chain h t q to from d → Moves p (chain ∷ []) q (d ∷ []) → vs ≡ us → ys ≡ xs
-    → IsDelivered (net_view q (record { pcbs = t; queues = bs }) vs ys c) d to from
+    → IsDelivered (net_view q (record { pcbs = t; queues = bs }) vs ys c) d to from reached
     (net_view r (record { pcbs = u; queues = cs }) ws zs e)
-    → IsInput (net_view p (record { pcbs = t; queues = bs }) us xs c) chain h.src h.dst h.proto
+    → IsInput (net_view p (record { pcbs = t; queues = bs }) us xs c) chain h.src h.dst h.proto (Ok reached)
     (net_view r (record { pcbs = u; queues = cs }) ws zs e)
-delivered_input {p} {q} {r} {t} {u} {bs} {cs} {us} {vs} {ws} {xs} {ys} {zs} {c} {e} {chain} {d} {h} {to} {from} fit
+delivered_input {p} {q} {r} {t} {u} {bs} {cs} {us} {vs} {ws} {xs} {ys} {zs} {c} {e} {chain} {d} {h} {to} {from}
+    {reached} fit
     is m same_vs same_ys done =
     let s : SocksView = record { pcbs = t; queues = bs } in
-    let x = reached fit m in
+    let x = moved fit m in
     let heavy : weight_at q d ≡ weight_at p chain = kept_weight is in
     let now : (rest : State) → with_net q s vs c rest ≡ with_net p s us c rest =
     λ rest. shows_same p q t bs c rest x.shows same_vs in
@@ -147,15 +151,21 @@ delivered_input {p} {q} {r} {t} {u} {bs} {cs} {us} {vs} {ws} {xs} {ys} {zs} {c} 
       step = λ rest held a.
           let new : State = with_net r (record { pcbs = u; queues = cs }) ws e rest in
           let one = done.step rest held (accounts rest held a) in
-          let two = subst (λ (i : Item). Delivers exact_ledger held from i (sockets_named (queues_of q bs) t to)
+          let two = subst (λ (i : Item). DeliversAs exact_ledger (λ fd. told_one (done.lacks fd)) held from i
+          (sockets_named (queues_of q bs) t to)
           (with_net q s vs c rest) new) item one in
-          let three = subst (λ (l : List Socket). Delivers exact_ledger held from
+          let three = subst (λ (l : List Socket). DeliversAs exact_ledger (λ fd. told_one (done.lacks fd)) held from
           (record { bytes = udp_bytes (string (chain_of p chain)); weight = weight_at p chain }) l
           (with_net q s vs c rest) new) (named (queues_of q bs)) two in
-          subst (λ (old : State). WholeArrives exact_ledger held h.src h.dst h.proto (item_at p chain) old new)
+          let four = as_whole held from
+          (record { bytes = udp_bytes (string (chain_of p chain)); weight = weight_at p chain })
+          (map (socket_with (queues_of q bs)) is.matched.found) to done.lacks reached (with_net q s vs c rest) new
+          done.reached_is (is.matched.named ∙ sym (named_fds (queues_of q bs) is.matched.found)) three in
+          subst (λ (old : State). WholeArrivesAs exact_ledger (told_whole (Ok reached)) held h.src h.dst h.proto
+          (item_at p chain) old new)
           (now rest)
-          (delivered_arrives exact_ledger held p q chain d h t to from (weight_at p chain) is
-          (record rest { unfinished = vs; counters = c }) new (queues_of q bs) three);
+          (delivered_arrives exact_ledger (told_whole (Ok reached)) held p q chain d h t to from (weight_at p chain) is
+          (record rest { unfinished = vs; counters = c }) new (queues_of q bs) four);
       parts = record {
         accounts = λ rest held a. done.parts.accounts rest held (accounts rest held a);
         ready = done.parts.ready;
@@ -170,7 +180,7 @@ pub dropped_input : {p q : PoolView} {t : Table} {bs : List SockBufView} {us vs 
     {c e : Counters} {chain : ℕ} {h : IpHead} (why : Why)
     → SocksFit p (record { pcbs = t; queues = bs }) (chain ∷ xs)
     → udp.IsDropped p chain h t q why → (SameAt p q xs → vs ≡ us) → (SameAt p q xs → ys ≡ xs) → e ≡ counted why c
-    → IsInput (net_view p (record { pcbs = t; queues = bs }) us xs c) chain h.src h.dst h.proto
+    → IsInput (net_view p (record { pcbs = t; queues = bs }) us xs c) chain h.src h.dst h.proto (Err why)
     (net_view q (record { pcbs = t; queues = bs }) vs ys e)
 dropped_input {p} {q} {t} {bs} {us} {vs} {xs} {ys} {c} {e} {chain} {h} why fit is same_vs same_ys is_e =
     let s : SocksView = record { pcbs = t; queues = bs } in
@@ -179,10 +189,8 @@ dropped_input {p} {q} {t} {bs} {us} {vs} {xs} {ys} {c} {e} {chain} {h} why fit i
     λ rest. ends_here p q t bs c why rest gone.socks.shows (same_vs gone.same) is_e in
     record {
       step = λ rest held a.
-          subst (λ (new : State). WholeArrives exact_ledger held h.src h.dst h.proto (item_at p chain)
-          (with_net p s us c rest) new) (sym (now rest))
-          (dropped_arrives exact_ledger held p q chain h t why (weight_at p chain) is
-          (record rest { unfinished = us; counters = c }) (queues_of p bs));
+          dropped_arrives exact_ledger (told_whole (Err why)) held p q chain h t why (weight_at p chain) is
+          (record rest { unfinished = us; counters = c }) (with_net q s vs e rest) (queues_of p bs) (refl, now rest);
       parts = record {
         accounts = λ rest held a. subst (λ (x : State). IsAccounted q x held) (sym (now rest))
             (freed_accounts chain why a (λ k. omega (arith, fit.owned k)) is.freed);
@@ -195,20 +203,23 @@ dropped_input {p} {q} {t} {bs} {us} {vs} {xs} {ys} {c} {e} {chain} {h} why fit i
 
 -- the lookup leaves the table the same
 pub delivered_to : {p q r : PoolView} {t t' u : Table} {bs cs : List SockBufView} {us vs ws : List Unfinished}
-    {xs ys zs : List ℕ} {c e : Counters} {chain d : ℕ} {h : IpHead} {to fds : List ℕ} {from : Addr}
+    {xs ys zs : List ℕ} {c e : Counters} {chain d : ℕ} {h : IpHead} {to fds : List ℕ} {from : Addr} {reached : Reached}
     → SocksFit p (record { pcbs = t; queues = bs }) (chain ∷ xs)
     → udp.IsForSockets p chain h t q to from d → Moves p (chain ∷ []) q (d ∷ []) → vs ≡ us → ys ≡ xs → t' ≡ t
     → fds ≡ to
-    → IsDelivered (net_view q (record { pcbs = t'; queues = bs }) vs ys c) d fds from
+    → IsDelivered (net_view q (record { pcbs = t'; queues = bs }) vs ys c) d fds from reached
     (net_view r (record { pcbs = u; queues = cs }) ws zs e)
-    → IsInput (net_view p (record { pcbs = t; queues = bs }) us xs c) chain h.src h.dst h.proto
+    → IsInput (net_view p (record { pcbs = t; queues = bs }) us xs c) chain h.src h.dst h.proto (Ok reached)
     (net_view r (record { pcbs = u; queues = cs }) ws zs e)
-delivered_to {p} {q} {r} {t} {t'} {u} {bs} {cs} {us} {vs} {ws} {xs} {ys} {zs} {c} {e} {chain} {d} {h} {to} {fds} {from}
+delivered_to {p} {q} {r} {t} {t'} {u} {bs} {cs} {us} {vs} {ws} {xs} {ys} {zs} {c} {e} {chain} {d} {h} {to} {fds}
+    {from} {reached}
     fit is m same_vs same_ys same_t same_to done =
     let then = net_view r (record { pcbs = u; queues = cs }) ws zs e in
     delivered_input fit is m same_vs same_ys
-    (subst (λ (l : List ℕ). IsDelivered (net_view q (record { pcbs = t; queues = bs }) vs ys c) d l from then) same_to
-    (subst (λ (x : Table). IsDelivered (net_view q (record { pcbs = x; queues = bs }) vs ys c) d fds from then) same_t
+    (subst (λ (l : List ℕ). IsDelivered (net_view q (record { pcbs = t; queues = bs }) vs ys c) d l from reached
+    then) same_to
+    (subst (λ (x : Table). IsDelivered (net_view q (record { pcbs = x; queues = bs }) vs ys c) d fds from reached
+    then) same_t
     done))
 
 pub dropped_to : {p q : PoolView} {t t' : Table} {bs : List SockBufView} {us vs : List Unfinished} {xs ys : List ℕ}
@@ -216,9 +227,10 @@ pub dropped_to : {p q : PoolView} {t t' : Table} {bs : List SockBufView} {us vs 
     → SocksFit p (record { pcbs = t; queues = bs }) (chain ∷ xs)
     → udp.IsDropped p chain h t q why → (SameAt p q xs → vs ≡ us) → (SameAt p q xs → ys ≡ xs) → t' ≡ t
     → e ≡ counted why c
-    → IsInput (net_view p (record { pcbs = t; queues = bs }) us xs c) chain h.src h.dst h.proto
+    → IsInput (net_view p (record { pcbs = t; queues = bs }) us xs c) chain h.src h.dst h.proto (Err why)
     (net_view q (record { pcbs = t'; queues = bs }) vs ys e)
 dropped_to {p} {q} {t} {t'} {bs} {us} {vs} {xs} {ys} {c} {e} {chain} {h} why fit is same_vs same_ys same_t is_e =
     subst (λ (u : Table). IsInput (net_view p (record { pcbs = t; queues = bs }) us xs c) chain h.src h.dst h.proto
+    (Err why)
     (net_view q (record { pcbs = u; queues = bs }) vs ys e)) (sym same_t)
     (dropped_input why fit is same_vs same_ys is_e)

@@ -10,8 +10,8 @@ use Rattle.pcb_table.specs.declared.block.Block.{Block}
 use Rattle.pcb_table.specs.Table.{Table, Queues, block_at, machine, socket_with}
 use Rattle.pcb_table.proofs.Laws.{socket_found}
 use Rattle.sockbuf.specs.SockBuf.{SockBufView, IsSockBuf, datagrams, no_datagrams}
-use Rattle.sock_calls.specs.Questions.{name_or_fault, next_in, oldest_datagram, next_datagram, bytes_waiting, bytes_queued_at, memory_behind, memory_queued_at, socket_name, set_below, waits_in}
-use Rattle.sock_calls.specs.Inside.Asked.{name_of_block, waits_at}
+use Rattle.sock_calls.specs.Questions.{name_or_fault, next_in, oldest_datagram, next_datagram, bytes_waiting, bytes_queued_at, limit_of, memory_behind, memory_queued_at, receive_limit_at, socket_name, set_below, waits_in}
+use Rattle.sock_calls.specs.Inside.Asked.{limit_of_block, name_of_block, waits_at}
 use Rattle.sock_calls.specs.Sockets.{IsSocks, from_three, queue_at, queues_of}
 use Rattle.sock_calls.proofs.Frames.{at_default}
 use Rattle.sock_calls.proofs.Copies.{named_at}
@@ -25,6 +25,15 @@ pub block_named : (f : Queues) (t : Table) (fd : ℕ) (rest : State)
 block_named f t fd rest = go (block_at fd t) ∙ ap name_or_fault (sym (socket_found rest f t fd))
   where
     go : (o : Option Block) → name_of_block o ≡ name_or_fault (option_map (socket_with f) o)
+    go None = refl
+    go (Some b) = refl
+
+-- the size of its receive queue is that of its block
+pub block_limited : (f : Queues) (t : Table) (fd : ℕ) (rest : State)
+    → limit_of_block (block_at fd t) ≡ receive_limit_at fd (machine rest f t)
+block_limited f t fd rest = go (block_at fd t) ∙ ap limit_of (sym (socket_found rest f t fd))
+  where
+    go : (o : Option Block) → limit_of_block o ≡ limit_of (option_map (socket_with f) o)
     go None = refl
     go (Some b) = refl
 

@@ -3,7 +3,8 @@ use Rattle.std.proofs.Common.{◌≡◌, ℕ, zero, suc, ◌<◌, ◌≤◌, Boo
 use Rattle.std.specs.Prelude.{slice_index_or, unwrap_or, find, count_by, is_some, ◌==◌}
 use Rattle.std.specs.Option.{IsSome}
 use Rattle.std.proofs.Math.Seq.{take-length}
-use Rattle.std.proofs.lemmas.Bool.{eqb-true, false≢true}
+use Rattle.std.proofs.lemmas.Bool.{eq-eqb, eqb-true, false≢true}
+use Rattle.std.proofs.lemmas.List.{take-append-drop, take_all}
 use Rattle.std.proofs.lemmas.List.Sums.{sum_by-cons}
 use Rattle.std.proofs.lemmas.Option.{none-some}
 use Rattle.params.specs.declared.TheConstants.{MBUF_HEADER}
@@ -11,10 +12,13 @@ use Rattle.flat_model.specs.Amounts.Weight.{Weight, Item, nothing, ◌⊕◌, ti
 use Rattle.flat_model.specs.Machine.State.{State, Socket, Unfinished, ends}
 use Rattle.flat_model.specs.Machine.Count.{counted}
 use Rattle.flat_model.specs.Machine.Ledger.{weight_of_state, exact_ledger, HasBuffers, need_mbufs}
-use Rattle.flat_model.specs.Machine.Arrival.{Appends, Delivers}
+use Rattle.flat_model.specs.Machine.Arrival.{AppendsAs, DeliversAs}
+use Rattle.flat_model.specs.Machine.Fate.{mark, nobody, reached_by, told_one}
 use Rattle.flat_model.specs.declared.address.Addr.{Addr}
 use Rattle.flat_model.specs.declared.counters.Counters.{Counters}
+use Rattle.flat_model.specs.declared.counters.Why.{Why}
 use Rattle.flat_model.specs.declared.counters.Why.TheVariants.{NoBufs}
+use Rattle.flat_model.specs.declared.fate.Reached.{Reached}
 use Rattle.flat_model.proofs.Laws.{times-both}
 use Rattle.mbuf_chain.specs.Chain.{Entry, PoolView, ChainView, chain_of}
 use Rattle.mbuf_chain.specs.Owners.{times_among, IsOwned, Moves}
@@ -32,6 +36,7 @@ use Rattle.sock_calls.specs.Delivery.{NetView, net_view, net_state, queues_at, O
 use Rattle.sock_calls.specs.Inside.Delivering.{IsUnderWay}
 use Rattle.sock_calls.proofs.Frames.{Kept, kept, keeps_none, keeps_trans}
 use Rattle.sock_calls.proofs.Going.{bag_of_times}
+use Rattle.sock_calls.proofs.Reaching.{reached_more, reached_same}
 use Rattle.sock_calls.proofs.Delivered.{IsTested, tested, ends_here, shows_same, ends_accounted}
 
 -- ---- a copy of all is the same item
@@ -117,7 +122,7 @@ copy_gone p q c d ys zs bs cs o m =
 -- ---- the two outcomes of an offer
 lacking_offers : (held : Weight) (sender : Addr) (item : Item) (to : Socket) (old mid new : State) (n : ℕ)
     → n ≡ item.weight.mbufs → HasBuffers exact_ledger old (held ⊕ item.weight) (need_mbufs n) false mid
-    → new ≡ ends NoBufs mid → Offers held sender item to old new
+    → new ≡ ends NoBufs mid → Offers (Some NoBufs) held sender item to old new
 lacking_offers held sender item to old mid new n is a e =
     record {
       answer = false;
@@ -125,21 +130,24 @@ lacking_offers held sender item to old mid new n is a e =
       has_buffers = subst
           (λ (k : ℕ). HasBuffers exact_ledger old (held ⊕ item.weight) (need_mbufs k) false mid) is a;
       goes_on =
-          record { yes = λ t. absurd (false≢true t); no = λ _. e };
+          record { yes = λ t. absurd (false≢true t); no = λ _. (refl, e) };
     }
 
-appending_offers : (held : Weight) (sender : Addr) (item : Item) (to : Socket) (old mid new : State) (n : ℕ)
+appending_offers : (lack : Option Why) (held : Weight) (sender : Addr) (item : Item) (to : Socket)
+    (old mid new : State) (n : ℕ)
     → n ≡ item.weight.mbufs → HasBuffers exact_ledger old (held ⊕ item.weight) (need_mbufs n) true mid
     → (copy : Item) (at : Socket) (now : State) → copy ≡ item → at ≡ to → now ≡ mid
-    → Appends exact_ledger (held ⊕ item.weight) sender copy at now new → Offers held sender item to old new
-appending_offers held sender item to old mid new n is a copy at now ec es em ap = record {
+    → AppendsAs exact_ledger (told_one lack) (held ⊕ item.weight) sender copy at now new
+    → Offers lack held sender item to old new
+appending_offers lack held sender item to old mid new n is a copy at now ec es em ap = record {
   answer = true;
   mid = mid;
   has_buffers = subst (λ (k : ℕ). HasBuffers exact_ledger old (held ⊕ item.weight) (need_mbufs k) true mid) is a;
   goes_on = record {
-    yes = λ _. subst (λ (s : State). Appends exact_ledger (held ⊕ item.weight) sender item to s new) em
-        (subst (λ (x : Socket). Appends exact_ledger (held ⊕ item.weight) sender item x now new) es
-        (subst (λ (x : Item). Appends exact_ledger (held ⊕ item.weight) sender x at now new) ec ap));
+    yes = λ _. subst (λ (s : State). AppendsAs exact_ledger (told_one lack) (held ⊕ item.weight) sender item to s
+        new) em
+        (subst (λ (x : Socket). AppendsAs exact_ledger (told_one lack) (held ⊕ item.weight) sender item x now new) es
+        (subst (λ (x : Item). AppendsAs exact_ledger (told_one lack) (held ⊕ item.weight) sender x at now new) ec ap));
     no = λ t. absurd (false≢true (sym t));
   };
 }
@@ -150,7 +158,7 @@ appending_offers held sender item to old mid new n is a copy at now ec es em ap 
 pub lacking_offer : {p q : PoolView} {t : Table} {bs : List SockBufView} {us vs : List Unfinished} {xs ys : List ℕ}
     {c d e : Counters} {chain n : ℕ} (fd : ℕ) (sender : Addr)
     → IsTested p t bs us xs c chain n false q vs ys d → n ≡ (weight_at p chain).mbufs → e ≡ counted NoBufs d
-    → IsOffered (net_view p (record { pcbs = t; queues = bs }) us xs c) chain fd sender
+    → IsOffered (net_view p (record { pcbs = t; queues = bs }) us xs c) chain fd sender (Some NoBufs)
     (net_view q (record { pcbs = t; queues = bs }) vs ys e)
 lacking_offer {p} {q} {t} {bs} {us} {vs} {xs} {ys} {c} {d} {e} {chain} {n} fd sender i is_n is_e =
     let s : SocksView = record { pcbs = t; queues = bs } in
@@ -192,14 +200,15 @@ copy_ready fit moves m =
 
 -- the copy was made and delivered
 pub copy_offer : {p q r z : PoolView} {t u : Table} {bs cs : List SockBufView} {us vs ws ks : List Unfinished}
-    {xs ys ms zs : List ℕ} {c d e : Counters} {chain n : ℕ} (fd copy : ℕ) (sender : Addr)
+    {xs ys ms zs : List ℕ} {c d e : Counters} {chain n : ℕ} {lack : Option Why} (fd copy : ℕ) (sender : Addr)
     → IsTested p t bs us xs c chain n true q vs ys d → n ≡ (weight_at p chain).mbufs → Moves q [] r (copy ∷ [])
     → item_at r copy ≡ item_at q chain → ws ≡ vs → ms ≡ ys
-    → IsAppended (net_view r (record { pcbs = t; queues = bs }) ws ms d) copy fd sender
+    → IsAppended (net_view r (record { pcbs = t; queues = bs }) ws ms d) copy fd sender lack
     (net_view z (record { pcbs = u; queues = cs }) ks zs e)
-    → IsOffered (net_view p (record { pcbs = t; queues = bs }) us xs c) chain fd sender
+    → IsOffered (net_view p (record { pcbs = t; queues = bs }) us xs c) chain fd sender lack
     (net_view z (record { pcbs = u; queues = cs }) ks zs e)
-copy_offer {p} {q} {r} {z} {t} {u} {bs} {cs} {us} {vs} {ws} {ks} {xs} {ys} {ms} {zs} {c} {d} {e} {chain} {n} fd copy
+copy_offer {p} {q} {r} {z} {t} {u} {bs} {cs} {us} {vs} {ws} {ks} {xs} {ys} {ms} {zs} {c} {d} {e} {chain} {n} {lack}
+    fd copy
     sender i is_n m is_copy same_ws same_ms done =
     let s : SocksView = record { pcbs = t; queues = bs } in
     let x = tested i.fit i.moves in
@@ -214,7 +223,7 @@ copy_offer {p} {q} {r} {z} {t} {u} {bs} {cs} {us} {vs} {ws} {ks} {xs} {ys} {ms} 
           let a1 = i.reserves (with_net p s us c rest) (held ⊕ weight_at p chain) refl refl a in
           let a2 = subst (λ (m : State). IsAccounted r m ((held ⊕ weight_at p chain) ⊕ weight_at r copy))
           (sym (now rest)) (copy_accounts copy a1.accounted m) in
-          appending_offers held sender (item_at p chain) (socket_with (queues_of p bs) b) (with_net p s us c rest)
+          appending_offers lack held sender (item_at p chain) (socket_with (queues_of p bs) b) (with_net p s us c rest)
           (with_net p s vs d rest) (with_net z (record { pcbs = u; queues = cs }) ks e rest) n is_n a1.has_buffers
           (item_at r copy) (socket_with (queues_of r bs) b) (with_net r s ws d rest)
           (is_copy ∙ ap (λ (v : ChainView). item_of v.entries) x.chain)
@@ -246,6 +255,11 @@ drop_more : (xs : List ℕ) (i d : ℕ) → i < length xs → drop i xs ≡ slic
 drop_more [] i d h = absurd (omega arith)
 drop_more (x ∷ xs) zero d h = refl
 drop_more (x ∷ xs) (suc i) d h = drop_more xs i d (omega arith)
+
+take_more : (xs : List ℕ) (i d : ℕ) → i < length xs → take (suc i) xs ≡ take i xs ++ slice_index_or xs i d ∷ []
+take_more [] i d h = absurd (omega arith)
+take_more (x ∷ xs) zero d h = refl
+take_more (x ∷ xs) (suc i) d h = ap (λ (l : List ℕ). x ∷ l) (take_more xs i d (omega arith))
 
 times_drop : (k : ℕ) (xs : List ℕ) (i : ℕ) → times_among k (drop i xs) ≤ times_among k xs
 times_drop k xs zero = omega arith
@@ -304,32 +318,39 @@ descriptor_of t fd apart is_open =
         )
 
 -- one more receiver before the others
-more_delivers : (held : Weight) (sender : Addr) (item : Item) (f : Queues) (t : Table) (fd : ℕ) (later : List ℕ)
-    (old after new : State) → 0 < length later
-    → Offers held sender item (socket_named f t fd) old after
-    → Delivers exact_ledger held sender item (sockets_named f t later) after new
-    → Delivers exact_ledger held sender item (sockets_named f t (fd ∷ later)) old new
-more_delivers held sender item f t fd [] old after new some first rest = absurd (omega (arith, some))
-more_delivers held sender item f t fd (next ∷ more) old after new some first rest = (after, first, rest)
+more_delivers : (lacks : ℕ → Option Why) (held : Weight) (sender : Addr) (item : Item) (f : Queues) (t : Table) (fd : ℕ)
+    (later : List ℕ) (old after new : State) → 0 < length later → (socket_named f t fd).fd ≡ fd
+    → Offers (lacks fd) held sender item (socket_named f t fd) old after
+    → DeliversAs exact_ledger (λ k. told_one (lacks k)) held sender item (sockets_named f t later) after new
+    → DeliversAs exact_ledger (λ k. told_one (lacks k)) held sender item (sockets_named f t (fd ∷ later)) old new
+more_delivers lacks held sender item f t fd [] old after new some named first rest = absurd (omega (arith, some))
+more_delivers lacks held sender item f t fd (next ∷ more) old after new some named first rest = (
+  after,
+  subst (λ (k : ℕ). Offers (lacks k) held sender item (socket_named f t fd) old after) (sym named) first,
+  rest,
+)
 
 open_block : (o : Option Block) → IsSome o → (b : Block) × (o ≡ Some b)
 open_block None h = absurd (false≢true h)
 open_block (Some b) h = (b, refl)
 
 module _ (v : NetView) (c : ℕ) (fds : List ℕ) (sender : Addr) where
-  pub starts : IsSocks v.pool v.socks → IsUnderWay v c fds sender 0 v
-  starts ready = record {
-    goes = λ rest held new b d. d;
+  pub starts : (reached : Reached) → reached ≡ nobody → IsSocks v.pool v.socks → IsUnderWay v c fds sender 0 reached v
+  starts reached none ready = record {
+    lacks = λ fd. None;
+    reached_is = none;
+    goes = λ all same rest held new b d. d;
     untouched = λ k h. refl;
     chain = refl;
     parts = keeps_none ready;
   }
 
   -- the queue of the next receiver hasn't changed since the start
-  next_socket : (i fd : ℕ) (u : NetView) → IsUnderWay v c fds sender i u → drop i fds ≡ fd ∷ drop (suc i) fds
+  next_socket : (i fd : ℕ) (reached : Reached) (u : NetView) → IsUnderWay v c fds sender i reached u → drop i fds ≡
+      fd ∷ drop (suc i) fds
       → (b : Block) → block_at fd u.socks.pcbs ≡ Some b
       → socket_with (queues_at u) b ≡ socket_named (queues_at v) v.socks.pcbs fd
-  next_socket i fd u w e b is =
+  next_socket i fd reached u w e b is =
       let named : b.fd ≡ fd = find_named fd u.socks.pcbs.blocks b is in
       let same : queues_at u b.fd ≡ queues_at v b.fd =
       subst (λ (k : ℕ). queues_at u k ≡ queues_at v k) (sym named)
@@ -340,27 +361,79 @@ module _ (v : NetView) (c : ℕ) (fds : List ℕ) (sender : Addr) where
   next_is : (i fd : ℕ) → i < length fds → fd ≡ slice_index_or fds i 0 → drop i fds ≡ fd ∷ drop (suc i) fds
   next_is i fd h is = drop_more fds i 0 h ∙ ap (λ (k : ℕ). k ∷ drop (suc i) fds) (sym is)
 
-  pub offered_one : (i j fd : ℕ) (u x : NetView) → IsUnderWay v c fds sender i u → IsOffered u c fd sender x
+  -- the first i receivers and the next one
+  up_to : (i fd : ℕ) → i < length fds → fd ≡ slice_index_or fds i 0 → take (suc i) fds ≡ take i fds ++ fd ∷ []
+  up_to i fd within is = take_more fds i 0 within ∙ ap (λ (n : ℕ). take i fds ++ n ∷ []) (sym is)
+
+  -- no receiver occurs twice
+  before : (i fd : ℕ) → i < length fds → fd ≡ slice_index_or fds i 0 → ((k : ℕ) → bag_times k fds ≤ 1) → (k : ℕ)
+      → 0 < times_among k (take i fds) → (k == fd) ≡ false
+  before i fd within is once k some = go (k == fd) refl
+    where
+      twice : k ≡ fd → ⊥
+      twice e = omega (
+        arith,
+        once fd,
+        bag_of_times fd fds,
+        ap (times_among fd) (take-append-drop i fds),
+        times-append fd (take i fds) (drop i fds),
+        ap (times_among fd) (next_is i fd within is),
+        times_same fd (drop (suc i) fds),
+        subst (λ (j : ℕ). 0 < times_among j (take i fds)) e some,
+      )
+
+      go : (b : Bool) → (k == fd) ≡ b → (k == fd) ≡ false
+      go false e = e
+      go true e = absurd (twice (eqb-true k fd e))
+
+  pub offered_one : (i j fd : ℕ) (lack : Option Why) (reached then : Reached) (u x : NetView)
+      → IsUnderWay v c fds sender i reached u → IsOffered u c fd sender lack x
       → suc i < length fds → suc i ≡ j → fd ≡ slice_index_or fds i 0 → ((k : ℕ) → bag_times k fds ≤ 1)
-      → IsSome (block_at fd u.socks.pcbs) → IsUnderWay v c fds sender j x
-  offered_one i j fd u x w o more is_j is once is_open =
-      let d : drop i fds ≡ fd ∷ drop (suc i) fds = next_is i fd (omega (arith, more)) is in
+      → IsSome (block_at fd u.socks.pcbs) → then ≡ mark lack fd reached → IsUnderWay v c fds sender j then x
+  offered_one i j fd lack reached then u x w o more is_j is once is_open is_then =
+      let within : i < length fds = omega (arith, more) in
+      let d : drop i fds ≡ fd ∷ drop (suc i) fds = next_is i fd within is in
       let found = open_block (block_at fd u.socks.pcbs) is_open in
       let to : socket_with (queues_at u) found.0 ≡ socket_named (queues_at v) v.socks.pcbs fd =
-      next_socket i fd u w d found.0 found.1 in
-      subst (λ (k : ℕ). IsUnderWay v c fds sender k x) is_j (record {
-        goes = λ rest held new a later.
+      next_socket i fd reached u w d found.0 found.1 in
+      let named : (socket_named (queues_at v) v.socks.pcbs fd).fd ≡ fd =
+      ap (λ (s : Socket). s.fd) (sym to) ∙ find_named fd u.socks.pcbs.blocks found.0 found.1 in
+      let lacks : ℕ → Option Why = λ k. cond (k == fd) lack (w.lacks k) in
+      let old : (k : ℕ) → 0 < times_among k (take i fds) → lacks k ≡ w.lacks k =
+      λ k some. ap (λ (b : Bool). cond b lack (w.lacks k)) (before i fd within is once k some) in
+      let own : lacks fd ≡ lack = ap (λ (b : Bool). cond b lack (w.lacks fd)) (eq-eqb fd fd refl) in
+      subst (λ (k : ℕ). IsUnderWay v c fds sender k then x) is_j (record {
+        lacks = lacks;
+        reached_is = is_then ∙ ap (mark lack fd) (w.reached_is ∙ sym (reached_same w.lacks lacks (take i fds) old))
+            ∙ ap (λ (l : Option Why). mark l fd (reached_by lacks (take i fds))) (sym own)
+            ∙ sym (reached_more lacks (take i fds) (take (suc i) fds) fd (up_to i fd within is));
+        goes = λ all same rest held new a later.
             let step = o.step rest held found.0 found.1 (w.parts.accounts rest held a) in
-            let offers : Offers held sender (item_at v.pool c) (socket_named (queues_at v) v.socks.pcbs fd)
+            let now : all fd ≡ lack = same fd (omega (
+              arith,
+              ap (times_among fd) (up_to i fd within is),
+              times-append fd (take i fds) (fd ∷ []),
+              times_same fd [],
+            )) ∙ own in
+            let earlier : (k : ℕ) → 0 < times_among k (take i fds) → all k ≡ w.lacks k = λ k some. same k (omega (
+              arith,
+              some,
+              ap (times_among k) (up_to i fd within is),
+              times-append k (take i fds) (fd ∷ []),
+            )) ∙ old k some in
+            let offers : Offers (all fd) held sender (item_at v.pool c) (socket_named (queues_at v) v.socks.pcbs fd)
             (net_state u rest) (net_state x rest) =
-            subst (λ (a : Socket). Offers held sender (item_at v.pool c) a (net_state u rest) (net_state x rest)) to
-            (subst (λ (ch : ChainView). Offers held sender (item_of ch.entries) (socket_with (queues_at u) found.0)
-            (net_state u rest) (net_state x rest)) w.chain step) in
-            w.goes rest held new a
-            (subst (λ (l : List ℕ). Delivers exact_ledger held sender (item_at v.pool c)
+            subst (λ (l : Option Why). Offers l held sender (item_at v.pool c)
+            (socket_named (queues_at v) v.socks.pcbs fd) (net_state u rest) (net_state x rest)) (sym now)
+            (subst (λ (a : Socket). Offers lack held sender (item_at v.pool c) a (net_state u rest) (net_state x rest))
+            to
+            (subst (λ (ch : ChainView). Offers lack held sender (item_of ch.entries)
+            (socket_with (queues_at u) found.0) (net_state u rest) (net_state x rest)) w.chain step)) in
+            w.goes all earlier rest held new a
+            (subst (λ (l : List ℕ). DeliversAs exact_ledger (λ k. told_one (all k)) held sender (item_at v.pool c)
             (sockets_named (queues_at v) v.socks.pcbs l) (net_state u rest) new) (sym d)
-            (more_delivers held sender (item_at v.pool c) (queues_at v) v.socks.pcbs fd (drop (suc i) fds)
-            (net_state u rest) (net_state x rest) new (drop_length fds (suc i) more) offers later));
+            (more_delivers all held sender (item_at v.pool c) (queues_at v) v.socks.pcbs fd (drop (suc i) fds)
+            (net_state u rest) (net_state x rest) new (drop_length fds (suc i) more) named offers later));
         untouched = λ k h. o.others k (λ e. apart k d h e) ∙ w.untouched k (omega (arith, h, ap (times_among k) d));
         chain = o.chain ∙ w.chain;
         parts = keeps_trans w.parts o.parts;
@@ -380,24 +453,40 @@ module _ (v : NetView) (c : ℕ) (fds : List ℕ) (sender : Addr) where
             some,
           )
 
-  pub delivered_all : (i fd : ℕ) (u x : NetView) → IsUnderWay v c fds sender i u → IsAppended u c fd sender x
-      → suc i ≡ length fds → fd ≡ slice_index_or fds i 0 → IsSome (block_at fd u.socks.pcbs)
-      → IsDelivered v c fds sender x
-  delivered_all i fd u x w o end is is_open =
-      let d : drop i fds ≡ fd ∷ drop (suc i) fds = next_is i fd (omega (arith, end)) is in
+  pub delivered_all : (i fd : ℕ) (lack : Option Why) (reached then : Reached) (u x : NetView)
+      → IsUnderWay v c fds sender i reached u → IsAppended u c fd sender lack x
+      → suc i ≡ length fds → fd ≡ slice_index_or fds i 0 → ((k : ℕ) → bag_times k fds ≤ 1)
+      → IsSome (block_at fd u.socks.pcbs) → then ≡ mark lack fd reached → IsDelivered v c fds sender then x
+  delivered_all i fd lack reached then u x w o end is once is_open is_then =
+      let within : i < length fds = omega (arith, end) in
+      let d : drop i fds ≡ fd ∷ drop (suc i) fds = next_is i fd within is in
       let one : drop i fds ≡ fd ∷ [] = d ∙ ap (λ (l : List ℕ). fd ∷ l) (drop_end fds (suc i) end) in
       let found = open_block (block_at fd u.socks.pcbs) is_open in
       let to : socket_with (queues_at u) found.0 ≡ socket_named (queues_at v) v.socks.pcbs fd =
-      next_socket i fd u w d found.0 found.1 in
+      next_socket i fd reached u w d found.0 found.1 in
+      let named : (socket_named (queues_at v) v.socks.pcbs fd).fd ≡ fd =
+      ap (λ (s : Socket). s.fd) (sym to) ∙ find_named fd u.socks.pcbs.blocks found.0 found.1 in
+      let lacks : ℕ → Option Why = λ k. cond (k == fd) lack (w.lacks k) in
+      let old : (k : ℕ) → 0 < times_among k (take i fds) → lacks k ≡ w.lacks k =
+      λ k some. ap (λ (b : Bool). cond b lack (w.lacks k)) (before i fd within is once k some) in
+      let own : lacks fd ≡ lack = ap (λ (b : Bool). cond b lack (w.lacks fd)) (eq-eqb fd fd refl) in
       record {
+        lacks = lacks;
+        reached_is = is_then ∙ ap (mark lack fd) (w.reached_is ∙ sym (reached_same w.lacks lacks (take i fds) old))
+            ∙ ap (λ (l : Option Why). mark l fd (reached_by lacks (take i fds))) (sym own)
+            ∙ sym (reached_more lacks (take i fds) (take (suc i) fds) fd (up_to i fd within is))
+            ∙ ap (λ (l : List ℕ). reached_by lacks l) (take_all (suc i) fds (omega (arith, end)));
         step = λ rest held a.
             let step = o.step rest held found.0 found.1 (w.parts.accounts rest held a) in
-            w.goes rest held (net_state x rest) a
-            (subst (λ (l : List ℕ). Delivers exact_ledger held sender (item_at v.pool c)
+            w.goes lacks old rest held (net_state x rest) a
+            (subst (λ (l : List ℕ). DeliversAs exact_ledger (λ k. told_one (lacks k)) held sender (item_at v.pool c)
             (sockets_named (queues_at v) v.socks.pcbs l) (net_state u rest) (net_state x rest)) (sym one)
-            (subst (λ (a : Socket). Appends exact_ledger held sender (item_at v.pool c) a (net_state u rest)
-            (net_state x rest)) to
-            (subst (λ (ch : ChainView). Appends exact_ledger held sender (item_of ch.entries)
-            (socket_with (queues_at u) found.0) (net_state u rest) (net_state x rest)) w.chain step)));
+            (subst (λ (l : Option Why). AppendsAs exact_ledger (told_one l) held sender (item_at v.pool c)
+            (socket_named (queues_at v) v.socks.pcbs fd) (net_state u rest) (net_state x rest))
+            (sym (ap lacks named ∙ own))
+            (subst (λ (a : Socket). AppendsAs exact_ledger (told_one lack) held sender (item_at v.pool c) a
+            (net_state u rest) (net_state x rest)) to
+            (subst (λ (ch : ChainView). AppendsAs exact_ledger (told_one lack) held sender (item_of ch.entries)
+            (socket_with (queues_at u) found.0) (net_state u rest) (net_state x rest)) w.chain step))));
         parts = keeps_trans w.parts o.parts;
       }

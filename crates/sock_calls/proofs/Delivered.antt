@@ -1,13 +1,15 @@
 -- A delivery to one receiver: its three outcomes, and the accounts after each.
-use Rattle.std.proofs.Common.{◌≡◌, ℕ, ◌+◌, Bool, true, false, List, [], ◌∷◌, ◌++◌, length, Some, is_some, refl, sym, ap, ◌∙◌, subst, arith}
+use Rattle.std.proofs.Common.{◌≡◌, ℕ, ◌+◌, Bool, true, false, List, [], ◌∷◌, ◌++◌, length, Option, Some, None, option_map, is_some, refl, sym, ap, ◌∙◌, subst, arith}
 use Rattle.std.proofs.lemmas.Bool.{false≢true}
+use Rattle.std.proofs.lemmas.Option.{same_Some}
 use Rattle.flat_model.specs.Amounts.Weight.{Weight, Item, mbuf, nothing, ◌⊕◌, all_of, times as bag_times}
 use Rattle.flat_model.specs.Fragments.Whole.{weight_of_pieces}
 use Rattle.flat_model.specs.Machine.State.{State, Socket, Unfinished, ends, change_socket}
 use Rattle.flat_model.specs.Machine.Count.{counted}
 use Rattle.flat_model.specs.Machine.Ledger.{weight_of_state, exact_ledger, HasBuffers, need_mbufs}
-use Rattle.flat_model.specs.Machine.Arrival.{Appends, with_datagram}
-use Rattle.flat_model.specs.Sockets.Fits.{fits}
+use Rattle.flat_model.specs.Machine.Arrival.{AppendsAs, with_datagram}
+use Rattle.flat_model.specs.Machine.Fate.{told_one}
+use Rattle.flat_model.specs.Sockets.Fits.{fits, memory_of}
 use Rattle.flat_model.specs.declared.address.Addr.{Addr}
 use Rattle.flat_model.specs.declared.counters.Counters.{Counters}
 use Rattle.flat_model.specs.declared.counters.Why.{Why}
@@ -124,14 +126,17 @@ ends_here p q t bs {us} {vs} c {d} why rest shows same is =
     shows_same p q t bs d rest shows same ∙ (λ i. with_net p (record { pcbs = t; queues = bs }) us (is i) rest)
 
 -- ---- the three outcomes, as in the machine
-module _ (held : Weight) (sender : Addr) (item : Item) (to : Socket) (old mid new : State) where
-  full_appends : fits to.queue (length item.bytes) ≡ false → new ≡ ends UdpFullSocket old
-      → Appends exact_ledger held sender item to old new
+module _ (Says : Option Why → State → State → Type 0) (held : Weight) (sender : Addr) (item : Item) (to : Socket)
+    (old mid new : State) where
+  full_appends : fits to.limit to.queue (length item.bytes) (memory_of item.weight) ≡ false
+      → Says (Some UdpFullSocket) new (ends UdpFullSocket old)
+      → AppendsAs exact_ledger Says held sender item to old new
   full_appends f e = record { yes = λ t. absurd (false≢true (sym f ∙ t)); no = λ _. e }
 
-  lacking_appends : fits to.queue (length item.bytes) ≡ true
-      → HasBuffers exact_ledger old (held ⊕ item.weight) (need_mbufs 1) false mid → new ≡ ends NoBufs mid
-      → Appends exact_ledger held sender item to old new
+  lacking_appends : fits to.limit to.queue (length item.bytes) (memory_of item.weight) ≡ true
+      → HasBuffers exact_ledger old (held ⊕ item.weight) (need_mbufs 1) false mid → Says (Some NoBufs) new
+      (ends NoBufs mid)
+      → AppendsAs exact_ledger Says held sender item to old new
   lacking_appends f a e = record {
     yes = λ _. record {
       answer = false;
@@ -142,11 +147,11 @@ module _ (held : Weight) (sender : Addr) (item : Item) (to : Socket) (old mid ne
     no = λ t. absurd (false≢true (sym t ∙ f));
   }
 
-  fitting_appends : fits to.queue (length item.bytes) ≡ true
+  fitting_appends : fits to.limit to.queue (length item.bytes) (memory_of item.weight) ≡ true
       → HasBuffers exact_ledger old (held ⊕ item.weight) (need_mbufs 1) true mid
-      → new ≡ change_socket to.fd
-      (with_datagram (record { sender = sender; item = record item { weight = mbuf ⊕ item.weight } })) mid
-      → Appends exact_ledger held sender item to old new
+      → Says None new (change_socket to.fd
+      (with_datagram (record { sender = sender; item = record item { weight = mbuf ⊕ item.weight } })) mid)
+      → AppendsAs exact_ledger Says held sender item to old new
   fitting_appends f a e = record {
     yes = λ _. record {
       answer = true;
@@ -244,32 +249,50 @@ joined p q c xs bs cs o m = record {
 abbrev Named : ℕ → Table → Type 0
 Named fd t = (b : Block) → block_at fd t ≡ Some b → b.fd ≡ fd
 
+-- the queue of the descriptor has this limit
+abbrev pub HasLimit : ℕ → Table → ℕ → Type 0
+HasLimit fd t limit = (b : Block) → block_at fd t ≡ Some b → b.receive_limit ≡ limit
+
+pub limit_at : (t : Table) (fd limit : ℕ)
+    → option_map (λ (b : Block). b.receive_limit) (block_at fd t) ≡ Some limit → HasLimit fd t limit
+limit_at t fd limit h = λ b e.
+    same_Some b.receive_limit limit (sym (ap (option_map (λ (x : Block). x.receive_limit)) e) ∙ h)
+
 -- if the queue is full, the chain is freed and counted
-pub record IsFull (p : PoolView) (t : Table) (bs : List SockBufView) (us : List Unfinished) (xs : List ℕ) (c : Counters)
+pub record IsFull (limit : ℕ) (p : PoolView) (t : Table) (bs : List SockBufView) (us : List Unfinished) (xs : List ℕ)
+    (c : Counters)
     (chain fd : ℕ) (q : PoolView) (vs : List Unfinished) (ys : List ℕ) (d : Counters) : Type 0 where
   pub fit : SocksFit p (record { pcbs = t; queues = bs }) (chain ∷ xs)
   pub named : Named fd t
-  pub full : fits (queues_of p bs fd) (length (string (chain_of p chain))) ≡ false
+  pub limited : HasLimit fd t limit
+  pub full : fits limit (queues_of p bs fd) (length (string (chain_of p chain)))
+      (memory_of (weight_at p chain)) ≡ false
   pub freed : q ≡ without p chain
   pub unfinished : SameAt p q xs → vs ≡ us
   pub waiting : SameAt p q xs → ys ≡ xs
   pub counters : d ≡ counted UdpFullSocket c
 
 pub full_end : {p q : PoolView} {t : Table} {bs : List SockBufView} {us vs : List Unfinished} {xs ys : List ℕ}
-    {c d : Counters} {chain fd : ℕ} (sender : Addr) → IsFull p t bs us xs c chain fd q vs ys d
-    → IsAppended (net_view p (record { pcbs = t; queues = bs }) us xs c) chain fd sender
+    {c d : Counters} {chain fd limit : ℕ} (sender : Addr) → IsFull limit p t bs us xs c chain fd q vs ys d
+    → IsAppended (net_view p (record { pcbs = t; queues = bs }) us xs c) chain fd sender (Some UdpFullSocket)
     (net_view q (record { pcbs = t; queues = bs }) vs ys d)
-full_end {p} {q} {t} {bs} {us} {vs} {xs} {ys} {c} {d} {chain} {fd} sender f =
+full_end {p} {q} {t} {bs} {us} {vs} {xs} {ys} {c} {d} {chain} {fd} {limit} sender f =
     let s : SocksView = record { pcbs = t; queues = bs } in
     let gone = freed f.fit f.freed in
     let now : (rest : State) → with_net q s vs d rest ≡ ends UdpFullSocket (with_net p s us c rest) =
     λ rest. ends_here p q t bs c UdpFullSocket rest gone.socks.shows (f.unfinished gone.same) f.counters in
     record {
       step = λ rest held b e a.
-          full_appends held sender (item_at p chain) (socket_with (queues_of p bs) b) (with_net p s us c rest)
+          full_appends (told_one (Some UdpFullSocket)) held sender (item_at p chain)
+          (socket_with (queues_of p bs) b) (with_net p s us c rest)
           (with_net p s us c rest) (with_net q s vs d rest)
-          (ap (λ (k : ℕ). fits (queues_of p bs k) (length (string (chain_of p chain)))) (f.named b e) ∙ f.full)
-          (now rest);
+          (ap (λ (n : ℕ). fits n (queues_of p bs b.fd) (length (string (chain_of p chain)))
+          (memory_of (weight_at p chain)))
+          (f.limited b e)
+          ∙ ap (λ (k : ℕ). fits limit (queues_of p bs k) (length (string (chain_of p chain)))
+          (memory_of (weight_at p chain)))
+          (f.named b e) ∙ f.full)
+          (refl, now rest);
       others = λ k ne. gone.socks.shows k;
       parts = record {
         accounts = λ rest held a. subst (λ (x : State). IsAccounted q x held) (sym (now rest))
@@ -292,14 +315,16 @@ pub record IsTested (p : PoolView) (t : Table) (bs : List SockBufView) (us : Lis
 
 -- if the pool lacks an mbuf, the chain is freed and counted
 pub lacking_end : {p q r : PoolView} {t : Table} {bs : List SockBufView} {us vs ws : List Unfinished}
-    {xs ys zs : List ℕ} {c d e : Counters} {chain fd : ℕ} (sender : Addr)
-    → IsTested p t bs us xs c chain 1 false q vs ys d → Named fd t
-    → fits (queues_of p bs fd) (length (string (chain_of p chain))) ≡ true
+    {xs ys zs : List ℕ} {c d e : Counters} {chain fd limit : ℕ} (sender : Addr)
+    → IsTested p t bs us xs c chain 1 false q vs ys d → Named fd t → HasLimit fd t limit
+    → fits limit (queues_of p bs fd) (length (string (chain_of p chain)))
+    (memory_of (weight_at p chain)) ≡ true
     → r ≡ without q chain → (SameAt q r ys → ws ≡ vs) → (SameAt q r ys → zs ≡ ys) → e ≡ counted NoBufs d
-    → IsAppended (net_view p (record { pcbs = t; queues = bs }) us xs c) chain fd sender
+    → IsAppended (net_view p (record { pcbs = t; queues = bs }) us xs c) chain fd sender (Some NoBufs)
     (net_view r (record { pcbs = t; queues = bs }) ws zs e)
-lacking_end {p} {q} {r} {t} {bs} {us} {vs} {ws} {xs} {ys} {zs} {c} {d} {e} {chain} {fd} sender i named room is_r same_ws
-    same_zs is_e =
+lacking_end {p} {q} {r} {t} {bs} {us} {vs} {ws} {xs} {ys} {zs} {c} {d} {e} {chain} {fd} {limit}
+    sender i named limited room
+    is_r same_ws same_zs is_e =
     let s : SocksView = record { pcbs = t; queues = bs } in
     let x = tested i.fit i.moves in
     let gone = freed x.fit is_r in
@@ -307,10 +332,16 @@ lacking_end {p} {q} {r} {t} {bs} {us} {vs} {ws} {xs} {ys} {zs} {c} {d} {e} {chai
     λ rest. ends_here p r t bs d NoBufs rest (λ k. gone.socks.shows k ∙ x.shows k) (same_ws gone.same) is_e in
     record {
       step = λ rest held b at a.
-          lacking_appends held sender (item_at p chain) (socket_with (queues_of p bs) b) (with_net p s us c rest)
+          lacking_appends (told_one (Some NoBufs)) held sender (item_at p chain) (socket_with (queues_of p bs) b)
+          (with_net p s us c rest)
           (with_net p s vs d rest) (with_net r s ws e rest)
-          (ap (λ (k : ℕ). fits (queues_of p bs k) (length (string (chain_of p chain)))) (named b at) ∙ room)
-          (i.reserves (with_net p s us c rest) (held ⊕ weight_at p chain) refl refl a).has_buffers (now rest);
+          (ap (λ (n : ℕ). fits n (queues_of p bs b.fd) (length (string (chain_of p chain)))
+          (memory_of (weight_at p chain)))
+          (limited b at)
+          ∙ ap (λ (k : ℕ). fits limit (queues_of p bs k) (length (string (chain_of p chain)))
+          (memory_of (weight_at p chain)))
+          (named b at) ∙ room)
+          (i.reserves (with_net p s us c rest) (held ⊕ weight_at p chain) refl refl a).has_buffers (refl, now rest);
       others = λ k ne. gone.socks.shows k ∙ x.shows k;
       parts = record {
         accounts = λ rest held a.
@@ -329,15 +360,17 @@ lacking_end {p} {q} {r} {t} {bs} {us} {vs} {ws} {xs} {ys} {zs} {c} {d} {e} {chai
 
 -- the datagram is in the queue
 pub fitting_end : {p q r : PoolView} {t : Table} {bs cs : List SockBufView} {us vs ws : List Unfinished}
-    {xs ys zs : List ℕ} {c d : Counters} {chain fd : ℕ} (sender : Addr)
-    → IsTested p t bs us xs c chain 1 true q vs ys d → Named fd t → IsOpen fd t
-    → fits (queues_of p bs fd) (length (string (chain_of p chain))) ≡ true
+    {xs ys zs : List ℕ} {c d : Counters} {chain fd limit : ℕ} (sender : Addr)
+    → IsTested p t bs us xs c chain 1 true q vs ys d → Named fd t → HasLimit fd t limit → IsOpen fd t
+    → fits limit (queues_of p bs fd) (length (string (chain_of p chain)))
+    (memory_of (weight_at p chain)) ≡ true
     → StepsAt q (chain ∷ []) bs fd r [] cs → queues_of r cs fd ≡ queues_of q bs fd ++ datagram_from sender q chain ∷ []
     → (SameAt q r ys → ws ≡ vs) → (SameAt q r ys → zs ≡ ys)
-    → IsAppended (net_view p (record { pcbs = t; queues = bs }) us xs c) chain fd sender
+    → IsAppended (net_view p (record { pcbs = t; queues = bs }) us xs c) chain fd sender None
     (net_view r (record { pcbs = t; queues = cs }) ws zs d)
-fitting_end {p} {q} {r} {t} {bs} {cs} {us} {vs} {ws} {xs} {ys} {zs} {c} {d} {chain} {fd} sender i named opened room st
-    here same_ws same_zs =
+fitting_end {p} {q} {r} {t} {bs} {cs} {us} {vs} {ws} {xs} {ys} {zs} {c} {d} {chain} {fd} {limit}
+    sender i named limited opened
+    room st here same_ws same_zs =
     let s : SocksView = record { pcbs = t; queues = bs } in
     let x = tested i.fit i.moves in
     let j = joined q r chain ys bs cs x.fit.owned st.moves in
@@ -363,13 +396,22 @@ fitting_end {p} {q} {r} {t} {bs} {cs} {us} {vs} {ws} {xs} {ys} {zs} {c} {d} {cha
     (λ ds. ds ++ datagram_from sender p chain ∷ []) came (λ k ne. st.others k ne ∙ x.shows k) in
     record {
       step = λ rest held b at a.
-          fitting_appends held sender (item_at p chain) (socket_with (queues_of p bs) b) (with_net p s us c rest)
+          fitting_appends (told_one None) held sender (item_at p chain) (socket_with (queues_of p bs) b)
+          (with_net p s us c rest)
           (with_net p s vs d rest) (with_net r (record { pcbs = t; queues = cs }) ws d rest)
-          (ap (λ (k : ℕ). fits (queues_of p bs k) (length (string (chain_of p chain)))) (named b at) ∙ room)
-          (i.reserves (with_net p s us c rest) (held ⊕ weight_at p chain) refl refl a).has_buffers
-          (pushed rest
-          ∙ ap (λ (k : ℕ). change_socket k (with_datagram (datagram_from sender p chain)) (with_net p s vs d rest))
-          (sym (named b at)));
+          (ap (λ (n : ℕ). fits n (queues_of p bs b.fd) (length (string (chain_of p chain)))
+          (memory_of (weight_at p chain)))
+          (limited b at)
+          ∙ ap (λ (k : ℕ). fits limit (queues_of p bs k) (length (string (chain_of p chain)))
+          (memory_of (weight_at p chain)))
+          (named b at) ∙ room)
+          (i.reserves (with_net p s us c rest) (held ⊕ weight_at p chain) refl refl a).has_buffers (
+            refl,
+            pushed rest
+                ∙ ap (λ (k : ℕ). change_socket k (with_datagram (datagram_from sender p chain))
+                (with_net p s vs d rest))
+                (sym (named b at)),
+          );
       others = λ k ne. st.others k ne ∙ x.shows k;
       parts = record {
         accounts = λ rest held a.

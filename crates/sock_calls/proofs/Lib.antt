@@ -2,6 +2,7 @@ mod Weights
 mod Keeping
 mod Frames
 mod Copied
+mod Reaching
 mod Received
 pub mod Laws
 mod Delivered

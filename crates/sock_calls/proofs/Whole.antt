@@ -1,6 +1,6 @@
 -- A packet that carries a whole datagram and was read in place: it's stored for the one socket that matches it, or
 -- dropped.
-use Rattle.std.proofs.Common.{◌≡◌, ℕ, ◌<◌, ◌≤◌, Bool, true, false, cond, List, [], ◌∷◌, ◌++◌, length, take, drop, Option, Some, None, Result, Ok, Err, refl, sym, ap, ◌∙◌, subst, arith, inl}
+use Rattle.std.proofs.Common.{◌≡◌, ℕ, ◌+◌, ◌*◌, ◌<◌, ◌≤◌, Bool, true, false, cond, List, [], ◌∷◌, ◌++◌, length, take, drop, Option, Some, None, Result, Ok, Err, refl, sym, ap, ◌∙◌, subst, arith, inl}
 use Rattle.std.specs.Prelude.{count_by, ◌==◌, ◌&&◌, option_to_list}
 use Rattle.std.specs.List.{AllByRecursion as Each}
 use Rattle.std.proofs.lemmas.Bool.{true≢false, false≢true, le-leb}
@@ -13,26 +13,30 @@ use Rattle.flat_model.specs.Amounts.Weight.{Weight, Item, nothing, ◌⊕◌, ti
 use Rattle.flat_model.specs.Amounts.Layout as flat
 use Rattle.flat_model.specs.Amounts.Layout.{Room, is_cluster, entries_on, wire}
 use Rattle.flat_model.specs.Packets.Header.{head_of, u16_at, udp_fault}
-use Rattle.flat_model.specs.Sockets.Fits.{fits}
+use Rattle.flat_model.specs.Sockets.Fits.{fits, memory_of}
 use Rattle.flat_model.specs.Sockets.Lookup.{best, receivers}
 use Rattle.flat_model.specs.Machine.State.{State, Socket, Datagram, change_socket, ends}
 use Rattle.flat_model.specs.Machine.Ledger as state
 use Rattle.flat_model.specs.Machine.Ledger.{IsFree, exact_ledger, has_enough, need_mbufs}
-use Rattle.flat_model.specs.Machine.Arrival.{Appends, GoesTo, WholeArrives, matching_sockets, with_datagram}
+use Rattle.flat_model.specs.Machine.Arrival.{AppendsAs, GoesToAs, Offered, WholeArrivesAs, matching_sockets, with_datagram}
+use Rattle.flat_model.specs.Machine.Fate.{mark, nobody, reached_by, told_one, told_whole}
+use Rattle.flat_model.specs.declared.fate.Reached.{Reached}
 use Rattle.flat_model.proofs.Laws.{count_cons}
 use Rattle.mbuf_chain.specs.Chain.{PoolView, references}
 use Rattle.ledger.specs.Accounts.{IsAccounted}
 use Rattle.pcb_table.specs.Found.{Finds}
-use Rattle.pcb_table.specs.Table.{Queues, Table, block_at, machine, packet_key, socket_with, sockets_with}
+use Rattle.pcb_table.specs.Table.{IsDescriptor, Queues, Table, block_at, machine, packet_key, socket_with, sockets_with}
 use Rattle.pcb_table.proofs.Laws.{queue_changed}
 use Rattle.sockbuf.specs.SockBuf.{SockBufView}
 use Rattle.sockbuf.specs.Stored.{IsTaken, bag_of, stored_datagram}
 use Rattle.ip_out.specs.Headed.{carried_of}
 use Rattle.udp.specs.Checked.{IsChecked, datagram_fault, is_to_all}
 use Rattle.sock_calls.specs.Sockets.{SocksView, IsSocks, StepsAt, queues_of, with_sockets}
-use Rattle.sock_calls.proofs.Delivered.{moved_accounts}
-use Rattle.sock_calls.specs.Inside.Storing.{StoresAtEnd}
-use Rattle.sock_calls.specs.Whole.{ArrivesWhole, EndsWhole, HasOne, StoresWhole, TakesWhole, carried_item, one_room}
+use Rattle.sock_calls.specs.declared.taking.Taken.{Taken}
+use Rattle.sock_calls.specs.declared.taking.Taken.TheVariants.{Stored, Full}
+use Rattle.sock_calls.proofs.Delivered.{HasLimit, moved_accounts}
+use Rattle.sock_calls.specs.Inside.Storing.{StoresAtEnd, data_memory}
+use Rattle.sock_calls.specs.Whole.{ArrivesWhole, EndsWhole, HasOne, StoresWhole, TakesWhole, carried_item, got_by, lost_by, one_room}
 use Rattle.sock_calls.proofs.Going.{free_each}
 
 -- ---- the cluster that the packet takes
@@ -73,50 +77,72 @@ bag p false (Some c) n h = absurd h
 -- ---- what happens to a checked packet
 
 -- The packet arrives if its data are delivered, whichever buffers it takes.
-pub arrives_as : (packet : List ℕ) (end : ℕ) (from to : Addr) (w : Weight) (old new : State) → IsChecked packet end
+pub arrives_as : (whole : Result Reached Why) (packet : List ℕ) (end : ℕ) (from to : Addr) (w : Weight)
+    (old new : State) → IsChecked packet end
     from to
-    → GoesTo exact_ledger nothing from (record { bytes = drop 28 (take end packet); weight = w }) to.ip
+    → GoesToAs exact_ledger (told_whole whole) nothing from (record
+    { bytes = drop 28 (take end packet); weight = w }) to.ip
     (matching_sockets old to.ip (packet_key to.ip to.port from)) old new
-    → ArrivesWhole packet (record { bytes = carried_of packet; weight = w }) old new
-arrives_as packet end from to w old new is one =
+    → ArrivesWhole whole packet (record { bytes = carried_of packet; weight = w }) old new
+arrives_as whole packet end from to w old new is one =
     let s : List ℕ = carried_of packet in
     let two = subst
-    (λ (n : ℕ). GoesTo exact_ledger nothing from (record { bytes = drop 28 (take end packet); weight = w })
+    (λ (n : ℕ). GoesToAs exact_ledger (told_whole whole) nothing from
+    (record { bytes = drop 28 (take end packet); weight = w })
     to.ip (matching_sockets old to.ip (packet_key to.ip n from)) old new) (sym is.port) one in
-    let three = subst (λ (n : ℕ). GoesTo exact_ledger nothing (record { ip = from.ip; port = n })
+    let three = subst (λ (n : ℕ). GoesToAs exact_ledger (told_whole whole) nothing (record { ip = from.ip; port = n })
     (record { bytes = drop 28 (take end packet); weight = w }) to.ip
     (matching_sockets old to.ip (packet_key to.ip (u16_at 2 s) (record { ip = from.ip; port = n }))) old new)
     (sym is.source_port) two in
-    let goes = subst (λ (xs : List ℕ). GoesTo exact_ledger nothing (record { ip = from.ip; port = u16_at 0 s })
+    let goes = subst (λ (xs : List ℕ). GoesToAs exact_ledger (told_whole whole) nothing
+    (record { ip = from.ip; port = u16_at 0 s })
     (record { bytes = xs; weight = w }) to.ip
     (matching_sockets old to.ip (packet_key to.ip (u16_at 2 s) (record { ip = from.ip; port = u16_at 0 s }))) old new)
     (sym is.bytes) three in
-    let whole : WholeArrives exact_ledger nothing from.ip to.ip 17 (record { bytes = s; weight = w }) old new = record {
+    let here : WholeArrivesAs exact_ledger (told_whole whole) nothing from.ip to.ip 17
+    (record { bytes = s; weight = w }) old new = record {
       yes = λ _. record { none = λ _. goes; some = λ why e. absurd (none-some why (sym is.faultless ∙ e)) };
       no = λ e. absurd (true≢false e);
     } in
-    subst (λ (x : ℕ). WholeArrives exact_ledger nothing x (head_of packet).destination (head_of packet).protocol
+    subst (λ (x : ℕ). WholeArrivesAs exact_ledger (told_whole whole) nothing x (head_of packet).destination
+    (head_of packet).protocol
     (record { bytes = s; weight = w }) old new) (sym is.source)
-    (subst (λ (x : ℕ). WholeArrives exact_ledger nothing from.ip x (head_of packet).protocol
+    (subst (λ (x : ℕ). WholeArrivesAs exact_ledger (told_whole whole) nothing from.ip x (head_of packet).protocol
     (record { bytes = s; weight = w }) old new) (sym is.destination)
-    (subst (λ (x : ℕ). WholeArrives exact_ledger nothing from.ip to.ip x (record { bytes = s; weight = w }) old new)
-    (sym is.protocol) whole))
+    (subst (λ (x : ℕ). WholeArrivesAs exact_ledger (told_whole whole) nothing from.ip to.ip x
+    (record { bytes = s; weight = w }) old new)
+    (sym is.protocol) here))
 
 -- ---- it's dropped
 
+-- the memory of a packet in one mbuf
+one_memory : (is_large : Bool) (n : ℕ) (rooms : List Room) → rooms ≡ one_room is_large n ∷ []
+    → 128 * length rooms + 2048 * count_by is_cluster rooms ≡ data_memory is_large
+one_memory true n rooms e = ap (λ (l : List Room). 128 * length l + 2048 * count_by is_cluster l) e
+one_memory false n rooms e = ap (λ (l : List Room). 128 * length l + 2048 * count_by is_cluster l) e
+
+taken_memory : (p : PoolView) (is_large : Bool) (o : Option ℕ) → IsTaken p is_large o
+    → memory_of (record { mbufs = 1; bag = bag_of o }) ≡ data_memory is_large
+taken_memory p true None h = absurd h
+taken_memory p true (Some c) h = refl
+taken_memory p false None h = refl
+taken_memory p false (Some c) h = absurd h
+
 pub refused : (p : PoolView) (s : SocksView) (packet : List ℕ) (why : Why) → datagram_fault packet ≡ Some why
-    → EndsWhole p s packet why
-refused p s packet why is = λ rest w.
+    → EndsWhole p s packet (Err why) why
+refused p s packet why is = λ rest w weighs.
     let old : State = with_sockets p s rest in
     let x : Option Why = udp_fault (head_of packet).source (head_of packet).destination (carried_of packet) in
     let at : (b : Bool) → (head_of packet).protocol == 17 ≡ b → cond {A = Option Why} b x (Some NoProtocol) ≡ Some why =
     λ b e. sym (ap (λ (b : Bool). cond {A = Option Why} b x (Some NoProtocol)) e) ∙ is in
+    let said : (y : Why) → why ≡ y → (why ≡ y) × (ends why old ≡ ends y old) =
+    λ y e. (e, ap (λ (z : Why). ends z old) e) in
     record {
       yes = λ e. record {
         none = λ n. absurd (none-some why (sym n ∙ at true e));
-        some = λ y e2. ap (λ (z : Why). ends z old) (same_Some why y (sym (at true e) ∙ e2));
+        some = λ y e2. said y (same_Some why y (sym (at true e) ∙ e2));
       };
-      no = λ e. ap (λ (z : Why). ends z old) (same_Some why NoProtocol (sym (at false e)));
+      no = λ e. said NoProtocol (same_Some why NoProtocol (sym (at false e)));
     }
 
 module _ (p : PoolView) (t : Table) (bs : List SockBufView) (packet : List ℕ) (end : ℕ) (from to : Addr)
@@ -130,32 +156,39 @@ module _ (p : PoolView) (t : Table) (bs : List SockBufView) (packet : List ℕ) 
       (option_to_list (best (packet_key to.ip to.port from) (sockets_with f t)))
 
   pub unmatched : Finds (best (packet_key to.ip to.port from)) t None
-      → EndsWhole p (record { pcbs = t; queues = bs }) packet UdpNoPort
-  unmatched found = λ rest w.
+      → EndsWhole p (record { pcbs = t; queues = bs }) packet (Err UdpNoPort) UdpNoPort
+  unmatched found = λ rest w weighs.
       let old : State = machine rest f t in
       let none : matching_sockets old to.ip (packet_key to.ip to.port from) ≡ [] =
       matching_are rest ∙ ap option_to_list (found f) in
-      arrives_as packet end from to w old (ends UdpNoPort old) checked
-      (subst (λ (l : List Socket). GoesTo exact_ledger nothing from
-      (record { bytes = drop 28 (take end packet); weight = w }) to.ip l old (ends UdpNoPort old)) (sym none)
-      (ap (λ (b : Bool). ends (cond b UdpNoPortBroadcast UdpNoPort) old) (sym one)))
+      arrives_as (Err UdpNoPort) packet end from to w old (ends UdpNoPort old) checked
+      (subst (λ (l : List Socket). GoesToAs exact_ledger (told_whole (Err UdpNoPort)) nothing from
+      (record { bytes = drop 28 (take end packet); weight = w }) to.ip l old (ends UdpNoPort old)) (sym none) (
+        ap (λ (b : Bool). cond b UdpNoPortBroadcast UdpNoPort) (sym one),
+        ap (λ (b : Bool). ends (cond b UdpNoPortBroadcast UdpNoPort) old) (sym one),
+      ))
 
   matched : {fd : ℕ} (rest : State) (found : Finds (best (packet_key to.ip to.port from)) t (Some fd))
       → matching_sockets (machine rest f t) to.ip (packet_key to.ip to.port from) ≡ socket_with f found.0 ∷ []
   matched rest found = matching_are rest ∙ ap option_to_list (found.3 f)
 
-  pub full : {fd : ℕ} → Finds (best (packet_key to.ip to.port from)) t (Some fd)
-      → fits (queues_of p bs fd) (length (drop 28 (take end packet))) ≡ false
-      → EndsWhole p (record { pcbs = t; queues = bs }) packet UdpFullSocket
-  full found over = λ rest w.
+  pub full : {fd limit : ℕ} (is_large : Bool) → Finds (best (packet_key to.ip to.port from)) t (Some fd)
+      → HasLimit fd t limit → HasOne p (length packet) is_large
+      → fits limit (queues_of p bs fd) (length (drop 28 (take end packet))) (data_memory is_large) ≡ false
+      → EndsWhole p (record { pcbs = t; queues = bs }) packet (Ok (lost_by fd)) UdpFullSocket
+  full {fd = fd} {limit = limit} is_large found limited has over = λ rest w weighs.
       let old : State = machine rest f t in
-      arrives_as packet end from to w old (ends UdpFullSocket old) checked
-      (subst (λ (l : List Socket). GoesTo exact_ledger nothing from
+      arrives_as (Ok (lost_by fd)) packet end from to w old (ends UdpFullSocket old) checked
+      (subst (λ (l : List Socket). GoesToAs exact_ledger (told_whole (Ok (lost_by fd))) nothing from
       (record { bytes = drop 28 (take end packet); weight = w }) to.ip l old (ends UdpFullSocket old))
       (sym (matched rest found)) (record {
         yes = λ e. absurd (true≢false (sym e
-            ∙ ap (λ (k : ℕ). fits (f k) (length (drop 28 (take end packet)))) found.1 ∙ over));
-        no = λ _. refl;
+            ∙ ap (λ (n : ℕ). fits n (f (found.0).fd) (length (drop 28 (take end packet))) (memory_of w))
+            (limited found.0 found.2)
+            ∙ ap (λ (k : ℕ). fits limit (f k) (length (drop 28 (take end packet))) (memory_of w)) found.1
+            ∙ ap (fits limit (f fd) (length (drop 28 (take end packet))))
+            (weighs ∙ one_memory is_large (length packet) (wire (length packet)) has.room) ∙ over));
+        no = λ _. ((λ k. Some UdpFullSocket, ap lost_by (sym found.1), refl), refl);
       }))
 
 -- ---- it's stored
@@ -170,7 +203,9 @@ pub record IsStored (p : PoolView) (t : Table) (bs : List SockBufView) (packet :
   pub has : HasOne p (length packet) is_large
   pub cluster : Option ℕ
   pub taken : IsTaken p is_large cluster
-  pub fits : fits (queues_of p bs fd) (length (drop 28 (take end packet))) ≡ true
+  pub limit : ℕ
+  pub limited : HasLimit fd t limit
+  pub fits : fits limit (queues_of p bs fd) (length (drop 28 (take end packet))) (data_memory is_large) ≡ true
   pub steps : StepsAt p [] bs fd q [] cs
   pub here : queues_of q cs fd
       ≡ queues_of p bs fd ++ stored_datagram from (drop 28 (take end packet)) cluster ∷ []
@@ -205,35 +240,46 @@ module _ (p q : PoolView) (t : Table) (bs cs : List SockBufView) (packet : List 
       (λ (ds : List Datagram). ds ++ stored_datagram from (drop 28 (take end packet)) is.cluster ∷ []) is.here
       is.steps.others
 
-  appends : Appends exact_ledger nothing from data_of (socket_with (queues_of p bs) is.found.0) old new
+  appends : AppendsAs exact_ledger (λ lack. told_whole (Ok (got_by fd))
+      (Offered ((is.found.0).fd ∷ []) (is.found.0).fd lack))
+      nothing from data_of (socket_with (queues_of p bs) is.found.0) old new
   appends = record {
     yes = λ _. record {
       answer = true;
       mid = old;
       has_buffers = inl (sym one_more, refl);
       goes_on = record {
-        yes = λ _. put ∙ ap (λ (k : ℕ). change_socket k
-            (with_datagram (stored_datagram from (drop 28 (take end packet)) is.cluster)) old) (sym is.found.1);
+        yes = λ _. (
+          (λ k. None, ap got_by (sym is.found.1), refl),
+          put ∙ ap (λ (k : ℕ). change_socket k
+              (with_datagram (stored_datagram from (drop 28 (take end packet)) is.cluster)) old) (sym is.found.1),
+        );
         no = λ e. absurd (true≢false e);
       };
     };
     no = λ e. absurd (false≢true (sym e
-        ∙ ap (λ (k : ℕ). fits (queues_of p bs k) (length (drop 28 (take end packet)))) is.found.1 ∙ is.fits));
+        ∙ ap (λ (n : ℕ). fits n (queues_of p bs (is.found.0).fd) (length (drop 28 (take end packet))) (memory_of w))
+        (is.limited is.found.0 is.found.2)
+        ∙ ap (λ (k : ℕ). fits is.limit (queues_of p bs k) (length (drop 28 (take end packet))) (memory_of w)) is.found.1
+        ∙ ap (fits is.limit (queues_of p bs fd) (length (drop 28 (take end packet))))
+        (taken_memory p is_large is.cluster is.taken) ∙ is.fits));
   }
 
-  arrives : ArrivesWhole packet (carried_item (bag_of is.cluster) packet) old new
+  arrives : ArrivesWhole (Ok (got_by fd)) packet (carried_item (bag_of is.cluster) packet) old new
   arrives =
       let weighs : flat.weight_of (entries_on (bag_of is.cluster) (wire (length packet))) ≡ w =
       ap (λ (rooms : List Room). flat.weight_of (entries_on (bag_of is.cluster) rooms)) is.has.room ∙ is_bag.weight in
-      subst (λ (x : Weight). ArrivesWhole packet (record { bytes = carried_of packet; weight = x }) old new)
+      subst (λ (x : Weight). ArrivesWhole (Ok (got_by fd)) packet (record { bytes = carried_of packet; weight = x })
+      old new)
       (sym weighs)
-      (arrives_as packet end from to w old new is.checked
-      (subst (λ (l : List Socket). GoesTo exact_ledger nothing from data_of to.ip l old new)
+      (arrives_as (Ok (got_by fd)) packet end from to w old new is.checked
+      (subst (λ (l : List Socket). GoesToAs exact_ledger (told_whole (Ok (got_by fd))) nothing from data_of to.ip l
+      old new)
       (sym (matched p t bs packet end from to is.checked is.one rest is.found)) appends))
 
   pub comes : (clusters : List ℕ)
       × state.AreTaken exact_ledger old (flat.need_of (wire (length packet))).clusters clusters
-      × ArrivesWhole packet (carried_item clusters packet) old new
+      × ArrivesWhole (Ok (got_by fd)) packet (carried_item clusters packet) old new
   comes = (
     bag_of is.cluster,
     record {
@@ -249,8 +295,9 @@ module _ (p q : PoolView) (t : Table) (bs cs : List SockBufView) (packet : List 
 
 pub stores_whole : {p q : PoolView} {t : Table} {bs cs : List SockBufView} {packet : List ℕ} {end : ℕ} {from to : Addr}
     {fd : ℕ} {is_large : Bool} → IsStored p t bs packet end from to fd is_large q cs
-    → StoresWhole p (record { pcbs = t; queues = bs }) packet q (record { pcbs = t; queues = cs })
-stores_whole {p} {q} {t} {bs} {cs} {packet} {end} {from} {to} {fd} {is_large} is = record {
+    → IsDescriptor fd → StoresWhole p (record { pcbs = t; queues = bs }) packet fd q (record { pcbs = t; queues = cs })
+stores_whole {p} {q} {t} {bs} {cs} {packet} {end} {from} {to} {fd} {is_large} is descriptor = record {
+  descriptor = descriptor;
   step = λ rest acc. comes p q t bs cs packet end from to fd is_large is rest acc;
   accounts = λ rest held acc. moved_accounts t bs cs rest [] [] is.socks stored is.steps.moves is.socks.owned
       (record { mbufs = refl; bag = λ k. refl }) acc;
@@ -271,14 +318,19 @@ stores_whole {p} {q} {t} {bs} {cs} {packet} {end} {from} {to} {fd} {is_large} is
 
 -- ---- the result of the queue, as that of the packet
 
+abbrev pub taken_as : ℕ → Result Unit Why → Taken
+taken_as fd (Ok done) = Stored fd
+taken_as fd (Err why) = Full fd
+
 module _ (p : PoolView) (t : Table) (bs : List SockBufView) (packet : List ℕ) (end : ℕ) (from to : Addr) (fd : ℕ)
     (is_large : Bool) (checked : IsChecked packet end from to) (socks : IsSocks p (record { pcbs = t; queues = bs }))
     (one : is_to_all t to.ip ≡ false) (found : Finds (best (packet_key to.ip to.port from)) t (Some fd))
     (has : HasOne p (length packet) is_large) where
-  pub takes : (bytes : List ℕ) (q : PoolView) (cs : List SockBufView) (result : Result Unit Why)
-      → bytes ≡ drop 28 (take end packet) → StoresAtEnd p bs fd from is_large bytes q cs result
-      → TakesWhole p (record { pcbs = t; queues = bs }) packet q (record { pcbs = t; queues = cs }) result
-  takes bytes q cs (Ok done) same is = stores_whole (record {
+  pub takes : (bytes : List ℕ) (limit : ℕ) (q : PoolView) (cs : List SockBufView) (result : Result Unit Why)
+      → HasLimit fd t limit → bytes ≡ drop 28 (take end packet) → IsDescriptor fd
+      → StoresAtEnd limit p bs fd from is_large bytes q cs result
+      → TakesWhole p (record { pcbs = t; queues = bs }) packet q (record { pcbs = t; queues = cs }) (taken_as fd result)
+  takes bytes limit q cs (Ok done) limited same descriptor is = stores_whole (record {
     checked = checked;
     socks = socks;
     one = one;
@@ -286,14 +338,17 @@ module _ (p : PoolView) (t : Table) (bs : List SockBufView) (packet : List ℕ) 
     has = has;
     cluster = is.cluster;
     taken = is.taken;
-    fits = ap (λ (xs : List ℕ). fits (queues_of p bs fd) (length xs)) (sym same) ∙ is.fits;
+    limit = limit;
+    limited = limited;
+    fits = ap (λ (xs : List ℕ). fits limit (queues_of p bs fd) (length xs) (data_memory is_large)) (sym same) ∙ is.fits;
     steps = is.steps;
     here = is.here ∙ ap (λ (xs : List ℕ). queues_of p bs fd ++ stored_datagram from xs is.cluster ∷ []) same;
-  })
-  takes bytes q cs (Err why) same is = (
+  }) descriptor
+  takes bytes limit q cs (Err why) limited same descriptor is = (
     is.pool,
     λ i. record { pcbs = t; queues = is.queues i },
-    subst (λ (y : Why). EndsWhole p (record { pcbs = t; queues = bs }) packet y) (sym is.cause)
-        (full p t bs packet end from to checked one found
-        (ap (λ (xs : List ℕ). fits (queues_of p bs fd) (length xs)) (sym same) ∙ is.over)),
+    descriptor,
+    full p t bs packet end from to checked one is_large found limited has
+        (ap (λ (xs : List ℕ). fits limit (queues_of p bs fd) (length xs) (data_memory is_large)) (sym same)
+        ∙ is.over),
   )

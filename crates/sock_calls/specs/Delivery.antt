@@ -1,11 +1,15 @@
 -- Delivery of a datagram to the sockets that match it, for every rest of the machine (`udp_input` and `sbappendaddr` of
 -- volume 2, chapters 23 and 16; the form with a pool's view is this project's own).
-use Rattle.std.specs.Prelude.{◌≡◌, ℕ, List, [], ◌∷◌, ◌++◌, map, Some, None, unwrap_or, false}
+use Rattle.std.specs.Prelude.{◌≡◌, ℕ, List, [], ◌∷◌, ◌++◌, map, Option, Some, None, Result, Ok, Err, unwrap_or, false}
 use Rattle.flat_model.specs.Amounts.Weight.{Weight, Item, ◌⊕◌}
 use Rattle.flat_model.specs.Machine.State.{State, Socket, Unfinished}
 use Rattle.flat_model.specs.Machine.Ledger.{exact_ledger}
-use Rattle.flat_model.specs.Machine.Arrival.{Tests, Appends, Delivers, WholeArrives}
+use Rattle.flat_model.specs.Machine.Arrival.{TestsAs, AppendsAs, DeliversAs, WholeArrivesAs}
+use Rattle.flat_model.specs.Machine.Fate.{reached_by, told_one, told_whole}
 use Rattle.flat_model.specs.declared.counters.Counters.{Counters}
+use Rattle.flat_model.specs.declared.counters.Why.{Why}
+use Rattle.flat_model.specs.declared.counters.Why.TheVariants.{NoBufs}
+use Rattle.flat_model.specs.declared.fate.Reached.{Reached}
 use Rattle.flat_model.specs.declared.address.Addr.{Addr}
 use Rattle.mbuf_chain.specs.Chain.{PoolView, chain_of}
 use Rattle.mbuf_chain.specs.Owners.{Moves}
@@ -57,28 +61,28 @@ pub record KeepsParts (v : NetView) (hand : List ℕ) (u : NetView) (left : List
 
 -- ---- one receiver
 
--- Chain c was put into the queue of socket fd, or dropped there.
-pub record IsAppended (v : NetView) (c : ℕ) (fd : ℕ) (sender : Addr) (u : NetView) : Type 0 where
+-- Chain c was put into the queue of socket fd, or dropped there for a cause.
+pub record IsAppended (v : NetView) (c : ℕ) (fd : ℕ) (sender : Addr) (lack : Option Why) (u : NetView) : Type 0 where
   pub step : (rest : State) (held : Weight) (b : Block) → block_at fd v.socks.pcbs ≡ Some b
       → IsAccountedAt v rest (held ⊕ weight_at v.pool c)
-      → Appends exact_ledger held sender (item_at v.pool c) (socket_with (queues_at v) b) (net_state v rest)
-      (net_state u rest)
+      → AppendsAs exact_ledger (told_one lack) held sender (item_at v.pool c) (socket_with (queues_at v) b)
+      (net_state v rest) (net_state u rest)
   pub others : (k : ℕ) → (k ≡ fd → ⊥) → queues_at u k ≡ queues_at v k
   pub parts : KeepsParts v (c ∷ []) u []
 
 -- ---- one receiver of several
 
 -- a copy of the item is made, and put at the end of the socket's queue: the part of `Delivers` of all but the last
-abbrev pub Offers : Weight → Addr → Item → Socket → State → State → Type 0
-Offers held sender item to old after =
-    Tests exact_ledger old (held ⊕ item.weight) item.weight.mbufs after
-    (λ mid. Appends exact_ledger (held ⊕ item.weight) sender item to mid after)
+abbrev pub Offers : Option Why → Weight → Addr → Item → Socket → State → State → Type 0
+Offers lack held sender item to old after =
+    TestsAs exact_ledger old (held ⊕ item.weight) item.weight.mbufs (told_one lack (Some NoBufs) after)
+    (λ mid. AppendsAs exact_ledger (told_one lack) (held ⊕ item.weight) sender item to mid after)
 
--- a copy of chain c was offered to socket fd, and c is unchanged
-pub record IsOffered (v : NetView) (c : ℕ) (fd : ℕ) (sender : Addr) (u : NetView) : Type 0 where
+-- a copy of chain c was offered to socket fd, which lost it for a cause or got it, and c is unchanged
+pub record IsOffered (v : NetView) (c : ℕ) (fd : ℕ) (sender : Addr) (lack : Option Why) (u : NetView) : Type 0 where
   pub step : (rest : State) (held : Weight) (b : Block) → block_at fd v.socks.pcbs ≡ Some b
       → IsAccountedAt v rest (held ⊕ weight_at v.pool c)
-      → Offers held sender (item_at v.pool c) (socket_with (queues_at v) b) (net_state v rest) (net_state u rest)
+      → Offers lack held sender (item_at v.pool c) (socket_with (queues_at v) b) (net_state v rest) (net_state u rest)
   pub others : (k : ℕ) → (k ≡ fd → ⊥) → queues_at u k ≡ queues_at v k
   pub chain : chain_of u.pool c ≡ chain_of v.pool c
   pub parts : KeepsParts v (c ∷ []) u (c ∷ [])
@@ -86,7 +90,16 @@ pub record IsOffered (v : NetView) (c : ℕ) (fd : ℕ) (sender : Addr) (u : Net
 -- ---- all receivers
 
 abbrev pub no_block : Block
-no_block = record { fd = 0; local = None; port = None; peer = None; broadcast = false; reuse_port = false }
+no_block =
+    record {
+      fd = 0;
+      local = None;
+      port = None;
+      peer = None;
+      broadcast = false;
+      reuse_port = false;
+      receive_limit = 0;
+    }
 
 -- the socket of a descriptor that is open
 abbrev pub socket_named : Queues → Table → ℕ → Socket
@@ -96,18 +109,29 @@ socket_named f t fd = socket_with f (unwrap_or (block_at fd t) no_block)
 abbrev pub sockets_named : Queues → Table → List ℕ → List Socket
 sockets_named f t fds = map (socket_named f t) fds
 
--- Chain c was delivered to all these sockets: a copy to each except the last, which gets c itself.
-pub record IsDelivered (v : NetView) (c : ℕ) (fds : List ℕ) (sender : Addr) (u : NetView) : Type 0 where
+-- Chain c was delivered to all these sockets: a copy to each except the last, which gets c itself. Some may have lost
+-- theirs for a cause, and `reached` says which.
+pub record IsDelivered (v : NetView) (c : ℕ) (fds : List ℕ) (sender : Addr) (reached : Reached) (u : NetView)
+    : Type 0 where
+  pub lacks : ℕ → Option Why
+  pub reached_is : reached ≡ reached_by lacks fds
   pub step : (rest : State) (held : Weight) → IsAccountedAt v rest (held ⊕ weight_at v.pool c)
-      → Delivers exact_ledger held sender (item_at v.pool c) (sockets_named (queues_at v) v.socks.pcbs fds)
-      (net_state v rest) (net_state u rest)
+      → DeliversAs exact_ledger (λ fd. told_one (lacks fd)) held sender (item_at v.pool c)
+      (sockets_named (queues_at v) v.socks.pcbs fds) (net_state v rest) (net_state u rest)
   pub parts : KeepsParts v (c ∷ []) u []
 
 -- ---- a whole datagram
 
--- Chain c, a whole datagram without its IP header, arrived from `source` for `destination`, of this protocol.
-pub record IsInput (v : NetView) (c : ℕ) (source destination protocol : ℕ) (u : NetView) : Type 0 where
+-- what became of it: these sets, or the cause that it was dropped for
+abbrev pub whole_of : Result Unit Why → Reached → Result Reached Why
+whole_of (Ok done) reached = Ok reached
+whole_of (Err why) reached = Err why
+
+-- Chain c, a whole datagram without its IP header, arrived from `source` for `destination`, of this protocol, and this
+-- became of it.
+pub record IsInput (v : NetView) (c : ℕ) (source destination protocol : ℕ) (whole : Result Reached Why) (u : NetView)
+    : Type 0 where
   pub step : (rest : State) (held : Weight) → IsAccountedAt v rest (held ⊕ weight_at v.pool c)
-      → WholeArrives exact_ledger held source destination protocol (item_at v.pool c) (net_state v rest)
-      (net_state u rest)
+      → WholeArrivesAs exact_ledger (told_whole whole) held source destination protocol (item_at v.pool c)
+      (net_state v rest) (net_state u rest)
   pub parts : KeepsParts v (c ∷ []) u []

@@ -61,6 +61,15 @@ memory_behind (Some me) = Ok (queue.memory_queued me.queue)
 abbrev pub memory_queued_at : ℕ → State → Result ℕ Errno
 memory_queued_at fd s = memory_behind (socket_at fd s)
 
+abbrev pub limit_of : Option Socket → Result ℕ Errno
+limit_of None = Err BadDescriptor
+limit_of (Some me) = Ok me.limit
+
+-- The size in bytes that a program has chosen for a descriptor's receive queue, or 0 (`sb_hiwat` of chapter 16); an
+-- error if no such socket is open.
+abbrev pub receive_limit_at : ℕ → State → Result ℕ Errno
+receive_limit_at fd s = limit_of (socket_at fd s)
+
 -- ---- all sockets
 
 -- the set of the numbers below a limit for which the test holds, as one number: bit k is for k

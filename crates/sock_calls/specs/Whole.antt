@@ -1,15 +1,19 @@
 -- A packet from the wire that carries a whole datagram: it's stored in the queue of the one socket that matches it, or
 -- dropped (`ipintr`, `udp_input` and `sbappendaddr` of volume 2, chapters 8, 23 and 16; stating it by what a pool shows
 -- is this project's own).
-use Rattle.std.specs.Prelude.{◌≡◌, ℕ, ◌+◌, ◌≤◌, Bool, true, false, if◌then◌else◌, List, [], ◌∷◌, length, Result, Ok, Err}
-use Rattle.params.specs.declared.TheConstants.{IP_MAX_PACKET, MCLBYTES, MHLEN, MINCLSIZE}
-use Rattle.flat_model.specs.Amounts.Layout.{Room as LayoutRoom, Plain, Cluster, entries_on, need_of, weight_of, wire}
+use Rattle.std.specs.Prelude.{◌≡◌, ℕ, ◌+◌, ◌*◌, ◌≤◌, Bool, true, false, if◌then◌else◌, List, [], ◌∷◌, length, count_by, Option, Some, None, Result, Ok, Err}
+use Rattle.params.specs.declared.TheConstants.{IP_MAX_PACKET, MCLBYTES, MHLEN, MINCLSIZE, MSIZE}
+use Rattle.flat_model.specs.Amounts.Layout.{Room as LayoutRoom, Plain, Cluster, is_cluster, entries_on, need_of, weight_of, wire}
 use Rattle.flat_model.specs.Amounts.Weight.{Item, Weight, nothing}
+use Rattle.flat_model.specs.Sockets.Fits.{memory_of}
 use Rattle.flat_model.specs.Packets.Header.{head_of}
 use Rattle.flat_model.specs.Machine.State.{State, ends}
 use Rattle.flat_model.specs.Machine.Ledger.{AreTaken, exact_ledger}
-use Rattle.flat_model.specs.Machine.Arrival.{WholeArrives}
+use Rattle.flat_model.specs.Machine.Arrival.{WholeArrivesAs}
+use Rattle.flat_model.specs.Machine.Fate.{mark, nobody, told_whole}
 use Rattle.flat_model.specs.declared.counters.Why.{Why}
+use Rattle.flat_model.specs.declared.counters.Why.TheVariants.{UdpFullSocket, UdpNoPort}
+use Rattle.flat_model.specs.declared.fate.Reached.{Reached}
 use Rattle.mbuf_chain.specs.Chain.{PoolView, free_clusters, held_mbufs}
 use Rattle.mbuf_chain.specs.Owners.{Moves}
 use Rattle.chain_ops.specs.Stored.{Has}
@@ -17,6 +21,9 @@ use Rattle.ledger.specs.Accounts.{IsAccounted}
 use Rattle.ip_out.specs.Headed.{carried_of}
 use Rattle.chain_ops.specs.declared.store.Space.{Space}
 use Rattle.chain_ops.specs.declared.store.Space.TheVariants.{InMbuf, InCluster, InMore}
+use Rattle.pcb_table.specs.Table.{IsDescriptor}
+use Rattle.sock_calls.specs.declared.taking.Taken.{Taken}
+use Rattle.sock_calls.specs.declared.taking.Taken.TheVariants.{Stored, Full, NoPort}
 use Rattle.sock_calls.specs.Sockets.{SocksView, IsSocks, queued_chains, with_sockets}
 use Rattle.sock_calls.specs.Delivery.{IsAccountedAt, KeepsParts, NetView, net_state}
 
@@ -55,41 +62,60 @@ carried_item clusters packet = record {
   weight = weight_of (entries_on clusters (wire (length packet)));
 }
 
--- the bytes that a packet carries arrive as a whole datagram
-abbrev pub ArrivesWhole : List ℕ → Item → State → State → Type 0
-ArrivesWhole packet item old new =
-    WholeArrives exact_ledger nothing (head_of packet).source (head_of packet).destination (head_of packet).protocol
+-- the bytes that a packet carries arrive as a whole datagram, and this becomes of it
+abbrev pub ArrivesWhole : Result Reached Why → List ℕ → Item → State → State → Type 0
+ArrivesWhole whole packet item old new =
+    WholeArrivesAs exact_ledger (told_whole whole) nothing (head_of packet).source (head_of packet).destination
+    (head_of packet).protocol
     item old new
 
--- The packet was put into the queue of the socket that matches it, and only chains of receive queues changed. That is
+-- the sets of a datagram that one socket got, or lost because its queue was full
+abbrev pub got_by : ℕ → Reached
+got_by fd = mark None fd nobody
+
+abbrev pub lost_by : ℕ → Reached
+lost_by fd = mark (Some UdpFullSocket) fd nobody
+
+-- The packet was put into the queue of socket fd, which matches it, and only chains of receive queues changed. That is
 -- one step of the machine, for every rest of it, and the pool accounts for the sockets' chains.
-pub record StoresWhole (p : PoolView) (s : SocksView) (packet : List ℕ) (q : PoolView) (t : SocksView) : Type 0 where
+pub record StoresWhole (p : PoolView) (s : SocksView) (packet : List ℕ) (fd : ℕ) (q : PoolView) (t : SocksView)
+    : Type 0 where
+  pub descriptor : IsDescriptor fd
   pub step : (rest : State) → IsAccounted p (with_sockets p s rest) nothing
       → (clusters : List ℕ)
       × AreTaken exact_ledger (with_sockets p s rest) (need_of (wire (length packet))).clusters clusters
-      × ArrivesWhole packet (carried_item clusters packet) (with_sockets p s rest) (with_sockets q t rest)
+      × ArrivesWhole (Ok (got_by fd)) packet (carried_item clusters packet) (with_sockets p s rest)
+      (with_sockets q t rest)
   pub accounts : (rest : State) (held : Weight) → IsAccounted p (with_sockets p s rest) held
       → IsAccounted q (with_sockets q t rest) held
   pub ready : IsSocks q t
   pub pcbs : t.pcbs ≡ s.pcbs
   pub moves : Moves p (queued_chains p s.queues) q (queued_chains q t.queues)
 
--- The packet is dropped for this cause, whatever buffers it would take.
-abbrev pub EndsWhole : PoolView → SocksView → List ℕ → Why → Type 0
-EndsWhole p s packet why =
-    (rest : State) (w : Weight) → ArrivesWhole packet (record { bytes = carried_of packet; weight = w })
+-- a weight with the memory of a packet of n bytes
+abbrev pub IsWireWeight : ℕ → Weight → Type 0
+IsWireWeight n w = memory_of w ≡ MSIZE * length (wire n) + MCLBYTES * count_by is_cluster (wire n)
+
+-- This becomes of the packet, and only the cause is counted, whichever buffers it would take.
+abbrev pub EndsWhole : PoolView → SocksView → List ℕ → Result Reached Why → Why → Type 0
+EndsWhole p s packet whole why =
+    (rest : State) (w : Weight) → IsWireWeight (length packet) w
+    → ArrivesWhole whole packet (record { bytes = carried_of packet; weight = w })
     (with_sockets p s rest) (ends why (with_sockets p s rest))
 
 -- It was delivered to all sockets that match it, a copy to each but the last, or dropped, with all that is counted for
--- that: one step of the machine, which takes clusters that were free.
-pub record DeliversWhole (v : NetView) (packet : List ℕ) (u : NetView) : Type 0 where
+-- that: one step of the machine, which takes clusters that were free. This became of it.
+pub record DeliversWhole (v : NetView) (packet : List ℕ) (whole : Result Reached Why) (u : NetView) : Type 0 where
   pub step : (rest : State) → IsAccountedAt v rest nothing
       → (clusters : List ℕ)
       × AreTaken exact_ledger (net_state v rest) (need_of (wire (length packet))).clusters clusters
-      × ArrivesWhole packet (carried_item clusters packet) (net_state v rest) (net_state u rest)
+      × ArrivesWhole whole packet (carried_item clusters packet) (net_state v rest) (net_state u rest)
   pub parts : KeepsParts v [] u []
 
--- the result of `take`: the packet was stored, or it's dropped for a cause, and nothing has changed
-abbrev pub TakesWhole : PoolView → SocksView → List ℕ → PoolView → SocksView → Result Unit Why → Type 0
-TakesWhole p s packet q t (Ok done) = StoresWhole p s packet q t
-TakesWhole p s packet q t (Err why) = (q ≡ p) × (t ≡ s) × EndsWhole p s packet why
+-- the result of `take`: the packet was stored, or nothing has changed, because the queue of the socket that matches it
+-- is full, or none matches
+abbrev pub TakesWhole : PoolView → SocksView → List ℕ → PoolView → SocksView → Taken → Type 0
+TakesWhole p s packet q t (Stored fd) = StoresWhole p s packet fd q t
+TakesWhole p s packet q t (Full fd) =
+    (q ≡ p) × (t ≡ s) × IsDescriptor fd × EndsWhole p s packet (Ok (lost_by fd)) UdpFullSocket
+TakesWhole p s packet q t NoPort = (q ≡ p) × (t ≡ s) × EndsWhole p s packet (Err UdpNoPort) UdpNoPort

@@ -23,3 +23,4 @@ pub use flat_model::Errno;
 pub use net::Net;
 pub use questions::{NextDatagram, SocketName};
 pub use sockets::Socks;
+pub use taking::Taken;

@@ -6,7 +6,7 @@ ghost use Rattle.mbuf_chain.specs.Heads.{nth_heads};
 ghost use Rattle.pcb_table.specs.Table.{block_at};
 ghost use Rattle.sockbuf.specs.SockBuf.{IsSockBuf, chains_of};
 ghost use Rattle.sock_calls.specs.Questions.{set_below, oldest_datagram};
-ghost use Rattle.sock_calls.specs.Inside.Asked.{name_of_block, waits_at};
+ghost use Rattle.sock_calls.specs.Inside.Asked.{limit_of_block, name_of_block, waits_at};
 ghost use Rattle.sock_calls.specs.Sockets.{queue_at, queues_of};
 
 use crate::queues::QUEUES;
@@ -55,6 +55,16 @@ pub(crate) fn name_of(pcbs: &Pcbs, fd: u32) -> Result<SocketName, Errno>
             broadcast: block.broadcast,
             reuse_port: block.reuse_port,
         }),
+        None => Err(Errno::BadDescriptor),
+    }
+}
+
+/// The size in bytes that a program has chosen for a descriptor's receive queue, or 0.
+pub(crate) fn limit_of(pcbs: &Pcbs, fd: u32) -> Result<u16, Errno>
+    ensures { result ≡ limit_of_block (block_at fd pcbs.now) }
+{
+    match pcbs.block(fd) {
+        Some(block) => Ok(block.receive_limit),
         None => Err(Errno::BadDescriptor),
     }
 }

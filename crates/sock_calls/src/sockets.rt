@@ -1,6 +1,6 @@
 //! Sockets: control blocks and receive queues.
 ghost use Rattle.std.specs.Prelude.{◌≡◌, ◌<◌, ◌+◌, [], None, drop, length, IfOk, IsOk, OnErr};
-ghost use Rattle.flat_model.specs.Machine.Event.{Open, Bind, Close, Connect, Receive, Set_option};
+ghost use Rattle.flat_model.specs.Machine.Event.{Open, Bind, Close, Connect, Receive, Set_limit, Set_option};
 ghost use Rattle.flat_model.specs.Machine.State.{State};
 ghost use Rattle.flat_model.specs.Machine.Step.{Step};
 ghost use Rattle.flat_model.specs.Machine.Replies.{opened_reply, done_reply, received_reply, FitsRoom};
@@ -10,14 +10,14 @@ ghost use Rattle.mbuf_chain.specs.Owners.{Moves};
 ghost use Rattle.pcb_table.specs.Table.{IsDescriptor};
 ghost use Rattle.sockbuf.specs.SockBuf.{chains_of};
 ghost use Rattle.sock_calls.specs.Outgoing.{sending, CanSend, IsSent};
-ghost use Rattle.sock_calls.specs.Questions.{bytes_queued_at, memory_queued_at, next_datagram, readable, socket_name};
+ghost use Rattle.sock_calls.specs.Questions.{bytes_queued_at, memory_queued_at, next_datagram, readable, receive_limit_at, socket_name};
 ghost use Rattle.sock_calls.specs.Sockets.{AreEmpty, IsSocks, IsCalled, queue_at, queued_chains, with_sockets};
 
 use crate::ending::flush_all;
 use crate::net::Net;
 use crate::parts::Parts;
 use crate::questions::{
-    NextDatagram, SocketName, bytes_at, heads_at, memory_at, name_of, next_at, readable,
+    NextDatagram, SocketName, bytes_at, heads_at, limit_of, memory_at, name_of, next_at, readable,
 };
 use crate::queues::ReceiveQueues;
 use crate::receive::refusal;
@@ -102,7 +102,7 @@ impl Socks {
         }
     }
 
-    /// The number of bytes queued at a socket, including 16 for each sender's address, 0 to 41,600 (`sb_cc` of volume
+    /// The number of bytes queued at a socket, including 16 for each sender's address, 0 to 65,535 (`sb_cc` of volume
     /// 2, chapter 16). It changes nothing. The number of steps doesn't depend on the queue. Error: `BadDescriptor`.
     pub fn bytes_queued(&self, fd: u32) -> Result<u32, Errno>
         ensures { (p : PoolView) (rest : State) → IsSocks p self.now
@@ -125,6 +125,14 @@ impl Socks {
             Some(_) => Ok(memory_at(self.parts.queues.as_slice(), place_of(fd))),
             None => Err(Errno::BadDescriptor),
         }
+    }
+
+    /// The size in bytes that a program has chosen for a socket's receive queue, or 0 (`sb_hiwat` of volume 2, chapter
+    /// 16). It changes nothing. Error: `BadDescriptor`.
+    pub fn receive_limit(&self, fd: u32) -> Result<u16, Errno>
+        ensures { (p : PoolView) (rest : State) → result ≡ receive_limit_at fd (with_sockets p self.now rest) }
+    {
+        limit_of(&self.parts.pcbs, fd)
     }
 
     /// The mbufs of the datagram at index `i` in a socket's queue, in order, for drawing them: each one's head fields
@@ -197,6 +205,17 @@ impl Socks {
             → IsCalled p self.old (Set_option fd option on) (done_reply result) self.new }
     {
         let done = self.parts.pcbs.set_option(fd, option, on);
+        self.parts.pcbs.laws();
+        done
+    }
+
+    /// Sets the size in bytes of a socket's receive queue; 0 is no size of its own (`sbreserve` of volume 2, chapter
+    /// 16). The queue keeps its datagrams. Error: `BadDescriptor`; nothing changes then.
+    pub fn set_limit(&mut self, fd: u32, limit: u16) -> Result<(), Errno>
+        ensures { (p : PoolView) → IsSocks p self.old
+            → IsCalled p self.old (Set_limit fd limit) (done_reply result) self.new }
+    {
+        let done = self.parts.pcbs.set_limit(fd, limit);
         self.parts.pcbs.laws();
         done
     }

@@ -51,7 +51,7 @@ apart_ready {p} {q} {c} b m h =
     ap (times_among c) (chains_same p q b (made_beside b m h)) ∙ apart_made (chains_of p b) m h.held.owned
 
 -- ---- a datagram that was refused
-pub refused : {p q : PoolView} {b d : SockBufView} {c back : ℕ} (sender : Addr) (r : Refusal)
-    → AppendsAddr p b sender c (Err (back, r)) q d → IsRefused p b c back q d
-refused sender Full h = h.1
-refused sender NoBufs h = h.2
+pub refused : {p q : PoolView} {b d : SockBufView} {c back : ℕ} (limit : ℕ) (sender : Addr) (r : Refusal)
+    → AppendsAddr limit p b sender c (Err (back, r)) q d → IsRefused p b c back q d
+refused limit sender Full h = h.1
+refused limit sender NoBufs h = h.2

@@ -7,7 +7,7 @@ use Rattle.std.proofs.lemmas.List.{map-append}
 use Rattle.std.proofs.lemmas.List.Sums.{sum_by-cons, sum_by-append}
 use Rattle.flat_model.specs.Amounts.Weight.{mbuf, ◌⊕◌}
 use Rattle.flat_model.specs.Machine.State.{Datagram}
-use Rattle.flat_model.specs.Sockets.Fits.{bytes_queued, memory_queued}
+use Rattle.flat_model.specs.Sockets.Fits.{bytes_queued, memory_of, memory_queued}
 use Rattle.flat_model.specs.declared.address.Addr.{Addr}
 use Rattle.mbuf_chain.specs.Chain.{Entry, PoolView, IsLive, alone, chain_of, flat_bytes}
 use Rattle.mbuf_chain.specs.Owners.{times_among, IsOwned, Moves}
@@ -16,7 +16,7 @@ use Rattle.mbuf_chain.specs.Train.{TrainView, QueuedPacket, no_queued_packet, qu
 use Rattle.mbuf_chain.proofs.Laws.Owners.{times_other, moves_trans, moves_before, same_beside, owned_more, owned_after, apart_first}
 use Rattle.mbuf_chain.proofs.Laws.Trains.{numbers_same, queued_packets_same, held_same, length-queued_packets}
 use Rattle.ledger.specs.Accounts.{entries_weight}
-use Rattle.sockbuf.specs.SockBuf.{Appended, SockBufView, IsSockBuf, IsDatagram, TakesOldest, queued_datagram, datagrams_of, datagrams, chains_of, datagram_from, memory_of, sockaddr_in, address_entry, packet_from}
+use Rattle.sockbuf.specs.SockBuf.{Appended, SockBufView, IsSockBuf, IsDatagram, TakesOldest, queued_datagram, datagrams_of, datagrams, chains_of, datagram_from, sockaddr_in, address_entry, packet_from}
 use Rattle.sockbuf.proofs.Fronts.{address_again}
 
 -- ---- a step on a chain outside the queue

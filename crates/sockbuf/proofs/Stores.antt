@@ -12,7 +12,8 @@ use Rattle.mbuf_chain.proofs.Laws.Owners.{live_adds, moves_adds, moves_beside, s
 use Rattle.mbuf_chain.proofs.Laws.Accounts.{held-adds}
 use Rattle.mbuf_chain.proofs.Laws.Trains.{queued_packets_same}
 use Rattle.ledger.specs.Accounts.{entries_weight, weight_at}
-use Rattle.sockbuf.specs.SockBuf.{SockBufView, IsSockBuf, chains_of, datagrams, datagram_from, memory_of}
+use Rattle.flat_model.specs.Sockets.Fits.{memory_of}
+use Rattle.sockbuf.specs.SockBuf.{SockBufView, IsSockBuf, chains_of, datagrams, datagram_from}
 use Rattle.sockbuf.specs.Stored.{IsTaken, bag_of, stored_datagram}
 use Rattle.sockbuf.proofs.Beside.{apart_ready, chains_same, datagrams_same, made_beside, ready_made}
 

@@ -1,12 +1,12 @@
 -- The receive queue of a socket: datagrams with their senders (`sockbuf` and `sbappendaddr` of TCP/IP Illustrated,
 -- volume 2, chapter 16).
-use Rattle.std.specs.Prelude.{◌≡◌, ℕ, ◌+◌, ◌*◌, ◌<◌, true, false, List, [], ◌∷◌, ◌++◌, length, map, None, Result, Ok, Err}
+use Rattle.std.specs.Prelude.{◌≡◌, ℕ, ◌+◌, ◌*◌, ◌<◌, Bool, true, false, List, [], ◌∷◌, ◌++◌, length, map, None, Result, Ok, Err}
 use Rattle.std.specs.List.{AllByRecursion as Each}
-use Rattle.params.specs.declared.TheConstants.{MCLBYTES, MSIZE, PACKET_START, SOCKADDR_BYTES}
+use Rattle.params.specs.declared.TheConstants.{PACKET_START, SOCKADDR_BYTES}
 use Rattle.flat_model.specs.Amounts.Weight.{Weight, nothing, mbuf, ◌⊕◌}
 use Rattle.flat_model.specs.Packets.Header.{u16_at, u32_at, two_bytes, four_bytes}
 use Rattle.flat_model.specs.Machine.State.{Datagram}
-use Rattle.flat_model.specs.Sockets.Fits.{bytes_queued, memory_queued, fits}
+use Rattle.flat_model.specs.Sockets.Fits.{bytes_queued, memory_of, memory_queued, fits}
 use Rattle.flat_model.specs.declared.address.Addr.{Addr}
 use Rattle.mbuf_chain.specs.Chain.{Entry, PoolView, IsLive, alone, chain_of, flat_bytes, held_mbufs, string}
 use Rattle.mbuf_chain.specs.Owners.{times_among, Moves}
@@ -67,11 +67,6 @@ datagrams p b = datagrams_of (queued_packets p b.train)
 abbrev pub chains_of : PoolView → SockBufView → List ℕ
 chains_of p b = numbers p b.train
 
--- the memory for its datagrams, as `memory_queued` counts it: 128 bytes for each mbuf, 2048 for each reference to a
--- cluster
-abbrev pub memory_of : Weight → ℕ
-memory_of w = MSIZE * w.mbufs + MCLBYTES * length w.bag
-
 -- the queue and the pool fit together
 pub record IsSockBuf (p : PoolView) (b : SockBufView) : Type 0 where
   pub held : IsHeld p b.train
@@ -90,13 +85,13 @@ datagram_from sender p c =
 abbrev pub packet_from : ℕ → Addr → List Entry → QueuedPacket
 packet_from number sender es = record { number = number; entries = address_entry sender ∷ es; tag = 0 }
 
--- chain c of n bytes can be appended, after an mbuf with its sender's address
-pub record CanAppend (p : PoolView) (b : SockBufView) (c n : ℕ) : Type 0 where
+-- chain c of n bytes can be appended to a queue of this limit, after an mbuf with its sender's address
+pub record CanAppend (limit : ℕ) (p : PoolView) (b : SockBufView) (c n : ℕ) : Type 0 where
   pub ready : IsSockBuf p b
   pub live : IsLive p c
   pub apart : times_among c (chains_of p b) ≡ 0
   pub len : n ≡ length (string (chain_of p c))
-  pub fits : fits (datagrams p b) n ≡ true
+  pub fits : fits limit (datagrams p b) n (memory_of (weight_at p c)) ≡ true
   pub free : held_mbufs p < p.mbufs
 
 -- Chain c, sent by `sender`, was appended: it's the newest datagram, and its bytes are where they were in its mbufs.
@@ -114,16 +109,21 @@ pub record IsRefused (p : PoolView) (b : SockBufView) (c back : ℕ) (q : PoolVi
   pub pool : q ≡ p
   pub queue : d ≡ b
 
--- Chain c, sent by `sender`, is the newest datagram of the queue; or it doesn't fit; or no mbuf is free for the
--- address.
-abbrev pub AppendsAddr : PoolView → SockBufView → Addr → ℕ → Result Unit (ℕ × Refusal) → PoolView → SockBufView → Type 0
-AppendsAddr p b sender c (Ok done) q d =
-    (fits (datagrams p b) (length (string (chain_of p c))) ≡ true) × (held_mbufs p < p.mbufs)
+-- whether chain c fits into the queue, which has this limit
+abbrev pub fits_chain : ℕ → PoolView → SockBufView → ℕ → Bool
+fits_chain limit p b c = fits limit (datagrams p b) (length (string (chain_of p c))) (memory_of (weight_at p c))
+
+-- Chain c, sent by `sender`, is the newest datagram of the queue, which has this limit; or it doesn't fit; or no mbuf
+-- is free for the address.
+abbrev pub AppendsAddr : ℕ → PoolView → SockBufView → Addr → ℕ → Result Unit (ℕ × Refusal) → PoolView → SockBufView
+    → Type 0
+AppendsAddr limit p b sender c (Ok done) q d =
+    (fits_chain limit p b c ≡ true) × (held_mbufs p < p.mbufs)
     × (datagrams q d ≡ datagrams p b ++ datagram_from sender p c ∷ []) × Moves p (c ∷ chains_of p b) q (chains_of q d)
-AppendsAddr p b sender c (Err (back, Full)) q d =
-    (fits (datagrams p b) (length (string (chain_of p c))) ≡ false) × IsRefused p b c back q d
-AppendsAddr p b sender c (Err (back, NoBufs)) q d =
-    (fits (datagrams p b) (length (string (chain_of p c))) ≡ true) × (held_mbufs p ≡ p.mbufs) × IsRefused p b c back q d
+AppendsAddr limit p b sender c (Err (back, Full)) q d =
+    (fits_chain limit p b c ≡ false) × IsRefused p b c back q d
+AppendsAddr limit p b sender c (Err (back, NoBufs)) q d =
+    (fits_chain limit p b c ≡ true) × (held_mbufs p ≡ p.mbufs) × IsRefused p b c back q d
 
 -- The oldest datagram, with this sender and the entries of chain c, was removed, and its mbuf for the address freed.
 -- The chain has no packet header and is in no train.

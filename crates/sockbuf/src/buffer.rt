@@ -10,7 +10,7 @@ ghost use Rattle.mbuf_chain.specs.Steps.{one_mbuf};
 ghost use Rattle.ledger.specs.Accounts.{weight_at};
 ghost use Rattle.sockbuf.specs.Questions.{oldest_of};
 ghost use Rattle.sockbuf.specs.Stored.{IsTaken, StoresAt};
-ghost use Rattle.sockbuf.specs.SockBuf.{Appended, AppendsAddr, CanAppend, IsEmpty, IsSockBuf, TakesOldest, chains_of, datagram_from, datagrams, memory_of, no_datagrams};
+ghost use Rattle.sockbuf.specs.SockBuf.{Appended, AppendsAddr, CanAppend, IsEmpty, IsSockBuf, TakesOldest, chains_of, datagram_from, datagrams, no_datagrams};
 
 use crate::address::{sockaddr_bytes, sockaddr_in};
 use crate::measure::memory_of;
@@ -41,6 +41,9 @@ pub enum Refusal {
 /// It holds at most 41,600 bytes, including 16 for each sender's address, and 83,200 bytes of memory: 128 for each mbuf
 /// and 2048 for each reference to a cluster. A datagram's own mbufs don't count in the test of whether it fits, as in
 /// `sbappendaddr` of volume 2, chapter 16.
+///
+/// Each call that appends is given the queue's limit. If it isn't 0, the queue holds at most that many bytes, and twice
+/// as many bytes of memory. Then a datagram's own mbufs count too, so that a queue never holds more.
 pub struct SockBuf {
     train: Train,
     cc: u32,
@@ -127,13 +130,19 @@ impl SockBuf {
         self.mbcnt
     }
 
-    /// Returns whether a datagram of `len` bytes fits.
-    pub fn fits(&self, len: u32) -> bool
-        ensures { (p : PoolView) → IsSockBuf p self.now → result ≡ flat.fits (datagrams p self.now) len }
+    /// Returns whether a datagram of `len` bytes that takes `memory` bytes fits, if the queue has this limit.
+    pub fn fits(&self, limit: u16, len: u32, memory: u32) -> bool
+        ensures { (p : PoolView) → IsSockBuf p self.now
+            → result ≡ flat.fits limit (datagrams p self.now) len memory }
     {
         let with_address = u64::from(SOCKADDR_BYTES) + u64::from(len);
-        with_address + u64::from(self.cc) <= u64::from(UDP_RECEIVE_SPACE)
-            && with_address + u64::from(self.mbcnt) <= u64::from(UDP_RECEIVE_MEMORY)
+        let (bytes, used) = (u64::from(self.cc), u64::from(self.mbcnt));
+        if limit == 0 {
+            return with_address + bytes <= u64::from(UDP_RECEIVE_SPACE)
+                && with_address + used <= u64::from(UDP_RECEIVE_MEMORY);
+        }
+        with_address + bytes <= u64::from(limit)
+            && u64::from(MSIZE) + u64::from(memory) + used <= 2 * u64::from(limit)
     }
 
     /// Returns the sender and the length in bytes of the oldest datagram; `None` if the queue is empty. It changes
@@ -161,8 +170,8 @@ impl SockBuf {
         self.train.heads(pool, i)
     }
 
-    /// Appends a datagram, with its sender's address in an mbuf before it (`sbappendaddr`). It takes one mbuf. The
-    /// number of steps doesn't depend on the queue.
+    /// Appends a datagram, with its sender's address in an mbuf before it (`sbappendaddr`), to a queue of this limit.
+    /// It takes one mbuf. The number of steps doesn't depend on the queue.
     ///
     /// # Errors
     ///
@@ -171,50 +180,43 @@ impl SockBuf {
     pub fn append_addr(
         &mut self,
         pool: &mut Pool,
+        limit: u16,
         sender: Addr,
         chain: Chain,
     ) -> Result<(), (Chain, Refusal)>
         requires ready { IsSockBuf pool.old self.old }
         requires live { IsLive pool.old chain }
         requires apart { times_among chain (chains_of pool.old self.old) ≡ 0 }
-        ensures appends { AppendsAddr pool.old self.old sender chain result pool.new self.new }
+        ensures appends { AppendsAddr limit pool.old self.old sender chain result pool.new self.new }
         ensures ready { IsSockBuf pool.new self.new }
     {
         let len = pool.len(&chain);
-        if !self.fits(len) {
+        let memory = memory_of(pool, &chain);
+        if !self.fits(limit, len, memory) {
             return Err((chain, Refusal::Full));
         }
         if pool.free_mbufs() == 0 {
             return Err((chain, Refusal::NoBufs));
         }
-        self.append_fitting(pool, sender, chain, len);
+        self.append_fitting(pool, limit, sender, chain, len, memory);
         Ok(())
     }
 
-    /// Appends a datagram of `len` bytes like `append_addr`, for a caller that has made the tests: it must fit, and an
-    /// mbuf must be free.
+    /// Appends a datagram of `len` bytes that takes `memory` bytes like `append_addr`, for a caller that has made the
+    /// tests: it must fit, and an mbuf must be free.
     // Inlined, because a stack appends in only one place.
     #[inline(always)]
-    pub fn append_fitting(&mut self, pool: &mut Pool, sender: Addr, chain: Chain, len: u32)
-        requires { CanAppend pool.old self.old chain len }
-        ensures { Appended pool.old self.old chain sender pool.new self.new }
-    {
-        let memory = memory_of(pool, &chain);
-        self.append_sized(pool, sender, chain, len, memory);
-    }
-
-    /// `append_fitting` of a chain that takes `memory` bytes.
-    #[inline(always)]
-    pub(crate) fn append_sized(
+    pub fn append_fitting(
         &mut self,
         pool: &mut Pool,
+        _limit: u16,
         sender: Addr,
         chain: Chain,
         len: u32,
         memory: u32,
     )
-        requires can { CanAppend pool.old self.old chain len }
-        requires memory { memory ≡ memory_of (weight_at pool.old chain) }
+        requires can { CanAppend _limit pool.old self.old chain len }
+        requires memory { memory ≡ flat.memory_of (weight_at pool.old chain) }
         requires bound { memory ≤ (MSIZE + MCLBYTES) * MAX_MBUFS }
         ensures { Appended pool.old self.old chain sender pool.new self.new }
     {
@@ -235,18 +237,27 @@ impl SockBuf {
     /// mbuf's own data area, from offset `start`. They must fit there and into the queue, and the buffers must be free.
     // Inlined, because a stack stores in only one place.
     #[inline(always)]
-    pub fn store(&mut self, pool: &mut Pool, sender: Addr, is_large: bool, start: u32, bytes: &[u8])
+    pub fn store(
+        &mut self,
+        pool: &mut Pool,
+        limit: u16,
+        sender: Addr,
+        is_large: bool,
+        start: u32,
+        bytes: &[u8],
+    )
         requires ready { IsSockBuf pool.old self.old }
         requires low { MBUF_HEADER ≤ start }
         requires high { start + length bytes.now ≤ (if is_large then MCLBYTES else MSIZE) }
-        requires fits { flat.fits (datagrams pool.old self.old) (length bytes.now) ≡ true }
+        requires fits { flat.fits limit (datagrams pool.old self.old) (length bytes.now)
+            (if is_large then MSIZE + MCLBYTES else MSIZE) ≡ true }
         requires free { held_mbufs pool.old + 2 ≤ pool.old.mbufs }
         requires cluster { is_large ≡ true → 0 < free_clusters pool.old }
         ensures { StoresAt pool.old self.old sender is_large start bytes.now pool.new self.new }
     {
         let chain = one_mbuf(pool, is_large, start, bytes);
         let memory = if is_large { MSIZE + MCLBYTES } else { MSIZE };
-        self.append_sized(pool, sender, chain, bytes.len() as u32, memory);
+        self.append_fitting(pool, limit, sender, chain, bytes.len() as u32, memory);
     }
 
     /// Removes the oldest datagram and returns its sender and its chain. The chain's mbufs are those that were queued;

@@ -10,3 +10,4 @@ mod buffer;
 mod measure;
 
 pub use buffer::{Refusal, SockBuf};
+pub use measure::memory_of;

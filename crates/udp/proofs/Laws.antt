@@ -9,7 +9,7 @@ use Rattle.flat_model.specs.Amounts.Layout as flat
 use Rattle.flat_model.specs.Packets.Header.{udp_bytes, udp_fault}
 use Rattle.flat_model.specs.Machine.Ledger.{Ledger}
 use Rattle.flat_model.specs.Machine.State.{State, Socket, ends}
-use Rattle.flat_model.specs.Machine.Arrival.{Delivers, GoesTo, WholeArrives}
+use Rattle.flat_model.specs.Machine.Arrival.{DeliversAs, Ended, GoesToAs, Offered, Saying, WholeArrivesAs}
 use Rattle.flat_model.specs.declared.address.Addr.{Addr}
 use Rattle.flat_model.specs.declared.counters.Why.{Why}
 use Rattle.flat_model.specs.declared.counters.Why.TheVariants.{NoProtocol}
@@ -31,10 +31,15 @@ tested h s o e is17 = sym (ap (λ t. cond t (udp_fault h.src h.dst s) (Some NoPr
 untested : (h : IpHead) (s : List ℕ) (o : Option Why) → fault_of h s ≡ o → (h.proto == 17) ≡ false → Some NoProtocol ≡ o
 untested h s o e not17 = sym (ap (λ t. cond t (udp_fault h.src h.dst s) (Some NoProtocol)) not17) ∙ e
 
-module _ (L : Ledger) (held : Weight) where
+-- the descriptors of sockets
+abbrev pub fds_of : List Socket → List ℕ
+fds_of sockets = map (λ (socket : Socket). socket.fd) sockets
+
+module _ (L : Ledger) (Says : Saying) (held : Weight) where
   some_match : (sender : Addr) (item : Item) (destination : ℕ) (sockets : List Socket) (old new : State)
-      → 0 < length sockets → Delivers L held sender item sockets old new
-      → GoesTo L held sender item destination sockets old new
+      → 0 < length sockets → DeliversAs L (λ fd lack. Says (Offered (fds_of sockets) fd lack)) held sender item sockets
+      old new
+      → GoesToAs L Says held sender item destination sockets old new
   some_match sender item destination [] old new some delivers = absurd (omega arith)
   some_match sender item destination (to ∷ more) old new some delivers = delivers
 
@@ -42,9 +47,10 @@ module _ (L : Ledger) (held : Weight) where
   pub delivered_arrives : (p q : PoolView) (c d : ℕ) (h : IpHead) (t : Table) (to : List ℕ) (from : Addr) (w : Weight)
       → (is : IsForSockets p c h t q to from d)
       → (rest new : State) (queues : Queues)
-      → Delivers L held from (record { bytes = udp_bytes (string (chain_of p c)); weight = w })
-      (map (socket_with queues) is.matched.found) (machine rest queues t) new
-      → WholeArrives L held h.src h.dst h.proto (record { bytes = string (chain_of p c); weight = w })
+      → DeliversAs L (λ fd lack. Says (Offered (fds_of (map (socket_with queues) is.matched.found)) fd lack)) held from
+      (record { bytes = udp_bytes (string (chain_of p c)); weight = w }) (map (socket_with queues) is.matched.found)
+      (machine rest queues t) new
+      → WholeArrivesAs L Says held h.src h.dst h.proto (record { bytes = string (chain_of p c); weight = w })
       (machine rest queues t) new
   delivered_arrives p q c d h t to from w is rest new queues delivers =
       let s : List ℕ = string (chain_of p c) in
@@ -57,16 +63,18 @@ module _ (L : Ledger) (held : Weight) where
         length-map is.matched.found (λ (b : Block). b.fd),
         length-map is.matched.found (socket_with queues),
       ) in
-      let goes : GoesTo L held (sender_of h s) (record { bytes = udp_bytes s; weight = w }) h.dst
+      let goes : GoesToAs L Says held (sender_of h s) (record { bytes = udp_bytes s; weight = w }) h.dst
       (map (socket_with queues) is.matched.found) old new =
       some_match (sender_of h s) (record { bytes = udp_bytes s; weight = w }) h.dst
       (map (socket_with queues) is.matched.found) old new some
-      (subst (λ (a : Addr). Delivers L held a (record { bytes = udp_bytes s; weight = w })
+      (subst (λ (a : Addr). DeliversAs L (λ fd lack. Says (Offered
+      (fds_of (map (socket_with queues) is.matched.found)) fd lack))
+      held a (record { bytes = udp_bytes s; weight = w })
       (map (socket_with queues) is.matched.found) old new) is.sender delivers) in
       record {
         yes = λ is17. record {
           none =
-              λ _. subst (λ (sockets : List Socket). GoesTo L held (sender_of h s)
+              λ _. subst (λ (sockets : List Socket). GoesToAs L Says held (sender_of h s)
               (record { bytes = udp_bytes s; weight = w }) h.dst sockets old new) (sym
               (is.matched.sockets rest queues)) goes;
           some = λ why e. absurd (none-some why (sym (tested h s None is.faultless is17) ∙ e));
@@ -77,10 +85,10 @@ module _ (L : Ledger) (held : Weight) where
   -- a datagram that is dropped is counted
   pub dropped_arrives : (p q : PoolView) (c : ℕ) (h : IpHead) (t : Table) (why : Why) (w : Weight)
       → IsDropped p c h t q why
-      → (rest : State) (queues : Queues)
-      → WholeArrives L held h.src h.dst h.proto (record { bytes = string (chain_of p c); weight = w })
-      (machine rest queues t) (ends why (machine rest queues t))
-  dropped_arrives p q c h t why w is rest queues = go is.cause
+      → (rest new : State) (queues : Queues) → Says (Ended why) new (ends why (machine rest queues t))
+      → WholeArrivesAs L Says held h.src h.dst h.proto (record { bytes = string (chain_of p c); weight = w })
+      (machine rest queues t) new
+  dropped_arrives p q c h t why w is rest new queues says = go is.cause
     where
       s : List ℕ
       s = string (chain_of p c)
@@ -92,25 +100,26 @@ module _ (L : Ledger) (held : Weight) where
       nobody [] e = refl
       nobody (b ∷ found) e = absurd (omega (arith, ap (λ (xs : List ℕ). length xs) e))
 
+      said : (other : Why) → why ≡ other → Says (Ended other) new (ends other old)
+      said other e = subst (λ (y : Why). Says (Ended y) new (ends y old)) e says
+
       go : (fault_of h s ≡ Some why) ⊎ IsUnmatched h t s why
-          → WholeArrives L held h.src h.dst h.proto (record { bytes = s; weight = w }) old (ends why old)
+          → WholeArrivesAs L Says held h.src h.dst h.proto (record { bytes = s; weight = w }) old new
       go (inl fault) = record {
         yes = λ is17. record {
           none = λ none. absurd (none-some why (sym none ∙ tested h s (Some why) fault is17));
           some =
-              λ other e. ap (λ (y : Why). ends y old)
-              (same_Some why other (sym (tested h s (Some why) fault is17) ∙ e));
+              λ other e. said other (same_Some why other (sym (tested h s (Some why) fault is17) ∙ e));
         };
-        no = λ not17. ap (λ (y : Why). ends y old)
-            (sym (same_Some NoProtocol why (untested h s (Some why) fault not17)));
+        no = λ not17. said NoProtocol (sym (same_Some NoProtocol why (untested h s (Some why) fault not17)));
       }
       go (inr unmatched) = record {
         yes = λ is17. record {
           none =
-              λ _. subst (λ (sockets : List Socket). GoesTo L held (sender_of h s)
-              (record { bytes = udp_bytes s; weight = w }) h.dst sockets old (ends why old))
+              λ _. subst (λ (sockets : List Socket). GoesToAs L Says held (sender_of h s)
+              (record { bytes = udp_bytes s; weight = w }) h.dst sockets old new)
               (sym (unmatched.matched.sockets rest queues ∙ nobody unmatched.matched.found unmatched.matched.named))
-              (ap (λ (y : Why). ends y old) (unmatched.counted rest queues));
+              (said _ (unmatched.counted rest queues));
           some = λ other e. absurd (none-some other (sym (tested h s None unmatched.faultless is17) ∙ e));
         };
         no = λ not17. absurd (none-some NoProtocol (sym (untested h s None unmatched.faultless not17)));

@@ -23,8 +23,10 @@ NS_OBJECT_ENSURE_REGISTERED(BsdudpSocket);
 namespace
 {
 
-/// The size of a queue, which is fixed.
+/// The size of a queue for which RcvBufSize is no size of the library.
 constexpr uint32_t QUEUE_BYTES = 41600;
+/// The largest size of the library.
+constexpr uint32_t LARGEST_QUEUE = 65535;
 
 /// The library's address for an IPv4 address. Each caller has checked it with IsMatchingType.
 bsdudp_addr
@@ -55,7 +57,7 @@ BsdudpSocket::GetTypeId()
 
 BsdudpSocket::~BsdudpSocket()
 {
-    Close();
+    BsdudpSocket::Close();
 }
 
 void
@@ -82,6 +84,7 @@ BsdudpSocket::Open(Ptr<BsdudpStack> stack)
     m_fd = fd;
     stack->m_sockets[fd] = this;
     SetReusePort(m_reusePort);
+    SetRcvBufSize(m_rcvBufSize);
 }
 
 Socket::SocketErrno
@@ -475,16 +478,25 @@ BsdudpSocket::MulticastLeaveGroup(uint32_t interface, const Address& groupAddres
 void
 BsdudpSocket::SetRcvBufSize(uint32_t size)
 {
-    if (size < QUEUE_BYTES)
+    m_rcvBufSize = size;
+    if (m_fd < 0) // the attribute has its first value before there is a descriptor
     {
-        NS_LOG_WARN("a queue always holds " << QUEUE_BYTES << " bytes, and not " << size);
+        return;
+    }
+    const bool isSet = bsdudp_getsockopt(&m_stack->m_stack, m_fd, BSDUDP_SO_RCVBUF) > 0;
+    if (size <= LARGEST_QUEUE || isSet)
+    {
+        const int bytes = std::clamp<uint32_t>(size, 1, LARGEST_QUEUE);
+        Note(bsdudp_setsockopt(&m_stack->m_stack, m_fd, BSDUDP_SO_RCVBUF, bytes));
     }
 }
 
 uint32_t
 BsdudpSocket::GetRcvBufSize() const
 {
-    return QUEUE_BYTES;
+    const int size =
+        m_fd < 0 ? 0 : bsdudp_getsockopt(&m_stack->m_stack, m_fd, BSDUDP_SO_RCVBUF);
+    return size > 0 ? size : QUEUE_BYTES;
 }
 
 void

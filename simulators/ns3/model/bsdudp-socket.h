@@ -23,7 +23,9 @@ namespace ns3
  *
  * It follows 4.4BSD in cases where ns-3's own sockets are more lenient: a second Bind() and a
  * SendTo() on a connected socket fail, the longest datagram has 9,216 bytes, and if a datagram is
- * longer than the buffer, the rest is lost. A queue holds 41,600 bytes.
+ * longer than the buffer, the rest is lost. The attribute RcvBufSize is the size of the receive
+ * queue (BSDUDP_SO_RCVBUF) if it is 0 to 65,535; 0 means 1. If it is greater, as by default, the
+ * queue holds 41,600 bytes; on a socket that had a size, it means 65,535.
  *
  * | Refusal of the library | SocketErrno |
  * |---|---|
@@ -44,7 +46,7 @@ namespace ns3
  * with ERROR_AFNOSUPPORT.
  *
  * Time to live and type of service are always 64 and 0, regardless of the socket or a tag, and
- * there is no multicast. The attributes of UdpSocket are accepted and have no effect.
+ * there is no multicast. The other attributes of UdpSocket are accepted and have no effect.
  */
 class BsdudpSocket : public UdpSocket
 {
@@ -159,9 +161,11 @@ class BsdudpSocket : public UdpSocket
     /// \return names and options; all 0 if the socket is closed
     bsdudp_name GetName() const;
 
-    // inherited from UdpSocket, without effect
+    // inherited from UdpSocket
     void SetRcvBufSize(uint32_t size) override;
     uint32_t GetRcvBufSize() const override;
+
+    // inherited from UdpSocket, without effect
     void SetIpMulticastTtl(uint8_t ipTtl) override;
     uint8_t GetIpMulticastTtl() const override;
     void SetIpMulticastIf(int32_t ipIf) override;
@@ -177,6 +181,7 @@ class BsdudpSocket : public UdpSocket
     Address m_silent;                            ///< the IPv6 address that it's bound to
     std::deque<Arrival> m_arrivals;              ///< an entry for each datagram that waits
     bool m_reusePort{false};                     ///< whether others may have its port, too
+    uint32_t m_rcvBufSize{0};                    ///< the attribute RcvBufSize
     bool m_shutdownSend{false};                  ///< whether it sends no more
     bool m_shutdownRecv{false};                  ///< whether it receives no more
     mutable SocketErrno m_errno{ERROR_NOTERROR}; ///< of the last call

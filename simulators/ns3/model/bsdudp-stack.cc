@@ -20,6 +20,7 @@
 #include "ns3/uinteger.h"
 
 #include <algorithm>
+#include <bitset>
 #include <cstring>
 #include <iostream>
 #include <sstream>
@@ -288,18 +289,6 @@ BsdudpStack::ReadCounts() const
     return counts;
 }
 
-BsdudpStack::Counts
-BsdudpStack::ReadDropCounts() const
-{
-    static const uint32_t protocol = FindCounter("ip.noproto");
-    Counts counts = ReadCounts();
-    if (m_onEthernet)
-    {
-        bsdudp_ether_noproto(&m_stack, &counts[protocol]);
-    }
-    return counts;
-}
-
 std::map<std::string, uint64_t>
 BsdudpStack::GetCounters() const
 {
@@ -362,7 +351,7 @@ BsdudpStack::Send(int fd, const bsdudp_addr* to, Ptr<Packet> packet)
     NS_LOG_FUNCTION(this << fd << packet);
     CatchUp();
     const uint32_t length = packet->GetSize();
-    const Before before = ReadBefore();
+    const Counts before = IsTraced() ? ReadCounts() : Counts{};
     std::vector<uint8_t>& room = GetRoom(length);
     packet->CopyData(room.data(), length);
     const int answer = to ? bsdudp_sendto(&m_stack, fd, to, room.data(), length)
@@ -373,8 +362,11 @@ BsdudpStack::Send(int fd, const bsdudp_addr* to, Ptr<Packet> packet)
     }
     const BsdudpLinkDrops link(&m_stack);
     const auto leaving = TakePackets(packet);
-    const auto readers = NoteArrivals(packet, packet->Copy(), 0);
-    Settle(packet, before);
+    uint64_t readable = 0;
+    bsdudp_readable(&m_stack, &readable);
+    const auto readers = NoteArrivals(readable, packet, packet->Copy(), 0);
+    ReportSendDrops(packet, before);
+    Settle(packet);
     ReportLinkDrops(packet, link);
     Transmit(leaving);
     // as in ns-3's own loopback device, so that two sockets of a node don't call each other
@@ -566,55 +558,46 @@ BsdudpStack::Receive(Ptr<NetDevice> device,
     }
 }
 
-void
+struct bsdudp_fate
 BsdudpStack::Input(const std::vector<uint8_t>& bytes, uint32_t length)
 {
-    m_onEthernet ? bsdudp_ether_receive(&m_stack, bytes.data(), length)
-                 : bsdudp_rx(&m_stack, bytes.data(), length);
+    struct bsdudp_fate fate = {};
+    m_onEthernet ? bsdudp_ether_receive_fate(&m_stack, bytes.data(), length, &fate)
+                 : bsdudp_rx_fate(&m_stack, bytes.data(), length, &fate);
+    return fate;
 }
 
 std::vector<Ptr<BsdudpSocket>>
 BsdudpStack::ReceivePacket(Ptr<const Packet> packet, std::vector<uint8_t>& bytes, uint32_t head)
 {
     const uint32_t length = std::min<uint32_t>(packet->GetSize(), BSDUDP_PACKET);
-    // a header that the library refuses may have any fields: then no counter of fragments increases
-    if (length < BsdudpHeader::LENGTH)
-    {
-        std::fill_n(bytes.begin() + head + length, BsdudpHeader::LENGTH - length, 0);
-    }
-    const BsdudpHeader header(bytes.data() + head);
-    const Before before = ReadBefore();
-    const FragmentCounts fragments = ReadFragmentCounts(header);
-    Input(bytes, head + length);
+    const Unsaid before = ReadUnsaid();
+    const struct bsdudp_fate fate = Input(bytes, head + length);
     Ptr<const Packet> datagram = packet;
     uint32_t start = BsdudpHeader::LENGTH + UDP_LENGTH;
-    if (header.IsFragment())
+    if (fate.kind == BSDUDP_KEPT || fate.completed)
     {
-        const FragmentCounts now = ReadFragmentCounts(header);
-        const bool joined = now[REASSEMBLED] != fragments[REASSEMBLED];
-        if (joined || (now[FRAGMENTS] != fragments[FRAGMENTS] &&
-                       now[HELD_ALREADY] == fragments[HELD_ALREADY] &&
-                       now[NO_BUFFERS] == fragments[NO_BUFFERS]))
-        {
-            m_fragments.Add(header, packet);
-        }
-        datagram = joined ? m_fragments.Join(header.key) : nullptr;
+        const BsdudpHeader header(bytes.data() + head);
+        m_fragments.Add(header, packet);
+        datagram = fate.completed ? m_fragments.Join(header.key) : nullptr;
         start = UDP_LENGTH;
     }
-    const auto readers = NoteArrivals(packet, datagram, start);
-    Settle(packet, before);
+    const auto readers = NoteArrivals(fate.got, packet, datagram, start);
+    ReportFate(packet, fate, before);
+    Settle(packet);
     return readers;
 }
 
 std::vector<Ptr<BsdudpSocket>>
-BsdudpStack::NoteArrivals(Ptr<const Packet> packet, Ptr<const Packet> datagram, uint32_t start)
+BsdudpStack::NoteArrivals(uint64_t sockets,
+                          Ptr<const Packet> packet,
+                          Ptr<const Packet> datagram,
+                          uint32_t start)
 {
     std::vector<Ptr<BsdudpSocket>> readers;
-    uint64_t readable = 0;
-    bsdudp_readable(&m_stack, &readable);
-    for (int fd = BSDUDP_FIRST_FD; readable != 0; fd++, readable >>= 1)
+    for (int fd = BSDUDP_FIRST_FD; sockets != 0; fd++, sockets >>= 1)
     {
-        if ((readable & 1) != 0)
+        if ((sockets & 1) != 0)
         {
             Ptr<BsdudpSocket> socket = m_sockets.at(fd);
             if (socket->NoteArrival(datagram, start))
@@ -631,30 +614,56 @@ BsdudpStack::NoteArrivals(Ptr<const Packet> packet, Ptr<const Packet> datagram, 
     return readers;
 }
 
-BsdudpStack::Before
-BsdudpStack::ReadBefore() const
+bool
+BsdudpStack::IsTraced() const
 {
-    Before before{!m_dropTrace.IsEmpty() || g_log.IsEnabled(LOG_INFO), {}};
-    if (before.read)
-    {
-        before.counts = ReadDropCounts();
-    }
-    return before;
+    return !m_dropTrace.IsEmpty() || g_log.IsEnabled(LOG_INFO);
 }
 
-BsdudpStack::FragmentCounts
-BsdudpStack::ReadFragmentCounts(const BsdudpHeader& header) const
+BsdudpStack::Unsaid
+BsdudpStack::ReadUnsaid() const
 {
-    static const FragmentCounts which = {FindCounter("ip.fragments"),
-                                         FindCounter("ip.reassembled"),
-                                         FindCounter("ip.fragdropped"),
-                                         FindCounter("nobufs")};
-    FragmentCounts counts{};
-    for (uint32_t i = 0; header.IsFragment() && i < counts.size(); i++)
+    static const uint32_t lacking = FindCounter("nobufs");
+    Unsaid counts{0, 0};
+    if (IsTraced())
     {
-        bsdudp_counter(&m_stack, which[i], &counts[i]);
+        bsdudp_counter(&m_stack, lacking, &counts.lacking);
+        bsdudp_ether_noproto(&m_stack, &counts.protocols);
     }
     return counts;
+}
+
+void
+BsdudpStack::ReportFate(Ptr<const Packet> packet,
+                        const struct bsdudp_fate& fate,
+                        const Unsaid& before)
+{
+    static const uint32_t full = FindCounter("udp.fullsock");
+    static const uint32_t lacking = FindCounter("nobufs");
+    static const uint32_t protocol = FindCounter("ip.noproto");
+    if (!IsTraced())
+    {
+        return;
+    }
+    const Unsaid now = ReadUnsaid();
+    const bool answered = m_onEthernet && now.protocols == before.protocols;
+    if (fate.kind == BSDUDP_DROPPED &&
+        !(fate.cause == protocol && (answered || (m_onEthernet && IsIcmpError(packet)))))
+    {
+        Drop(packet, fate.cause);
+    }
+    if (fate.lost != 0)
+    {
+        const uint64_t without = now.lacking - before.lacking;
+        if (std::bitset<64>(fate.lost).count() > without)
+        {
+            Drop(packet, full);
+        }
+        if (without != 0)
+        {
+            Drop(packet, lacking);
+        }
+    }
 }
 
 void
@@ -681,24 +690,29 @@ BsdudpStack::ReportLinkDrops(Ptr<const Packet> packet, const BsdudpLinkDrops& be
 }
 
 void
-BsdudpStack::Settle(Ptr<const Packet> packet, const Before& before)
+BsdudpStack::ReportSendDrops(Ptr<const Packet> packet, const Counts& before)
 {
     static const uint32_t reclaimed = FindCounter("ip.reclaimed");
-    static const uint32_t protocol = FindCounter("ip.noproto");
-    static const uint32_t timeout = FindCounter("ip.fragtimeout");
-    if (before.read)
+    if (!IsTraced())
     {
-        const Counts counts = ReadDropCounts();
-        for (uint32_t i = 0; i < COUNTERS; i++)
+        return;
+    }
+    const Counts counts = ReadCounts();
+    for (uint32_t i = 0; i < COUNTERS; i++)
+    {
+        // unfinished datagrams don't belong to this packet
+        if (counts[i] != before[i] && bsdudp_counter_cause(i) != nullptr && i != reclaimed)
         {
-            // expired ones don't belong to this packet
-            if (counts[i] != before.counts[i] && bsdudp_counter_cause(i) != nullptr &&
-                i != reclaimed && !(i == protocol && m_onEthernet && IsIcmpError(packet)))
-            {
-                Drop(packet, i);
-            }
+            Drop(packet, i);
         }
     }
+}
+
+void
+BsdudpStack::Settle(Ptr<const Packet> packet)
+{
+    static const uint32_t reclaimed = FindCounter("ip.reclaimed");
+    static const uint32_t timeout = FindCounter("ip.fragtimeout");
     const uint32_t unfinished = bsdudp_unfinished_len(&m_stack);
     if (m_fragments.GetN() != unfinished)
     {
@@ -723,7 +737,7 @@ BsdudpStack::Tick()
         return;
     }
     bsdudp_tick(&m_stack);
-    Settle(nullptr, Before{});
+    Settle(nullptr);
 }
 
 void
@@ -735,7 +749,7 @@ BsdudpStack::CatchUp()
     {
         const BsdudpLinkDrops link(&m_stack);
         bsdudp_tick(&m_stack);
-        Settle(nullptr, Before{});
+        Settle(nullptr);
         const auto leaving = TakeFrames();
         ReportLinkDrops(nullptr, link);
         Transmit(leaving);

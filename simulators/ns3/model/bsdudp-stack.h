@@ -191,24 +191,11 @@ class BsdudpStack : public Object
     /// The counters at one moment, in the library's order.
     typedef std::array<uint64_t, COUNTERS> Counts;
 
-    /// The indices of the counters that show what happened to a fragment.
-    enum
+    /// Two counters, for what the fate of a packet doesn't say. Both are 0 if nobody traces drops.
+    struct Unsaid
     {
-        FRAGMENTS,
-        REASSEMBLED,
-        HELD_ALREADY,
-        NO_BUFFERS,
-        FRAGMENT_COUNTERS
-    };
-
-    /// These counters at one moment.
-    typedef std::array<uint64_t, FRAGMENT_COUNTERS> FragmentCounts;
-
-    /// The counters before a call, to find out afterwards what it dropped.
-    struct Before
-    {
-        bool read;     ///< whether the counters were read at all
-        Counts counts; ///< the counters, if so
+        uint64_t lacking;   ///< drops for lack of buffers: the other cause of a loss is a full queue
+        uint64_t protocols; ///< on an Ethernet, packets of an unknown protocol without a reply
     };
 
     /// A packet for the device.
@@ -261,8 +248,9 @@ class BsdudpStack : public Object
      * \brief Passes bytes to the library.
      * \param bytes a packet, or on an Ethernet a frame
      * \param length how many there are
+     * \return what happened to the packet
      */
-    void Input(const std::vector<uint8_t>& bytes, uint32_t length);
+    struct bsdudp_fate Input(const std::vector<uint8_t>& bytes, uint32_t length);
 
     /**
      * \brief An IPv4 packet arrived.
@@ -327,40 +315,47 @@ class BsdudpStack : public Object
 
     /**
      * \brief Records which sockets received a datagram in the last call.
+     * \param sockets the sockets that may have, as a set of the library
      * \param packet the packet for Delivered
      * \param datagram the ns-3 packet that contains the datagram's data, or null
      * \param start the offset at which they begin in it
-     * \return these sockets
+     * \return the sockets that did
      */
-    std::vector<Ptr<BsdudpSocket>>
-    NoteArrivals(Ptr<const Packet> packet, Ptr<const Packet> datagram, uint32_t start);
+    std::vector<Ptr<BsdudpSocket>> NoteArrivals(uint64_t sockets,
+                                                Ptr<const Packet> packet,
+                                                Ptr<const Packet> datagram,
+                                                uint32_t start);
 
-    /**
-     * \brief Reads the counters if a trace of drops is connected.
-     * \return the counters
-     */
-    Before ReadBefore() const;
+    /// \return whether somebody traces drops
+    bool IsTraced() const;
 
-    /**
-     * \brief Reads the counters that show what happened to a fragment.
-     * \param header the header of a packet
-     * \return the counters, all 0 if it isn't a fragment
-     */
-    FragmentCounts ReadFragmentCounts(const BsdudpHeader& header) const;
+    /// \return the counters for what a fate doesn't say
+    Unsaid ReadUnsaid() const;
 
     /// \return all counters
     Counts ReadCounts() const;
 
-    /// \return all counters; of a host on an Ethernet without the pings that got a reply
-    Counts ReadDropCounts() const;
+    /**
+     * \brief Reports that a packet was dropped, or that sockets lost its datagram.
+     * \param packet the packet
+     * \param fate what happened to it
+     * \param before the counters before it arrived
+     */
+    void ReportFate(Ptr<const Packet> packet, const struct bsdudp_fate& fate, const Unsaid& before);
 
     /**
-     * \brief After a call: reports what it dropped and how many datagrams wait, and schedules the
-     * tick.
-     * \param packet the packet of the call, null of a tick
-     * \param before the counters before the call
+     * \brief Reports what a send dropped, also of packets to this host.
+     * \param packet the data
+     * \param before the counters before it, if somebody traces drops
      */
-    void Settle(Ptr<const Packet> packet, const Before& before);
+    void ReportSendDrops(Ptr<const Packet> packet, const Counts& before);
+
+    /**
+     * \brief After a call: reports fragments of datagrams that were dropped unfinished, and how many
+     * datagrams wait, and schedules the tick.
+     * \param packet the packet of the call, null of a tick
+     */
+    void Settle(Ptr<const Packet> packet);
 
     /**
      * \brief Reports a drop.

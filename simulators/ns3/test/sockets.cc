@@ -277,6 +277,85 @@ CheckReusePort()
     pair.Run(2, "reuse");
 }
 
+/// The size of a socket's receive queue.
+uint64_t
+SizeOf(Ptr<Socket> socket)
+{
+    UintegerValue size;
+    socket->GetAttribute("RcvBufSize", size);
+    return size.Get();
+}
+
+/// Opens a socket with this default of RcvBufSize, on a port.
+Ptr<Socket>
+OpenSized(Ptr<Node> node, uint32_t size, uint16_t port)
+{
+    Config::SetDefault("ns3::UdpSocket::RcvBufSize", UintegerValue(size));
+    auto socket = Open(node);
+    Config::SetDefault("ns3::UdpSocket::RcvBufSize", UintegerValue(131072)); // ns-3's own
+    Same(socket->Bind(At("0.0.0.0", port)), 0, "size: bind");
+    return socket;
+}
+
+/// The values of the attribute, before and after a size was set.
+void
+CheckSizes()
+{
+    Pair pair(BOTH, 0, 64, 16);
+    Ptr<Node> node = pair.nodes.Get(0);
+    const std::vector<std::pair<uint32_t, uint64_t>> first{
+        {131072, 41600}, {65536, 41600}, {65535, 65535}, {41600, 41600}, {1, 1}, {0, 1}};
+    for (const auto& [given, wanted] : first)
+    {
+        auto socket = OpenSized(node, given, 7);
+        Same(SizeOf(socket), wanted, "size: the first value of a socket");
+        for (const uint32_t later : {1488U, 65536U, 512U})
+        {
+            socket->SetAttribute("RcvBufSize", UintegerValue(later));
+            Same(SizeOf(socket), std::min(later, 65535U), "size: a later value");
+        }
+        socket->Close();
+        Same(SizeOf(socket), 41600U, "size: of a closed socket");
+    }
+    pair.Run(1, "sizes");
+}
+
+/// A socket that nobody reads is flooded, and another one echoes. Returns how many of 1,000
+/// datagrams come back.
+uint32_t
+Echoes(uint32_t flooded, uint32_t used)
+{
+    Pair pair(BOTH, 0, 40, 7);
+    auto sender = OpenSized(pair.nodes.Get(0), 131072, 5000);
+    auto unread = OpenSized(pair.nodes.Get(1), flooded, 7);
+    auto echo = OpenSized(pair.nodes.Get(1), used, 9);
+    uint32_t echoes = 0;
+    echo->SetRecvCallback(Callback<void, Ptr<Socket>>([](Ptr<Socket> socket) {
+        Address from;
+        while (auto packet = socket->RecvFrom(from))
+        {
+            socket->SendTo(packet, 0, from);
+        }
+    }));
+    sender->SetRecvCallback(Callback<void, Ptr<Socket>>([&echoes](Ptr<Socket> socket) {
+        while (socket->Recv())
+        {
+            echoes++;
+        }
+    }));
+    for (uint32_t i = 0; i < 1000; i++)
+    {
+        Simulator::Schedule(MilliSeconds(1000 + 2 * i), [sender] {
+            sender->SendTo(Create<Packet>(1), 0, At("10.0.0.2", 7));
+            sender->SendTo(Create<Packet>(400), 0, At("10.0.0.2", 9));
+        });
+    }
+    Simulator::Schedule(Seconds(4), [unread] { unread->Close(); });
+    pair.Run(4, "a flood");
+    Check(pair.server->GetCounter("udp.fullsock") > 900 || flooded > 65535, "size: it isn't full");
+    return echoes;
+}
+
 } // namespace
 
 void
@@ -293,6 +372,9 @@ CheckSockets()
     }
     CheckLoopback();
     CheckReusePort();
+    CheckSizes();
+    Same(Echoes(512, 1488), 1000U, "size: echoes under a flood");
+    Check(Echoes(131072, 131072) < 100, "size: a flood without sizes leaves echoes");
 }
 
 } // namespace ns3

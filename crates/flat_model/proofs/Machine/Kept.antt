@@ -1,5 +1,5 @@
 -- Every arrival keeps the invariant of the state, and never holds more buffers than there are.
-use Rattle.std.proofs.Common.{◌≡◌, ℕ, ◌+◌, ◌*◌, ◌<◌, ◌≤◌, Bool, true, false, List, [], ◌∷◌, ◌++◌, length, take, drop, refl, sym, ◌∙◌, ap, subst, eq-eqb, arith, Option, Some, None, cond, ◌⊎◌, inl, inr}
+use Rattle.std.proofs.Common.{◌≡◌, ℕ, zero, suc, ◌+◌, ◌*◌, ◌<◌, ◌≤◌, Bool, true, false, List, [], ◌∷◌, ◌++◌, length, take, drop, refl, sym, ◌∙◌, ap, subst, eq-eqb, arith, Option, Some, None, cond, ◌⊎◌, inl, inr}
 use Rattle.std.specs.Prelude.{◌==◌, not, nat_lt, count_by}
 use Rattle.std.specs.List.{AllByRecursion as Each}
 use Rattle.std.proofs.lemmas.Bool.{ltb-false, leb-true, and_parts, and_from, or_parts}
@@ -86,6 +86,21 @@ weight_of_unfinished u = mbuf ⊕ weight_of_pieces u.bytes
 abbrev pub weight_of_item : Item → Weight
 weight_of_item item = item.weight
 
+-- a queue that a datagram fits into has few bytes, and little memory
+pub fits_most : (limit : ℕ) (queue : List Datagram) (n memory : ℕ) → limit ≤ 65535
+    → Fits.fits limit queue n memory ≡ true → (16 + n + bytes_queued queue ≤ 65535)
+    × (16 + memory_queued queue ≤ 131070)
+fits_most zero queue n memory le e =
+    let parts = and_parts _ _ e in
+    let bytes : 16 + n + bytes_queued queue ≤ 41600 = leb-true _ _ parts.0 in
+    let all : 16 + n + memory_queued queue ≤ 83200 = leb-true _ _ parts.1 in
+    (omega arith, omega arith)
+fits_most (suc less) queue n memory le e =
+    let parts = and_parts _ _ e in
+    let bytes : 16 + n + bytes_queued queue ≤ suc less = leb-true _ _ parts.0 in
+    let all : 128 + memory + memory_queued queue ≤ 2 * suc less = leb-true _ _ parts.1 in
+    (omega arith, omega arith)
+
 module _ (c : Config) where
   pub less_held : (g h : ℕ) (s : State) → g ≤ h → Good c h s → Good c g s
   less_held g h s le good =
@@ -135,7 +150,7 @@ module _ (c : Config) where
 
   pub good_queued : (h fd : ℕ) (d : Datagram) (me : Socket) (s : State) → Good c (h + d.item.weight.mbufs) s
       → IsQueued c d → socket_at fd s ≡ Some me
-      → 16 + length d.item.bytes + bytes_queued me.queue ≤ 41600 → length me.queue + 1 ≤ 325
+      → 16 + length d.item.bytes + bytes_queued me.queue ≤ 65535 → length me.queue + 1 ≤ 512
       → Good c h (change_socket fd (Arrival.with_datagram d) s)
   good_queued h fd d me s good is at room more = with_parts good (record {
     each =
@@ -179,6 +194,7 @@ module _ (c : Config) where
             port = g.port;
             peer = g.peer;
             unbound = g.unbound;
+            limit = g.limit;
             queue = each-append (IsQueued c) socket.queue (d ∷ []) g.queue (is, tt);
             queued_bytes =
                 omega (arith, sum_by-append (λ (x : Datagram). 16 + length x.item.bytes) socket.queue (d ∷ []));
@@ -252,7 +268,7 @@ module _ (c : Config) where
 
   -- ---- the receivers
 
-  still_there : (old mid : State) (fd : ℕ) (me : Socket) → ((mid ≡ old) ⊎ (mid ≡ reclaimed old))
+  pub still_there : (old mid : State) (fd : ℕ) (me : Socket) → ((mid ≡ old) ⊎ (mid ≡ reclaimed old))
       → socket_at fd old ≡ Some me → socket_at fd mid ≡ Some me
   still_there old mid fd me (inl is) e = ap (socket_at fd) is ∙ e
   still_there old mid fd me (inr is) e = ap (socket_at fd) is ∙ e
@@ -270,7 +286,7 @@ module _ (c : Config) where
       )
 
   -- a datagram for one queue leaves the other sockets the same
-  others_stay : (held : Weight) (sender : Addr) (item : Item) (to : Socket) (old after : State)
+  pub others_stay : (held : Weight) (sender : Addr) (item : Item) (to : Socket) (old after : State)
       → Arrival.Tests exact_ledger old (held ⊕ item.weight) item.weight.mbufs after
       (λ mid. Arrival.Appends exact_ledger (held ⊕ item.weight) sender item to mid after)
       → (y : Socket) → (y.fd == to.fd) ≡ false → socket_at y.fd old ≡ Some y → socket_at y.fd after ≡ Some y
@@ -319,18 +335,18 @@ module _ (c : Config) where
       d = record { sender = sender; item = record item { weight = mbuf ⊕ item.weight } }
 
       fits : (mid : State) → Good c (held.mbufs + item.weight.mbufs + 1) mid → socket_at to.fd mid ≡ Some to
-          → Fits.fits to.queue (length item.bytes) ≡ true
+          → Fits.fits to.limit to.queue (length item.bytes) (Fits.memory_of item.weight) ≡ true
           → Good c held.mbufs (change_socket to.fd
           (Arrival.with_datagram (record { sender = sender; item = record item { weight = mbuf ⊕ item.weight } })) mid)
       fits mid at found e =
-          let limits = and_parts _ _ e in
-          let memory = leb-true _ _ limits.1 in
           let me_is = (each-find (IsSocket c) (λ socket. socket.fd == to.fd) mid.sockets to at.sockets.each found).0 in
           let least = memory_least to.queue me_is.queue in
+          let bounds = fits_most to.limit to.queue (length item.bytes) (Fits.memory_of item.weight) me_is.limit e in
           good_queued held.mbufs to.fd (record { sender = sender; item = record item { weight = mbuf ⊕ item.weight } })
           to mid
           (less_held (held.mbufs + (1 + item.weight.mbufs)) (held.mbufs + item.weight.mbufs + 1) mid (omega arith) at)
-          (record { own = item.weight; with_address = refl; carries = is }) found (leb-true _ _ limits.0) (omega arith)
+          (record { own = item.weight; with_address = refl; carries = is }) found
+          bounds.0 (omega (arith, bounds.1))
 
   good_delivers : (held : Weight) (sender : Addr) (item : Item) (tos : List Socket) (old new : State)
       → Good c (held.mbufs + item.weight.mbufs) old → Carries c item.weight (length item.bytes)

@@ -173,6 +173,7 @@ module _ (c : Config) (host : is_ours c c.addr ≡ true) (lo : is_ours c loopbac
             peer = λ a e. absurd (none-some a e);
             unbound = λ e. (refl, refl);
             queue = tt;
+            limit = omega arith;
             queued_bytes = omega arith;
             queued = omega arith;
           },
@@ -239,6 +240,7 @@ module _ (c : Config) (host : is_ours c c.addr ≡ true) (lo : is_ours c loopbac
         peer = s.peer;
         unbound = λ t. absurd (none-some port (sym t));
         queue = s.queue;
+        limit = s.limit;
         queued_bytes = s.queued_bytes;
         queued = s.queued;
       }) (λ socket. refl) (λ socket. refl)))
@@ -286,6 +288,7 @@ module _ (c : Config) (host : is_ours c c.addr ≡ true) (lo : is_ours c loopbac
         unbound =
             λ e. (refl, refl);
         queue = s.queue;
+        limit = s.limit;
         queued_bytes = s.queued_bytes;
         queued = s.queued;
       }
@@ -315,6 +318,7 @@ module _ (c : Config) (host : is_ours c c.addr ≡ true) (lo : is_ours c loopbac
             });
         unbound = λ t. absurd (none-some port (sym t));
         queue = s.queue;
+        limit = s.limit;
         queued_bytes = s.queued_bytes;
         queued = s.queued;
       }) (λ socket. refl) (λ socket. refl)))
@@ -356,9 +360,9 @@ module _ (c : Config) (host : is_ours c c.addr ≡ true) (lo : is_ours c loopbac
   receives fd most me old new reply good at (d ∷ later) e h =
       let me_is = found 0 fd old me good at in
       let rest : Each (IsQueued c) later = (subst (Each (IsQueued c)) e me_is.queue).1 in
-      let limits : (bytes_queued later ≤ 41600) × (length later ≤ 325) =
-      shorter later (subst (λ q. bytes_queued q ≤ 41600) e me_is.queued_bytes)
-      (subst (λ (q : List Datagram). length q ≤ 325) e me_is.queued) in
+      let limits : (bytes_queued later ≤ 65535) × (length later ≤ 512) =
+      shorter later (subst (λ q. bytes_queued q ≤ 65535) e me_is.queued_bytes)
+      (subst (λ (q : List Datagram). length q ≤ 512) e me_is.queued) in
       subst (Good c 0) (sym h.1) (changes 0 fd (λ socket. record socket { queue = later }) old good
       (λ socket s. record {
         least_fd = s.least_fd;
@@ -370,6 +374,7 @@ module _ (c : Config) (host : is_ours c c.addr ≡ true) (lo : is_ours c loopbac
         unbound =
             s.unbound;
         queue = rest;
+        limit = s.limit;
         queued_bytes = omega (arith, limits.0);
         queued = omega (arith, limits.1);
       })
@@ -382,9 +387,25 @@ module _ (c : Config) (host : is_ours c c.addr ≡ true) (lo : is_ours c loopbac
       ap (λ q. (all_of (λ (x : Datagram). x.item.weight) q).mbufs) e in
       omega arith))
     where
-      shorter : (ds : List Datagram) → bytes_queued (d ∷ ds) ≤ 41600 → length (d ∷ ds) ≤ 325
-          → (bytes_queued ds ≤ 41600) × (length ds ≤ 325)
+      shorter : (ds : List Datagram) → bytes_queued (d ∷ ds) ≤ 65535 → length (d ∷ ds) ≤ 512
+          → (bytes_queued ds ≤ 65535) × (length ds ≤ 512)
       shorter ds b l = (omega (arith, sum_by-cons (λ (x : Datagram). 16 + length x.item.bytes) d ds), omega arith)
+
+  pub limits : (fd limit : ℕ) (old new : State) (reply : Reply) → Good c 0 old → limit < 65536
+      → Calls.SetsLimit fd limit old reply new → Good c 0 new
+  limits fd limit old new reply good small h =
+      subst (Good c 0) (sym h.1) (renames 0 fd _ old good (λ socket s. record {
+        least_fd = s.least_fd;
+        greatest_fd = s.greatest_fd;
+        local = s.local;
+        port = s.port;
+        peer = s.peer;
+        unbound = s.unbound;
+        queue = s.queue;
+        limit = omega arith;
+        queued_bytes = s.queued_bytes;
+        queued = s.queued;
+      }) (λ socket. refl) (λ socket. refl))
 
   pub sets : (fd : ℕ) (option : Opt) (on : Bool) (old new : State) (reply : Reply) → Good c 0 old
       → Calls.SetsOption fd option on old reply new → Good c 0 new
@@ -403,6 +424,7 @@ module _ (c : Config) (host : is_ours c c.addr ≡ true) (lo : is_ours c loopbac
             peer = s.peer;
             unbound = s.unbound;
             queue = s.queue;
+            limit = s.limit;
             queued_bytes = s.queued_bytes;
             queued = s.queued;
           }

@@ -10,7 +10,7 @@ use Rattle.params.specs.declared.TheConstants.{OUTPUT_QUEUE_PACKETS}
 use Rattle.flat_model.specs.Amounts.Weight.{Weight, Item, all_of, nothing}
 use Rattle.flat_model.specs.Fragments.Cuts.{Part, cuts}
 use Rattle.flat_model.specs.Amounts.Layout.{Need, Room, is_cluster, sent, wire, entries_on, weight_of, need, need_bcast, need_of, need_of_part}
-use Rattle.flat_model.specs.Machine.Event.{Event, Reply, IsEvent, Open, Bind, Connect, Send, Receive, Close, Set_option, Comes, Transmit, Tick, Ask_counters, Ask_usage}
+use Rattle.flat_model.specs.Machine.Event.{Event, Reply, IsEvent, Open, Bind, Connect, Send, Receive, Close, Set_option, Set_limit, Comes, Transmit, Tick, Ask_counters, Ask_usage}
 use Rattle.flat_model.specs.Machine.State.{IsConfig, State, Socket, Datagram, Unfinished, boot, loopback, socket_at, is_key, ends}
 use Rattle.flat_model.specs.Amounts.Choice.{Choice}
 use Rattle.flat_model.specs.Packets.Header.{first_fault}
@@ -104,6 +104,7 @@ module _ (c : Config) (boots : IsConfig c) where
           peer = g.peer;
           unbound = λ e. absurd (none-some x.port (sym e));
           queue = g.queue;
+          limit = g.limit;
           queued_bytes = g.queued_bytes;
           queued = g.queued;
         })
@@ -388,6 +389,8 @@ module _ (c : Config) (boots : IsConfig c) where
       on_socket fd old new reply _ good (λ me e s g. KeptCalls.closes c host lo fd old new reply good g) h
   steps old new (Set_option fd option on) reply good is h =
       on_socket fd old new reply _ good (λ me e s g. KeptCalls.sets c host lo fd option on old new reply good g) h
+  steps old new (Set_limit fd limit) reply good is h =
+      on_socket fd old new reply _ good (λ me e s g. KeptCalls.limits c host lo fd limit old new reply good is g) h
   steps old new (Comes packet) reply good is h = comes_in packet old new good h.1
   steps old new Transmit reply good is h = transmits old.output old new reply good refl h
   steps old new Tick reply good is h = subst (Good c 0) (sym h.1) (ticks old good)

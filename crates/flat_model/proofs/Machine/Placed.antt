@@ -139,6 +139,22 @@ placed_mbufs clusters (Plain n ∷ rooms) = ap suc (placed_mbufs clusters rooms)
 placed_mbufs [] (Cluster n ∷ rooms) = ap suc (placed_mbufs [] rooms)
 placed_mbufs (c ∷ clusters) (Cluster n ∷ rooms) = ap suc (placed_mbufs clusters rooms)
 
+-- the memory of a layout is that of its rooms
+pub placed_memory : (clusters : List ℕ) (rooms : List Room) → length clusters ≡ count_by is_cluster rooms
+    → 128 * length (entries_on clusters rooms) + 2048 * length (weight_of (entries_on clusters rooms)).bag
+    ≡ 128 * length rooms + 2048 * count_by is_cluster rooms
+unfolding entries_on
+placed_memory clusters [] e = refl
+placed_memory clusters (Plain n ∷ rooms) e =
+    let count = count_cons is_cluster (Plain n) rooms in
+    let rest = placed_memory clusters rooms (omega arith) in
+    omega arith
+placed_memory [] (Cluster n ∷ rooms) e = let count = count_cons is_cluster (Cluster n) rooms in absurd (omega arith)
+placed_memory (c ∷ clusters) (Cluster n ∷ rooms) e =
+    let count = count_cons is_cluster (Cluster n) rooms in
+    let rest = placed_memory clusters rooms (omega arith) in
+    omega arith
+
 pub placed_carries : (c : Config) (clusters : List ℕ) (rooms : List Room) (n : ℕ) → IsFilled rooms n → 1 ≤ length rooms
     → length clusters ≡ count_by is_cluster rooms
     → Each (λ k. k < c.clusters) clusters → Carries c (weight_of (entries_on clusters rooms)) n

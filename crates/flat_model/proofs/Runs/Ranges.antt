@@ -4,7 +4,7 @@ use Rattle.std.proofs.lemmas.List.{get_or_default}
 use Rattle.hex.proofs.HexLemmas.{decode_of-ok}
 use Rattle.params.specs.declared.TheConstants.{IP_MAX_PACKET}
 use Rattle.flat_model.specs.declared.address.Addr.{Addr}
-use Rattle.flat_model.specs.Machine.Event.{Event, IsEvent, IsAddr, IsBytes, Open, Bind, Connect, Send, Receive, Close, Set_option, Comes, Transmit, Tick, Ask_counters, Ask_usage}
+use Rattle.flat_model.specs.Machine.Event.{Event, IsEvent, IsAddr, IsBytes, Open, Bind, Connect, Send, Receive, Close, Set_option, Set_limit, Comes, Transmit, Tick, Ask_counters, Ask_usage}
 use Rattle.flat_model.specs.Scripts.Grammar.{IsLine, IsEnd, IsHex}
 
 bytes-all : (xs : List ℕ) → ((i : ℕ) → get_or xs i 0 < 256) → IsBytes xs
@@ -27,6 +27,7 @@ in_range line (Send fd None bytes) h = (search rules, (hex-bytes _ bytes h.argum
 in_range line (Receive fd most) h = tt
 in_range line (Close fd) h = tt
 in_range line (Set_option fd option on) h = tt
+in_range line (Set_limit fd limit) h = absurd h.arguments
 in_range line (Comes packet) h = let range = hex-bytes _ packet h.arguments.2 in (range.0, range.1)
 in_range line Transmit h = tt
 in_range line Tick h = tt

@@ -1,5 +1,5 @@
 -- A whole run of the exact machine, worked out: a socket is opened and bound, a packet comes, and its bytes are taken.
--- So the definitions can be met.
+-- So the definitions can be met; and so can the premises of the law of receive limits, in a small pool.
 use Rattle.std.specs.Prelude.{◌≡◌, refl, ℕ, ◌<◌, Bool, true, false, List, [], ◌∷◌, Some, None}
 use Rattle.std.proofs.Common.{arith, inl, sym, ◌∙◌, subst}
 use Rattle.std.proofs.lemmas.Option.{none-some, same_Some}
@@ -7,13 +7,16 @@ use Rattle.std.proofs.lemmas.List.Elements.{All-from_recursion}
 use Rattle.flat_model.specs.Amounts.Choice.{Choice, Case}
 use Rattle.flat_model.specs.Runs.Run.{Run, Turn}
 use Rattle.flat_model.specs.Amounts.Layout.{filled, entries_on}
+use Rattle.flat_model.specs.Fragments.Cuts.{cuts}
 use Rattle.flat_model.specs.Machine.Count.{counted, counts_more}
 use Rattle.flat_model.specs.declared.counter.Counter.TheVariants.{IpTotal}
-use Rattle.flat_model.specs.Machine.Event.{Event, Reply, Open, Bind, Receive, Comes, Done, Opened, Received, IsBytes}
-use Rattle.flat_model.specs.Machine.State.{State, boot}
+use Rattle.flat_model.specs.Machine.Event.{Event, Reply, Open, Bind, Receive, Comes, Set_limit, Done, Opened, Received, IsBytes}
+use Rattle.flat_model.specs.Machine.State.{State, Socket, boot}
 use Rattle.flat_model.specs.declared.config.Config.{Config}
 use Rattle.flat_model.specs.Machine.Calls.{new_socket}
 use Rattle.flat_model.specs.Machine.Step.{Step}
+use Rattle.flat_model.specs.Machine.Send.{need_to}
+use Rattle.flat_model.specs.Runs.Isolation.{LeadsEmpty, PoolHasRoom}
 
 abbrev plain : Config
 plain = record { addr = 167772161; bcast = 167772415; mtu = 1500; mbufs = 512; clusters = 64; first_id = 1 }
@@ -119,3 +122,35 @@ a_run = (
   where
     small : IsBytes w
     small = All-from_recursion (λ byte. byte < 256) w (search arith)
+
+-- ---- receive limits in a pool of 40 mbufs and 7 clusters
+
+abbrev small_pool : Config
+small_pool = record plain { mbufs = 40; clusters = 7 }
+
+abbrev limited : ℕ → Socket
+limited fd = record (new_socket fd) { limit = 512 }
+
+-- a socket is opened, and its limit is set
+limits_are_set : LeadsEmpty (boot small_pool) (turn Open (Opened 3) ∷ turn (Set_limit 3 512) Done ∷ [])
+    (record (boot small_pool) { sockets = limited 3 ∷ [] })
+limits_are_set = (
+  tt,
+  tt,
+  record (boot small_pool) { sockets = new_socket 3 ∷ [] },
+  when refl (3, record { least = omega arith; free = refl; passed = λ k low high. absurd (omega arith) }, refl, refl),
+  (((λ e. refl), tt), omega arith, record (boot small_pool) { sockets = limited 3 ∷ [] }, at_some _ (refl, refl), refl),
+)
+
+-- three such sockets leave room for a send of 1,472 bytes to another host
+room_is_left : PoolHasRoom (need_to small_pool 167772162 1472)
+    (record (boot small_pool) { sockets = limited 5 ∷ limited 4 ∷ limited 3 ∷ [] })
+unfolding filled cuts
+room_is_left =
+    let mbufs : (need_to small_pool 167772162 1472).mbufs ≡ 2 = refl in
+    let clusters : (need_to small_pool 167772162 1472).clusters ≡ 1 = refl in
+    record {
+      limits = (omega arith, (omega arith, (omega arith, tt)));
+      mbufs = omega (arith, mbufs);
+      clusters = omega (arith, clusters);
+    }

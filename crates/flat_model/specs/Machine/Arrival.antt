@@ -1,7 +1,7 @@
 -- What happens to a packet that arrives, from the wire or by loopback: `ipintr` (volume 2, chapter 8), `ip_reass`
 -- (chapter 10), and `udp_input` (chapter 23). Every test of the ledger counts the state and also what the step holds:
 -- the current item, and `held`.
-use Rattle.std.specs.Prelude.{◌≡◌, ◌⊎◌, ℕ, ◌+◌, ◌≤◌, ◌%◌, Bool, ◌==◌, nat_lt, nat_le, ◌&&◌, ◌||◌, not, if◌then◌else◌, List, [], ◌∷◌, ◌++◌, take, drop, length, Some, option_to_list}
+use Rattle.std.specs.Prelude.{◌≡◌, ◌⊎◌, ℕ, ◌+◌, ◌≤◌, ◌%◌, Bool, ◌==◌, nat_lt, nat_le, ◌&&◌, ◌||◌, not, if◌then◌else◌, List, [], ◌∷◌, ◌++◌, take, drop, length, Some, option_to_list, map, Option, None}
 use Rattle.params.specs.declared.TheConstants.{IP_HEADER, IP_MAX_DATA, PROTOCOL_UDP, FRAGMENT_UNIT, MINCLSIZE, MAX_PROTOCOL_HEADER}
 use Rattle.flat_model.specs.declared.lookup_key.LookupKey.{LookupKey}
 use Rattle.flat_model.specs.Amounts.Choice.{Choice, Case}
@@ -10,7 +10,7 @@ use Rattle.flat_model.specs.Packets.Header.{Head, head_of, head_fault, total_of,
 use Rattle.flat_model.specs.Fragments.Overlay.{Map, Fragment, overlay, is_covered}
 use Rattle.flat_model.specs.Fragments.Whole.{IsWhole, bytes_below, weight_of_pieces}
 use Rattle.flat_model.specs.Sockets.Lookup.{best, receivers}
-use Rattle.flat_model.specs.Sockets.Fits.{fits}
+use Rattle.flat_model.specs.Sockets.Fits.{fits, memory_of}
 use Rattle.flat_model.specs.Machine.Count.{counts_more}
 use Rattle.flat_model.specs.Machine.State.{State, Socket, Datagram, Key, Unfinished, limited_broadcast, change_socket, unfinished_at, begun, begin_unfinished, set_bytes, end_unfinished, ends}
 use Rattle.flat_model.specs.declared.config.Config.{Config}
@@ -97,110 +97,179 @@ carried item = record item { bytes = drop IP_HEADER (take (total_of item.bytes) 
 
 -- ---- the steps of an arrival, for any ledger of the buffers
 
+-- ---- the ends of a packet
+
+-- where the rules leave a packet, with what they say of it
+pub data End : Type 0 where
+  -- it ends for this cause
+  Ended : (why : Why) → End
+  -- A datagram goes to these sockets, and `fd` is one of them: it has the datagram, or its copy ended for a cause.
+  Offered : (receivers : List ℕ) (fd : ℕ) (lack : Option Why) → End
+  -- a fragment waits for the others with its key
+  Stored : End
+  -- a fragment completed its datagram, and that is left here
+  Reassembled : (whole : End) → End
+
+-- what is said of a packet's end, of the state after it, and of the state to which the rules lead there
+abbrev pub Saying : Type 1
+Saying = End → State → State → Type 0
+
+-- nothing but the state
+abbrev pub silent : Saying
+silent = λ end new is. new ≡ is
+
 module _ (L : Ledger) where
   -- A test for n mbufs. If it passes, Then continues from the state that the test leaves; otherwise the current item
-  -- ends there for lack of buffers.
-  pub record Tests (old : State) (held : Weight) (n : ℕ) (new : State) (Then : State → Type 0) : Type 0 where
+  -- ends there for lack of buffers, and Fails is said of the state.
+  pub record TestsAs (old : State) (held : Weight) (n : ℕ) (Fails : State → Type 0) (Then : State → Type 0)
+      : Type 0 where
     pub answer : Bool
     pub mid : State
     pub has_buffers : HasBuffers L old held (need_mbufs n) answer mid
-    pub goes_on : Choice answer (Then mid) (new ≡ ends NoBufs mid)
+    pub goes_on : Choice answer (Then mid) (Fails (ends NoBufs mid))
+
+  abbrev pub Tests : State → Weight → ℕ → State → (State → Type 0) → Type 0
+  Tests old held n new Then = TestsAs old held n (λ is. new ≡ is) Then
 
   -- ---- delivery
 
   -- the datagram is appended to a socket's queue, with an mbuf for the sender's address, if both fit
-  abbrev pub Appends : Weight → Addr → Item → Socket → State → State → Type 0
-  Appends held sender item to old new =
-      Choice (fits to.queue (length item.bytes))
-      (Tests old (held ⊕ item.weight) 1 new (λ mid.
-      new ≡ change_socket to.fd (with_datagram
-      (record { sender = sender; item = record item { weight = mbuf ⊕ item.weight } })) mid))
-      (new ≡ ends UdpFullSocket old)
+  abbrev pub AppendsAs : (Option Why → State → State → Type 0) → Weight → Addr → Item → Socket → State → State → Type 0
+  AppendsAs Says held sender item to old new =
+      Choice (fits to.limit to.queue (length item.bytes) (memory_of item.weight))
+      (TestsAs old (held ⊕ item.weight) 1 (Says (Some NoBufs) new) (λ mid.
+      Says None new (change_socket to.fd (with_datagram
+      (record { sender = sender; item = record item { weight = mbuf ⊕ item.weight } })) mid)))
+      (Says (Some UdpFullSocket) new (ends UdpFullSocket old))
 
   -- Each receiver but the last gets a copy of the same weight. If a receiver lacks space or buffers, only its own copy
   -- ends.
-  abbrev pub Delivers : Weight → Addr → Item → List Socket → State → State → Type 0
-  Delivers held sender item [] old new = ⊥
-  Delivers held sender item (last ∷ []) old new = Appends held sender item last old new
-  Delivers held sender item (to ∷ next ∷ more) old new =
+  abbrev pub DeliversAs : (ℕ → Option Why → State → State → Type 0) → Weight → Addr → Item → List Socket → State → State
+      → Type 0
+  DeliversAs Says held sender item [] old new = ⊥
+  DeliversAs Says held sender item (last ∷ []) old new = AppendsAs (Says last.fd) held sender item last old new
+  DeliversAs Says held sender item (to ∷ next ∷ more) old new =
       (after : State)
-      × Tests old (held ⊕ item.weight) item.weight.mbufs after
-      (λ mid. Appends (held ⊕ item.weight) sender item to mid after)
-      × Delivers held sender item (next ∷ more) after new
+      × TestsAs old (held ⊕ item.weight) item.weight.mbufs (Says to.fd (Some NoBufs) after)
+      (λ mid. AppendsAs (Says to.fd) (held ⊕ item.weight) sender item to mid after)
+      × DeliversAs Says held sender item (next ∷ more) after new
 
+  abbrev pub Appends : Weight → Addr → Item → Socket → State → State → Type 0
+  Appends = AppendsAs (λ lack new is. new ≡ is)
+
+  abbrev pub Delivers : Weight → Addr → Item → List Socket → State → State → Type 0
+  Delivers = DeliversAs (λ fd lack new is. new ≡ is)
+
+module _ (L : Ledger) (Says : Saying) where
   -- a datagram goes to the sockets that receive it
-  abbrev pub GoesTo : Weight → Addr → Item → ℕ → List Socket → State → State → Type 0
-  GoesTo held sender item destination [] old new = new ≡ ends (no_port old destination) old
-  GoesTo held sender item destination (to ∷ more) old new = Delivers held sender item (to ∷ more) old new
+  abbrev pub GoesToAs : Weight → Addr → Item → ℕ → List Socket → State → State → Type 0
+  GoesToAs held sender item destination [] old new =
+      Says (Ended (no_port old destination)) new (ends (no_port old destination) old)
+  GoesToAs held sender item destination (to ∷ more) old new =
+      DeliversAs L (λ fd lack. Says (Offered (map (λ (socket : Socket). socket.fd) (to ∷ more)) fd lack))
+      held sender item (to ∷ more) old new
 
   -- A complete datagram, without its IP header, with this source, destination and protocol.
-  abbrev pub WholeArrives : Weight → ℕ → ℕ → ℕ → Item → State → State → Type 0
-  WholeArrives held source destination protocol item old new =
+  abbrev pub WholeArrivesAs : Weight → ℕ → ℕ → ℕ → Item → State → State → Type 0
+  WholeArrivesAs held source destination protocol item old new =
       Choice (protocol == PROTOCOL_UDP)
       (Case (udp_fault source destination item.bytes)
       (let sender : Addr = record { ip = source; port = u16_at 0 item.bytes } in
       let q : LookupKey = record { local = Some destination; port = Some (u16_at 2 item.bytes); peer = Some sender } in
-      GoesTo held sender (record item { bytes = udp_bytes item.bytes }) destination
+      GoesToAs held sender (record item { bytes = udp_bytes item.bytes }) destination
       (matching_sockets old destination q) old new)
-      (λ why. new ≡ ends why old))
-      (new ≡ ends NoProtocol old)
+      (λ why. Says (Ended why) new (ends why old)))
+      (Says (Ended NoProtocol) new (ends NoProtocol old))
 
+module _ (L : Ledger) (Says : Saying) where
   -- ---- fragments
 
   -- These bytes are now stored under a key. If they are complete, the datagram continues as one item of less weight,
   -- and its key is removed; otherwise they wait.
-  abbrev pub Settles : Weight → Key → Map → State → State → Type 0
-  Settles held k bytes old new =
+  abbrev pub SettlesAs : Weight → Key → Map → State → State → Type 0
+  SettlesAs held k bytes old new =
       ((n : ℕ) × IsWhole bytes n × (joined : Weight) × IsJoin (weight_of_pieces bytes) joined n
-      × WholeArrives held k.source k.destination k.protocol (record { bytes = bytes_below bytes n; weight = joined })
-      (counts_reassembled (end_unfinished k old)) new)
-      ⊎ (((n : ℕ) → ¬ IsWhole bytes n) × (new ≡ set_bytes k bytes old))
+      × WholeArrivesAs L (λ end. Says (Reassembled end)) held k.source k.destination k.protocol
+      (record { bytes = bytes_below bytes n; weight = joined }) (counts_reassembled (end_unfinished k old)) new)
+      ⊎ (((n : ℕ) → ¬ IsWhole bytes n) × Says Stored new (set_bytes k bytes old))
 
   -- the fragment is inserted into the bytes under its key, or ends if pieces that begin no later have all its bytes
-  abbrev pub Inserts : Weight → Key → Fragment → Unfinished → State → State → Type 0
-  Inserts held k f u old new =
+  abbrev pub InsertsAs : Weight → Key → Fragment → Unfinished → State → State → Type 0
+  InsertsAs held k f u old new =
       Choice (is_covered u.bytes f)
-      (new ≡ ends FragmentDropped old)
-      (Settles held k (overlay u.bytes f) old new)
+      (Says (Ended FragmentDropped) new (ends FragmentDropped old))
+      (SettlesAs held k (overlay u.bytes f) old new)
 
   -- the fragment joins the others with its key; a new key takes an mbuf
-  abbrev pub Joins : Weight → Key → Fragment → State → State → Type 0
-  Joins held k f old new = Case (unfinished_at k old)
-      (Tests old (held ⊕ f.weight) 1 new (λ mid. Inserts held k f (begun k) (begin_unfinished k mid) new))
-      (λ u. Inserts held k f u old new)
+  abbrev pub JoinsAs : Weight → Key → Fragment → State → State → Type 0
+  JoinsAs held k f old new = Case (unfinished_at k old)
+      (TestsAs L old (held ⊕ f.weight) 1 (Says (Ended NoBufs) new)
+      (λ mid. InsertsAs held k f (begun k) (begin_unfinished k mid) new))
+      (λ u. InsertsAs held k f u old new)
 
   -- A fragment that came from the wire into a cluster is pulled up, which takes an mbuf. This happens before the lookup
   -- of its key.
-  abbrev pub PullsUp : Origin → Weight → Weight → ℕ → State → State → (Weight → State → Type 0) → Type 0
-  PullsUp Looped held w total old new Then = Then w old
-  PullsUp (By_wire received) held w total old new Then =
-      Choice (nat_le MINCLSIZE received) (Tests old (held ⊕ w) 1 new (λ mid. Then (pulled_up total w) mid)) (Then w old)
+  abbrev pub PullsUpAs : Origin → Weight → Weight → ℕ → State → State → (Weight → State → Type 0) → Type 0
+  PullsUpAs Looped held w total old new Then = Then w old
+  PullsUpAs (By_wire received) held w total old new Then =
+      Choice (nat_le MINCLSIZE received)
+      (TestsAs L old (held ⊕ w) 1 (Says (Ended NoBufs) new) (λ mid. Then (pulled_up total w) mid)) (Then w old)
 
   -- a fragment, without its IP header
-  abbrev pub FragmentArrives : Origin → Weight → Head → Item → State → State → Type 0
-  FragmentArrives origin held h item old new =
+  abbrev pub FragmentArrivesAs : Origin → Weight → Head → Item → State → State → Type 0
+  FragmentArrivesAs origin held h item old new =
       Choice (is_bad_fragment h (length item.bytes))
-      (new ≡ ends BadFragment old)
-      (PullsUp origin held item.weight (IP_HEADER + length item.bytes) (counts_fragment old) new (λ w mid.
-      Joins held (key_of h) (record { offset = h.offset; bytes = item.bytes; more = h.more; weight = w }) mid new))
+      (Says (Ended BadFragment) new (ends BadFragment old))
+      (PullsUpAs origin held item.weight (IP_HEADER + length item.bytes) (counts_fragment old) new (λ w mid.
+      JoinsAs held (key_of h) (record { offset = h.offset; bytes = item.bytes; more = h.more; weight = w }) mid new))
 
   -- ---- packets
 
   -- a packet whose header passed the tests
-  abbrev pub Passes : Origin → Weight → Item → State → State → Type 0
-  Passes origin held item old new =
+  abbrev pub PassesAs : Origin → Weight → Item → State → State → Type 0
+  PassesAs origin held item old new =
       let h : Head = head_of item.bytes in
       Choice (is_for_us old.config h.destination)
       (Choice (is_fragment h)
-      (FragmentArrives origin held h (carried item) old new)
-      (WholeArrives held h.source h.destination h.protocol (carried item) old new))
-      (new ≡ ends CantForward old)
+      (FragmentArrivesAs origin held h (carried item) old new)
+      (WholeArrivesAs L Says held h.source h.destination h.protocol (carried item) old new))
+      (Says (Ended CantForward) new (ends CantForward old))
 
   -- a packet arrives, while the step also holds `held`
+  abbrev pub ArrivesAs : Origin → Weight → Item → State → State → Type 0
+  ArrivesAs origin held item old new =
+      Case (head_fault item.bytes) (PassesAs origin held item (counts_packet old) new)
+      (λ why. Says (Ended why) new (ends why (counts_packet old)))
+
+-- ---- the same without a word of the ends
+
+module _ (L : Ledger) where
+  abbrev pub GoesTo : Weight → Addr → Item → ℕ → List Socket → State → State → Type 0
+  GoesTo = GoesToAs L silent
+
+  abbrev pub WholeArrives : Weight → ℕ → ℕ → ℕ → Item → State → State → Type 0
+  WholeArrives = WholeArrivesAs L silent
+
+  abbrev pub Settles : Weight → Key → Map → State → State → Type 0
+  Settles = SettlesAs L silent
+
+  abbrev pub Inserts : Weight → Key → Fragment → Unfinished → State → State → Type 0
+  Inserts = InsertsAs L silent
+
+  abbrev pub Joins : Weight → Key → Fragment → State → State → Type 0
+  Joins = JoinsAs L silent
+
+  abbrev pub PullsUp : Origin → Weight → Weight → ℕ → State → State → (Weight → State → Type 0) → Type 0
+  PullsUp = PullsUpAs L silent
+
+  abbrev pub FragmentArrives : Origin → Weight → Head → Item → State → State → Type 0
+  FragmentArrives = FragmentArrivesAs L silent
+
+  abbrev pub Passes : Origin → Weight → Item → State → State → Type 0
+  Passes = PassesAs L silent
+
   abbrev pub Arrives : Origin → Weight → Item → State → State → Type 0
-  Arrives origin held item old new =
-      Case (head_fault item.bytes) (Passes origin held item (counts_packet old) new)
-      (λ why. new ≡ ends why (counts_packet old))
+  Arrives = ArrivesAs L silent
 
   -- the packets that came back arrive in order, and the step holds those that are still to come
   abbrev pub AllArrive : List Item → State → State → Type 0

@@ -94,7 +94,16 @@ GetsPort old local None port new = IsNextPort old local port × (new ≡ record 
 -- a new socket
 abbrev pub new_socket : ℕ → Socket
 new_socket fd =
-    record { fd = fd; local = None; port = None; peer = None; broadcast = false; reuse_port = false; queue = [] }
+    record {
+      fd = fd;
+      local = None;
+      port = None;
+      peer = None;
+      broadcast = false;
+      reuse_port = false;
+      limit = 0;
+      queue = [];
+    }
 
 -- the least descriptor from 3 on that no socket has
 pub record IsLowestFree (s : State) (fd : ℕ) : Type 0 where
@@ -199,3 +208,9 @@ set_option ReusePort on socket = record socket { reuse_port = on }
 -- the call that does it
 abbrev pub SetsOption : ℕ → Opt → Bool → State → Reply → State → Type 0
 SetsOption fd option on old reply new = (reply ≡ Done) × (new ≡ change_socket fd (set_option option on) old)
+
+-- The call that sets the limit of a socket's receive queue (`sbreserve` of chapter 16), which keeps its datagrams, also
+-- if they are more than the new limit. 0 is no limit of its own.
+abbrev pub SetsLimit : ℕ → ℕ → State → Reply → State → Type 0
+SetsLimit fd limit old reply new =
+    (reply ≡ Done) × (new ≡ change_socket fd (λ socket. record socket { limit = limit }) old)

@@ -16,6 +16,7 @@ pub data Event : Type 0 where
   Receive : (fd most : ℕ) → Event  -- `recvfrom` of at most `most` bytes
   Close : (fd : ℕ) → Event
   Set_option : (fd : ℕ) (option : Opt) (on : Bool) → Event  -- `setsockopt`
+  Set_limit : (fd limit : ℕ) → Event  -- `setsockopt` with SO_RCVBUF
   Comes : (packet : List ℕ) → Event  -- a packet arrives from the wire
   Transmit : Event  -- the link takes the oldest packet of the output queue
   Tick : Event  -- the clock ticks: in 4.4BSD each half second
@@ -50,4 +51,5 @@ IsEvent (Bind fd address) = IsAddr address
 IsEvent (Connect fd address) = IsAddr address
 IsEvent (Send fd to bytes) = IfSome to IsAddr × IsBytes bytes
 IsEvent (Comes packet) = IsBytes packet × (length packet ≤ IP_MAX_PACKET)
+IsEvent (Set_limit fd limit) = limit < 2 ^ 16
 IsEvent _ = ⊤

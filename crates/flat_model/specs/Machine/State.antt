@@ -56,7 +56,8 @@ pub record Datagram : Type 0 where
   pub item : Item
 
 -- An open socket. `local` is its address, `port` its port, and `peer` the address and port that it is connected to,
--- each set or not. The queue has the oldest datagram first.
+-- each set or not. `limit` is the size in bytes of its receive queue that a program has chosen (`sb_hiwat` of volume 2,
+-- chapter 16), or 0. The queue has the oldest datagram first.
 pub record Socket : Type 0 where
   pub fd : ℕ
   pub local : Option ℕ
@@ -64,6 +65,7 @@ pub record Socket : Type 0 where
   pub peer : Option Addr
   pub broadcast : Bool
   pub reuse_port : Bool
+  pub limit : ℕ
   pub queue : List Datagram
 
 -- fragments with the same key are of one datagram

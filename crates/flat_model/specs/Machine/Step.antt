@@ -6,14 +6,14 @@ use Rattle.flat_model.specs.Amounts.Choice.{Choice}
 use Rattle.flat_model.specs.Amounts.Weight.{Item, nothing}
 use Rattle.flat_model.specs.Amounts.Layout.{wire, need_of, entries_on, weight_of}
 use Rattle.flat_model.specs.Machine.Count.{counts_more}
-use Rattle.flat_model.specs.Machine.Event.{Event, Reply, Open, Bind, Connect, Send, Receive, Close, Set_option, Comes, Transmit, Tick, Ask_counters, Ask_usage, Done, Given, Counted, Shown}
+use Rattle.flat_model.specs.Machine.Event.{Event, Reply, Open, Bind, Connect, Send, Receive, Close, Set_option, Set_limit, Comes, Transmit, Tick, Ask_counters, Ask_usage, Done, Given, Counted, Shown}
 use Rattle.flat_model.specs.declared.counter.Counter.TheVariants.{IpFragtimeout}
 use Rattle.flat_model.specs.declared.usage.Mbstat.{Mbstat}
 use Rattle.flat_model.specs.Machine.State.{State, Unfinished, ends}
 use Rattle.flat_model.specs.Machine.Ledger.{Ledger, HasBuffers, AreTaken, exact_ledger, loose_ledger}
-use Rattle.flat_model.specs.Machine.Calls.{OnSocket, Opens, Closes, Binds, Connects, Receives, SetsOption}
+use Rattle.flat_model.specs.Machine.Calls.{OnSocket, Opens, Closes, Binds, Connects, Receives, SetsOption, SetsLimit}
 use Rattle.flat_model.specs.Machine.Send.{Sends}
-use Rattle.flat_model.specs.Machine.Arrival.{By_wire, Arrives}
+use Rattle.flat_model.specs.Machine.Arrival.{By_wire, Saying, silent, ArrivesAs, Ended}
 use Rattle.flat_model.specs.declared.counters.Why.TheVariants.{NoBufs}
 
 -- every unfinished datagram has one tick less, and is dropped if none is left
@@ -32,16 +32,19 @@ Transmits (item ∷ later) old reply new = (reply ≡ Given (Some item.bytes)) �
 
 module _ (L : Ledger) where
   -- a packet comes from the wire into buffers of its own, or is lost if the pool has too few
-  abbrev pub ComesIn : List ℕ → State → State → Type 0
-  ComesIn packet old new =
+  abbrev pub ComesInAs : Saying → List ℕ → State → State → Type 0
+  ComesInAs Says packet old new =
       (yes : Bool) × (mid : State)
       × HasBuffers L old nothing (need_of (wire (length packet))) yes mid
       × Choice yes
       ((clusters : List ℕ)
       × AreTaken L mid (need_of (wire (length packet))).clusters clusters
-      × Arrives L (By_wire (length packet)) nothing
+      × ArrivesAs L Says (By_wire (length packet)) nothing
       (record { bytes = packet; weight = weight_of (entries_on clusters (wire (length packet))) }) mid new)
-      (new ≡ ends NoBufs mid)
+      (Says (Ended NoBufs) new (ends NoBufs mid))
+
+  abbrev pub ComesIn : List ℕ → State → State → Type 0
+  ComesIn = ComesInAs silent
 
   -- a step, for any ledger of the buffers
   abbrev pub StepBy : State → Event → Reply → State → Type 0
@@ -53,6 +56,7 @@ module _ (L : Ledger) where
   StepBy old (Close fd) reply new = OnSocket fd old reply new (λ me. Closes fd old reply new)
   StepBy old (Set_option fd option on) reply new =
       OnSocket fd old reply new (λ me. SetsOption fd option on old reply new)
+  StepBy old (Set_limit fd limit) reply new = OnSocket fd old reply new (λ me. SetsLimit fd limit old reply new)
   StepBy old (Comes packet) reply new = (reply ≡ Done) × ComesIn packet old new
   StepBy old Transmit reply new = Transmits old.output old reply new
   StepBy old Tick reply new = (reply ≡ Done) × (new ≡ ticked old)

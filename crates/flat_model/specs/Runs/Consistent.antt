@@ -1,7 +1,7 @@
 -- What holds in every state that the machine reaches, so that its accounts are never overdrawn (this project's own).
-use Rattle.std.specs.Prelude.{◌≡◌, ℕ, ◌+◌, ◌-◌, ◌*◌, ◌/◌, ◌<◌, ◌≤◌, true, ◌==◌, length, count_by, Some, None}
+use Rattle.std.specs.Prelude.{◌≡◌, ℕ, ◌+◌, ◌-◌, ◌/◌, ◌<◌, ◌≤◌, true, ◌==◌, length, count_by, Some, None}
 use Rattle.std.specs.List.{AllByRecursion as Each}
-use Rattle.params.specs.declared.TheConstants.{FIRST_DESCRIPTOR, MAX_SOCKETS, MSIZE, UDP_RECEIVE_MEMORY, UDP_RECEIVE_SPACE, IP_MAX_DATA, FRAGMENT_TICKS, OUTPUT_QUEUE_PACKETS, FIRST_EPHEMERAL_PORT, LAST_EPHEMERAL_PORT}
+use Rattle.params.specs.declared.TheConstants.{FIRST_DESCRIPTOR, MAX_SOCKETS, MSIZE, MOST_RECEIVE_SPACE, IP_MAX_DATA, FRAGMENT_TICKS, OUTPUT_QUEUE_PACKETS, FIRST_EPHEMERAL_PORT, LAST_EPHEMERAL_PORT}
 use Rattle.flat_model.specs.Amounts.Weight.{Weight, Item, Covers, mbuf, ◌⊕◌}
 use Rattle.flat_model.specs.Fragments.Overlay.{Map, Held}
 use Rattle.flat_model.specs.Sockets.Fits.{bytes_queued}
@@ -28,7 +28,7 @@ pub record IsPeer (a : Addr) : Type 0 where
   pub some_port : 1 ≤ a.port
   pub port : a.port < 65536
 
--- An open socket, with its queue within its limits. A socket with a local address or a peer has a port.
+-- An open socket, with its queue within the largest limits. A socket with a local address or a peer has a port.
 pub record IsSocket (c : Config) (socket : Socket) : Type 0 where
   pub least_fd : FIRST_DESCRIPTOR ≤ socket.fd
   pub greatest_fd : socket.fd ≤ FIRST_DESCRIPTOR + MAX_SOCKETS - 1
@@ -37,8 +37,9 @@ pub record IsSocket (c : Config) (socket : Socket) : Type 0 where
   pub peer : (a : Addr) → socket.peer ≡ Some a → IsPeer a
   pub unbound : socket.port ≡ None → (socket.local ≡ None) × (socket.peer ≡ None)
   pub queue : Each (IsQueued c) socket.queue
-  pub queued_bytes : bytes_queued socket.queue ≤ UDP_RECEIVE_SPACE
-  pub queued : length socket.queue ≤ UDP_RECEIVE_MEMORY / (2 * MSIZE)
+  pub limit : socket.limit ≤ MOST_RECEIVE_SPACE
+  pub queued_bytes : bytes_queued socket.queue ≤ MOST_RECEIVE_SPACE
+  pub queued : length socket.queue ≤ (MOST_RECEIVE_SPACE + 1) / MSIZE
 
 -- The byte at an offset belongs to a piece without gaps from its first offset on, which has space for it.
 pub record IsConsistentAt (c : Config) (bytes : Map) (offset : ℕ) (held : Held) : Type 0 where

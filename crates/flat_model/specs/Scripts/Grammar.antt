@@ -7,7 +7,7 @@ use Rattle.params.specs.declared.TheConstants.{IP_MAX_PACKET, LONGEST_REQUEST}
 use Rattle.flat_model.specs.declared.address.Addr.{Addr}
 use Rattle.flat_model.specs.declared.option.Opt.{Opt}
 use Rattle.flat_model.specs.declared.option.Opt.TheVariants.{Broadcast, ReusePort}
-use Rattle.flat_model.specs.Machine.Event.{Event, Open, Bind, Connect, Send, Receive, Close, Set_option, Comes, Transmit, Tick, Ask_counters, Ask_usage}
+use Rattle.flat_model.specs.Machine.Event.{Event, Open, Bind, Connect, Send, Receive, Close, Set_option, Set_limit, Comes, Transmit, Tick, Ask_counters, Ask_usage}
 
 -- ---- words
 
@@ -57,6 +57,7 @@ keyword (Send fd None bytes) = codes "send"
 keyword (Receive fd most) = codes "recvfrom"
 keyword (Close fd) = codes "close"
 keyword (Set_option fd option on) = codes "setsockopt"
+keyword (Set_limit fd limit) = codes "setsockopt"
 keyword (Comes packet) = codes "rx"
 keyword Transmit = codes "tx"
 keyword Tick = codes "tick"
@@ -82,6 +83,7 @@ HasArguments (Receive fd most) args =
 HasArguments (Close fd) args = (f : List ℕ) × (args ≡ f ∷ []) × WritesDescriptor f fd
 HasArguments (Set_option fd option on) args =
     (f : List ℕ) × (args ≡ f ∷ option_name option ∷ switch_name on ∷ []) × WritesDescriptor f fd
+HasArguments (Set_limit fd limit) args = ⊥  -- only a program sets a limit, no line does
 HasArguments (Comes packet) args = (h : List ℕ) × (args ≡ h ∷ []) × IsHex h packet
 HasArguments Transmit args = args ≡ []
 HasArguments Tick args = args ≡ []

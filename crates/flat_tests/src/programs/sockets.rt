@@ -205,18 +205,26 @@ const DEEP: Waiting = Waiting {
 
 const DEEPER: Waiting = Waiting { mbufs: 20, ..DEEP };
 
-/// A queue, the length of one more datagram, and whether it fits. The limits are 41,600 bytes, including 16 for each
-/// address, and 83,200 bytes of memory.
-static FITS: [(&[Waiting], u16, bool); 9] = [
-    (&[SMALL; 324], 1, true),
-    (&[SMALL; 325], 0, false),
-    (&[], 41_584, true),
-    (&[], 41_585, false),
-    (&[LARGE; 4], 4656, true),
-    (&[LARGE; 4], 4657, false),
-    (&[DEEP], 496, true),
-    (&[DEEP], 497, false),
-    (&[DEEPER], 0, false),
+/// The limit of a queue or 0, the queue, the length of one more datagram, its memory, and whether it fits. Without a
+/// limit these are 41,600 bytes, including 16 for each address, and 83,200 bytes of memory.
+static FITS: [(u16, &[Waiting], u16, u32, bool); 17] = [
+    (0, &[SMALL; 324], 1, 128, true),
+    (0, &[SMALL; 325], 0, 128, false),
+    (0, &[], 41_584, 128, true),
+    (0, &[], 41_585, 128, false),
+    (0, &[LARGE; 4], 4656, 128, true),
+    (0, &[LARGE; 4], 4657, 128, false),
+    (0, &[DEEP], 496, 1 << 20, true),
+    (0, &[DEEP], 497, 128, false),
+    (0, &[DEEPER], 0, 128, false),
+    (512, &[SMALL; 3], 1, 128, true),
+    (512, &[SMALL; 4], 0, 128, false),
+    (512, &[], 496, 896, true),
+    (512, &[], 497, 896, false),
+    (512, &[], 1, 897, false),
+    (1152, &[], 1000, 2176, true),
+    (1151, &[], 1000, 2176, false),
+    (65_535, &[], 65_507, 128, true),
 ];
 
 #[test]
@@ -259,8 +267,8 @@ fn circle(rt: HostRuntime) {
 
 #[test]
 fn limits(rt: HostRuntime) {
-    for (row, (queue, n, wanted)) in FITS.iter().enumerate() {
+    for (row, (limit, queue, n, memory, wanted)) in FITS.iter().enumerate() {
         assert!(rt; queue.len() <= 325);
-        same(&rt, row, &fits(queue, *n), wanted);
+        same(&rt, row, &fits(*limit, queue, *n, *memory), wanted);
     }
 }

@@ -1,16 +1,22 @@
 -- Packets that arrive, for every rest of the machine (`ipintr` of volume 2, chapter 8; the form with a pool's view is
 -- this project's own).
-use Rattle.std.specs.Prelude.{◌≡◌, ℕ, List, [], ◌∷◌, length, count_by, Bool, true, false, None, ◌==◌, ◌||◌}
+use Rattle.std.specs.Prelude.{◌≡◌, ℕ, ◌+◌, ◌%◌, List, [], ◌∷◌, length, count_by, Bool, true, false, Option, Some, None, Result, Ok, Err, ◌==◌, ◌||◌}
+use Rattle.params.specs.declared.TheConstants.{FIRST_DESCRIPTOR, MAX_SOCKETS}
 use Rattle.flat_model.specs.Amounts.Weight.{Weight, ◌⊕◌, nothing}
 use Rattle.flat_model.specs.Machine.State.{State, Unfinished, ends, limited_broadcast, loopback}
 use Rattle.flat_model.specs.Machine.Ledger.{exact_ledger}
 use Rattle.flat_model.specs.Packets.Header.{head_fault, head_of}
-use Rattle.flat_model.specs.Machine.Arrival.{Origin, By_wire, FragmentArrives, Arrives, AllArrive, counts_packet, is_fragment}
+use Rattle.flat_model.specs.Machine.Arrival.{Origin, By_wire, FragmentArrivesAs, ArrivesAs, AllArrive, counts_packet, is_fragment}
+use Rattle.flat_model.specs.Machine.Fate.{mark, nobody, told}
 use Rattle.pcb_table.specs.Table.{Table}
 use Rattle.flat_model.specs.declared.counters.Counters.{Counters}
 use Rattle.flat_model.specs.declared.counters.Why.{Why}
+use Rattle.flat_model.specs.declared.counters.Why.TheVariants.{UdpFullSocket}
+use Rattle.flat_model.specs.declared.fate.Fate.{Fate}
+use Rattle.flat_model.specs.declared.fate.Fate.TheVariants.{Delivered, Kept, Completed, Dropped}
+use Rattle.flat_model.specs.declared.fate.Reached.{Reached}
 use Rattle.flat_model.specs.Amounts.Layout.{Need, is_cluster, entries_on, wire}
-use Rattle.flat_model.specs.Machine.Step.{ComesIn}
+use Rattle.flat_model.specs.Machine.Step.{ComesInAs}
 use Rattle.mbuf_chain.specs.Chain.{PoolView, alone, chain_of, string}
 use Rattle.chain_ops.specs.Makes.{Makes}
 use Rattle.chain_ops.specs.Stored.{AreFree, stored_first}
@@ -26,6 +32,9 @@ use Rattle.ip_reass.specs.Arrivals.{CameBy, carried_at, flat_head}
 use Rattle.ip_reass.specs.Table.{TableView, held_all, unfinished}
 use Rattle.sock_calls.specs.Sockets.{SocksView, with_net}
 use Rattle.sock_calls.specs.Delivery.{NetView, IsAccountedAt, KeepsParts, net_state}
+use Rattle.sock_calls.specs.Whole.{IsWireWeight}
+use Rattle.net_stack.specs.declared.host.Ending.{Ending}
+use Rattle.net_stack.specs.declared.host.Ending.TheVariants.{Got, Lost, Many, Waits, Joined, JoinedEnds, Ends}
 
 -- an address for which a machine with these two addresses accepts packets
 abbrev pub is_ours_or_all : ℕ → ℕ → ℕ → Bool
@@ -37,25 +46,52 @@ pub record IsHeadForUs (s : SocksView) (packet : List ℕ) (head : IpHead) : Typ
   pub says : head ≡ head_in packet
   pub ours : is_ours_or_all s.pcbs.addr s.pcbs.bcast head.dst ≡ true
 
+-- the fate of a packet that carries this whole datagram
+abbrev pub fate_of : Result Reached Why → Fate
+fate_of (Ok reached) = Delivered reached
+fate_of (Err why) = Dropped why
+
+-- ---- the fate of a packet that ended so, where the last datagram in a chain was for these sockets
+
+abbrev pub one_socket : ℕ → Option Why → Reached
+one_socket place lack = mark lack (FIRST_DESCRIPTOR + place % MAX_SOCKETS) nobody
+
+abbrev pub fate_by : Ending → Reached → Fate
+fate_by (Got place) reached = Delivered (one_socket place None)
+fate_by (Lost place) reached = Delivered (one_socket place (Some UdpFullSocket))
+fate_by Many reached = Delivered reached
+fate_by Waits reached = Kept
+fate_by Joined reached = Completed (Ok reached)
+fate_by (JoinedEnds why) reached = Completed (Err why)
+fate_by (Ends why) reached = Dropped why
+
+abbrev pub of_whole : Result Unit Why → Ending
+of_whole (Ok done) = Many
+of_whole (Err why) = Ends why
+
+abbrev pub of_completed : Result Unit Why → Ending
+of_completed (Ok done) = Joined
+of_completed (Err why) = JoinedEnds why
+
 -- chain c, a packet, ends for this cause, whatever else the machine has
 abbrev pub EndsInChain : PoolView → SocksView → ℕ → Why → Type 0
 EndsInChain p s c why = (us : List Unfinished) (a : Counters) (rest : State) (held : Weight) (origin : Origin)
-    → Arrives exact_ledger origin held (item_at p c) (with_net p s us a rest)
+    → ArrivesAs exact_ledger (told (Dropped why)) origin held (item_at p c) (with_net p s us a rest)
     (ends why (counts_packet (with_net p s us a rest)))
 
--- chain c arrived: a fragment with the header `head` and the length in that header
-pub record IsFragmentTaken (v : NetView) (c : ℕ) (head : IpHead) (u : NetView) : Type 0 where
+-- chain c arrived: a fragment with the header `head` and the length in that header. This became of it.
+pub record IsFragmentTaken (v : NetView) (c : ℕ) (head : IpHead) (fate : Fate) (u : NetView) : Type 0 where
   pub step : (rest : State) (held : Weight) (origin : Origin) → CameBy origin (chain_of v.pool c)
       → IsAccountedAt v rest (held ⊕ weight_at v.pool c)
-      → FragmentArrives exact_ledger origin held (flat_head head) (carried_at v.pool c) (net_state v rest)
-      (net_state u rest)
+      → FragmentArrivesAs exact_ledger (told fate) origin held (flat_head head) (carried_at v.pool c)
+      (net_state v rest) (net_state u rest)
   pub parts : KeepsParts v (c ∷ []) u []
 
--- chain c, a packet, arrived
-pub record IsArrived (v : NetView) (c : ℕ) (u : NetView) : Type 0 where
+-- chain c, a packet, arrived, and this became of it
+pub record IsArrived (v : NetView) (c : ℕ) (fate : Fate) (u : NetView) : Type 0 where
   pub step : (rest : State) (held : Weight) (origin : Origin) → CameBy origin (chain_of v.pool c)
       → IsAccountedAt v rest (held ⊕ weight_at v.pool c)
-      → Arrives exact_ledger origin held (item_at v.pool c) (net_state v rest) (net_state u rest)
+      → ArrivesAs exact_ledger (told fate) origin held (item_at v.pool c) (net_state v rest) (net_state u rest)
   pub parts : KeepsParts v (c ∷ []) u []
 
 -- The packets of a train arrived, one after another.
@@ -83,10 +119,10 @@ pub record IsPacketStored (p : PoolView) (bytes : List ℕ) (q : PoolView) (c : 
       ≡ entries_on clusters (wire (length bytes))
   pub bytes_are : string (chain_of q c) ≡ bytes
 
--- these bytes came from the wire, into new buffers, or into none if the pool had too few
-pub record HasCome (v : NetView) (packet : List ℕ) (u : NetView) : Type 0 where
+-- these bytes came from the wire, into new buffers, or into none if the pool had too few, and this became of them
+pub record HasCome (v : NetView) (packet : List ℕ) (fate : Fate) (u : NetView) : Type 0 where
   pub step : (rest : State) → IsAccountedAt v rest nothing
-      → ComesIn exact_ledger packet (net_state v rest) (net_state u rest)
+      → ComesInAs exact_ledger (told fate) packet (net_state v rest) (net_state u rest)
   pub parts : KeepsParts v [] u []
 
 -- the pool was tested for a packet's buffers, and if they weren't free, the unfinished datagrams were freed
@@ -97,11 +133,13 @@ pub record IsAsked (p : PoolView) (r : TableView) (a : Counters) (need : Need) (
       → Reserves s held need answer (record s { unfinished = unfinished q t.datagrams; counters = b }) q
   pub moves : Moves p (held_all p r.datagrams) q (held_all q t.datagrams)
 
--- a packet whose buffers are free is dropped for this cause, whichever buffers these are
-abbrev pub EndsFor : NetView → List ℕ → Why → Type 0
-EndsFor v packet why =
-    (rest : State) (w : Weight) → Arrives exact_ledger (By_wire (length packet)) nothing
-    (record { bytes = packet; weight = w }) (net_state v rest) (ends why (counts_packet (net_state v rest)))
+-- This becomes of a packet whose buffers are free, and only the cause is counted, whichever clusters these are.
+abbrev pub EndsFor : NetView → List ℕ → Fate → Why → Type 0
+EndsFor v packet fate why =
+    (rest : State) (w : Weight) → IsWireWeight (length packet) w
+    → ArrivesAs exact_ledger (told fate) (By_wire (length packet)) nothing (record { bytes = packet; weight = w })
+    (net_state v rest)
+    (ends why (counts_packet (net_state v rest)))
 
 -- a packet for the machine with these control blocks that isn't a fragment
 pub record IsWholeForUs (t : Table) (packet : List ℕ) : Type 0 where

@@ -2,6 +2,8 @@
 use Rattle.std.specs.Prelude.{◌≡◌, ℕ, Bool, List, [], ◌++◌, length, Result, Ok, Err}
 use Rattle.flat_model.specs.Amounts.Layout.{Need}
 use Rattle.flat_model.specs.declared.counters.Why.{Why}
+use Rattle.flat_model.specs.declared.fate.Fate.{Fate}
+use Rattle.flat_model.specs.declared.fate.Fate.TheVariants.{Dropped}
 use Rattle.mbuf_chain.specs.Owners.{IsOwned}
 use Rattle.mbuf_chain.specs.Train.{TrainView}
 use Rattle.ip_out.specs.declared.head.IpHead.{IpHead}
@@ -12,7 +14,8 @@ use Rattle.sock_calls.specs.Delivery.{NetView, chains_at}
 use Rattle.sock_calls.specs.Whole.{HasWire}
 use Rattle.sock_calls.specs.Outgoing.{CanSend, SendView}
 use Rattle.net_stack.specs.declared.host.Host.{Host}
-use Rattle.net_stack.specs.Inside.Arrivals.{EndsFor, HasCome, HaveArrived, IsArrived, IsAsked, IsFragmentTaken}
+use Rattle.net_stack.specs.declared.host.Ending.{Ending}
+use Rattle.net_stack.specs.Inside.Arrivals.{fate_by, EndsFor, HasCome, HaveArrived, IsArrived, IsAsked, IsFragmentTaken}
 use Rattle.net_stack.specs.Inside.Sending.{out_chains}
 
 -- the parts that an arrival reads and changes
@@ -68,21 +71,22 @@ pub record LeavesHost (h : Host) (what : NetView → NetView → Type 0) (k : Ho
   pub reass : IsReady k.pool k.reass
   pub output : KeepsOutput h.net k.net
 
--- what may arrive: a packet's bytes from the wire, a packet in a chain, those of a train, and a fragment
-abbrev pub PacketArrives : Host → List ℕ → Host → Type 0
-PacketArrives h packet k = LeavesHost h (λ v u. HasCome v packet u) k
+-- what may arrive, and what becomes of it: a packet's bytes from the wire, a packet in a chain, those of a train, and a
+-- fragment
+abbrev pub PacketArrives : Host → List ℕ → Fate → Host → Type 0
+PacketArrives h packet fate k = LeavesHost h (λ v u. HasCome v packet fate u) k
 
 -- the result for a packet from the wire: it came, or nothing has changed, and it's dropped for this cause whichever
 -- buffers it would take
-abbrev pub IsProcessed : Host → List ℕ → Host → Result Unit Why → Type 0
-IsProcessed h packet k (Ok done) = PacketArrives h packet k
-IsProcessed h packet k (Err why) = (k ≡ h) × EndsFor (arrival_view h) packet why
+abbrev pub IsProcessed : Host → List ℕ → Host → Result Ending Why → Type 0
+IsProcessed h packet k (Ok ending) = PacketArrives h packet (fate_by ending k.reached) k
+IsProcessed h packet k (Err why) = (k ≡ h) × EndsFor (arrival_view h) packet (Dropped why) why
 
-abbrev pub ArrivesInChain : Host → ℕ → Host → Type 0
-ArrivesInChain h c k = LeavesHost h (λ v u. IsArrived v c u) k
+abbrev pub ArrivesInChain : Host → ℕ → Fate → Host → Type 0
+ArrivesInChain h c fate k = LeavesHost h (λ v u. IsArrived v c fate u) k
 
 abbrev pub TrainArrives : Host → TrainView → Host → Type 0
 TrainArrives h t k = LeavesHost h (λ v u. HaveArrived v t u) k
 
-abbrev pub FragmentIsTaken : Host → ℕ → IpHead → Host → Type 0
-FragmentIsTaken h c head k = LeavesHost h (λ v u. IsFragmentTaken v c head u) k
+abbrev pub FragmentIsTaken : Host → ℕ → IpHead → Fate → Host → Type 0
+FragmentIsTaken h c head fate k = LeavesHost h (λ v u. IsFragmentTaken v c head fate u) k

@@ -8,11 +8,24 @@ use Rattle.pcb_table.specs.declared.block.Connection.{Connection}
 
 -- a new socket's (section 22.4)
 abbrev pub unbound_block : ℕ → Block
-unbound_block fd = record { fd = fd; local = None; port = None; peer = None; broadcast = false; reuse_port = false }
+unbound_block fd =
+    record {
+      fd = fd;
+      local = None;
+      port = None;
+      peer = None;
+      broadcast = false;
+      reuse_port = false;
+      receive_limit = 0;
+    }
 
 abbrev pub block_with_option : Opt → Bool → Block → Block
 block_with_option Broadcast on b = record b { broadcast = on }
 block_with_option ReusePort on b = record b { reuse_port = on }
+
+-- `sbreserve` (chapter 16)
+abbrev pub limited_block : ℕ → Block → Block
+limited_block limit b = record b { receive_limit = limit }
 
 -- section 22.7
 abbrev pub bound_block : Option ℕ → ℕ → Block → Block

@@ -19,6 +19,11 @@ name_of_block (Some b) = Ok (record {
   reuse_port = b.reuse_port;
 })
 
+-- the size of the receive queue in a control block
+abbrev pub limit_of_block : Option Block → Result ℕ Errno
+limit_of_block None = Err BadDescriptor
+limit_of_block (Some b) = Ok b.receive_limit
+
 -- a datagram waits in the queue at the place
 abbrev pub waits_at : PoolView → List SockBufView → ℕ → Bool
 waits_at p bs k = not (length (queues_of p bs k) == 0)

@@ -1,6 +1,6 @@
 -- The data of a packet from the wire, in a new chain (this project's own).
-use Rattle.std.specs.Prelude.{◌≡◌, ℕ, ◌+◌, if◌then◌else◌, Bool, true, false, List, [], ◌∷◌, ◌++◌, length, take, drop, count_by, Option, None, Result, Ok, Err}
-use Rattle.params.specs.declared.TheConstants.{IP_UDP_HEADERS, MBUF_HEADER, PACKET_START}
+use Rattle.std.specs.Prelude.{◌≡◌, ℕ, ◌+◌, if◌then◌else◌, Bool, true, false, List, [], ◌∷◌, ◌++◌, length, take, drop, count_by, Option, Some, None, option_map, Result, Ok, Err}
+use Rattle.params.specs.declared.TheConstants.{IP_UDP_HEADERS, MBUF_HEADER, MCLBYTES, MSIZE, PACKET_START}
 use Rattle.flat_model.specs.Amounts.Layout.{is_cluster, entries_on, weight_of, wire}
 use Rattle.flat_model.specs.Amounts.Weight.{Item}
 use Rattle.mbuf_chain.specs.Chain.{Entry, PoolView}
@@ -12,6 +12,8 @@ use Rattle.flat_model.specs.declared.address.Addr.{Addr}
 use Rattle.flat_model.specs.declared.counters.Why.{Why}
 use Rattle.flat_model.specs.declared.counters.Why.TheVariants.{UdpFullSocket}
 use Rattle.ledger.specs.Accounts.{item_at}
+use Rattle.pcb_table.specs.declared.block.Block.{Block}
+use Rattle.pcb_table.specs.Table.{Table, block_at}
 use Rattle.sockbuf.specs.SockBuf.{SockBufView}
 use Rattle.sockbuf.specs.Stored.{IsTaken, stored_datagram, stored_packet}
 use Rattle.sock_calls.specs.declared.one_packet.TheConstants.{MOST_IN_MBUF}
@@ -43,10 +45,15 @@ two_entries bytes =
 abbrev pub data_start : Bool → ℕ
 data_start is_large = if is_large then IP_UDP_HEADERS else PACKET_START + IP_UDP_HEADERS
 
--- Bytes that fit into queue fd are its newest datagram, in one mbuf, with or without a cluster that was free.
-pub record IsStoredAt (p : PoolView) (bs : List SockBufView) (fd : ℕ) (sender : Addr) (is_large : Bool)
+-- the memory of such an mbuf
+abbrev pub data_memory : Bool → ℕ
+data_memory is_large = if is_large then MSIZE + MCLBYTES else MSIZE
+
+-- Bytes that fit into queue fd, which has this limit, are its newest datagram, in one mbuf, with or without a cluster
+-- that was free.
+pub record IsStoredAt (limit : ℕ) (p : PoolView) (bs : List SockBufView) (fd : ℕ) (sender : Addr) (is_large : Bool)
     (bytes : List ℕ) (q : PoolView) (cs : List SockBufView) : Type 0 where
-  pub fits : fits (queues_of p bs fd) (length bytes) ≡ true
+  pub fits : fits limit (queues_of p bs fd) (length bytes) (data_memory is_large) ≡ true
   pub steps : StepsAt p [] bs fd q [] cs
   pub cluster : Option ℕ
   pub taken : IsTaken p is_large cluster
@@ -55,14 +62,20 @@ pub record IsStoredAt (p : PoolView) (bs : List SockBufView) (fd : ℕ) (sender 
       ++ stored_packet number sender bytes (data_start is_large) cluster ∷ [])
 
 -- The bytes don't fit into queue fd, and nothing has changed.
-pub record IsFullAt (p : PoolView) (bs : List SockBufView) (fd : ℕ) (bytes : List ℕ) (why : Why) (q : PoolView)
+pub record IsFullAt (limit : ℕ) (p : PoolView) (bs : List SockBufView) (fd : ℕ) (is_large : Bool) (bytes : List ℕ)
+    (why : Why) (q : PoolView)
     (cs : List SockBufView) : Type 0 where
-  pub over : fits (queues_of p bs fd) (length bytes) ≡ false
+  pub over : fits limit (queues_of p bs fd) (length bytes) (data_memory is_large) ≡ false
   pub cause : why ≡ UdpFullSocket
   pub pool : q ≡ p
   pub queues : cs ≡ bs
 
-abbrev pub StoresAtEnd : PoolView → List SockBufView → ℕ → Addr → Bool → List ℕ → PoolView → List SockBufView
+-- the queue of a descriptor without a limit of its own is too full for n bytes
+pub record IsFullUnset (p : PoolView) (t : Table) (bs : List SockBufView) (fd n : ℕ) : Type 0 where
+  pub limit : option_map (λ (b : Block). b.receive_limit) (block_at fd t) ≡ Some 0
+  pub over : fits 0 (queues_of p bs fd) n 0 ≡ false
+
+abbrev pub StoresAtEnd : ℕ → PoolView → List SockBufView → ℕ → Addr → Bool → List ℕ → PoolView → List SockBufView
     → Result Unit Why → Type 0
-StoresAtEnd p bs fd sender is_large bytes q cs (Ok done) = IsStoredAt p bs fd sender is_large bytes q cs
-StoresAtEnd p bs fd sender is_large bytes q cs (Err why) = IsFullAt p bs fd bytes why q cs
+StoresAtEnd limit p bs fd sender is_large bytes q cs (Ok done) = IsStoredAt limit p bs fd sender is_large bytes q cs
+StoresAtEnd limit p bs fd sender is_large bytes q cs (Err why) = IsFullAt limit p bs fd is_large bytes why q cs

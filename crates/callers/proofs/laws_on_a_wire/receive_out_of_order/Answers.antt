@@ -12,6 +12,7 @@ returns c =
     c.give.ensures.given c.give-late_len.ensures.given c.give-early_len.ensures.given
     c.in-Ok.ensures.booted.1 c.socket-2.ensures c.bind.ensures c.hand_over.ensures c.hand_over-2.ensures
     c.hand_over-3.ensures in
-    all_received c.calls_are_run.ensures c.stacks_on_a_wire.ensures.received c.in_ok-first.ensures.booted.0
-    c.in-Ok.ensures.booted.0 c.recvfrom-answer.new.self calls c.recvfrom-answer.ensures.step
+    all_received c.calls_are_run.ensures c.stacks_on_a_wire.ensures.received c.stacks_on_a_wire_for_ever.ensures.whole
+    c.in_ok-first.ensures.booted.0 c.in-Ok.ensures.booted.0 c.recvfrom-answer.new.self calls
+    c.recvfrom-answer.ensures.step
     (ap (value_of IpLocalout) (sym (counted _ _ c.counters.ensures.0)) ∙ sym c.value-sends.ensures)

@@ -12,9 +12,9 @@ returns-in-Covered-clause-layout c =
     (ap is_left c.in-Covered.is) c.insert_in.ensures.inserts refl
 
 pub returns-in-Waits-clause-step : goal.returns-in-Waits-clause-step
-returns-in-Waits-clause-step c = λ rest held new here most is.
+returns-in-Waits-clause-step c = λ fate rest held new here most is.
     lent_kept (lent_table c.args.table.now.len c.requires.place c.as_mut_slice.ensures.len c.as_mut_slice.ensures.value
-    (ap is_left c.in-Waits.is) c.insert_in.ensures.inserts refl) rest held (key_in c.args.fragment.head)
+    (ap is_left c.in-Waits.is) c.insert_in.ensures.inserts refl) fate rest held (key_in c.args.fragment.head)
     c.args.counters.now new c.requires.place here most c.in-Waits.ensures.whole is
 
 -- ---- the datagram is whole
@@ -44,8 +44,8 @@ pub overflow_cast-result : goal.overflow_cast-result
 overflow_cast-result c = omega (arith, short c)
 
 pub returns-clause-step : goal.returns-clause-step
-returns-clause-step c = λ rest held new here most goes.
-    (whole c).step rest held (key_in c.args.fragment.head) c.args.counters.now c.count.new.self new here most
+returns-clause-step c = λ fate rest held new here most goes.
+    (whole c).step fate rest held (key_in c.args.fragment.head) c.args.counters.now c.count.new.self new here most
     c.count.ensures goes
 
 pub returns-clause-moves : goal.returns-clause-moves

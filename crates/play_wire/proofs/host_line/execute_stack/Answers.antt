@@ -1,5 +1,5 @@
 use Rattle.std.proofs.Common.{None, Some, [], List, ℕ, ap, refl, replicate, subst}
-use Rattle.flat_model.specs.Machine.Event.{Tick, Done}
+use Rattle.flat_model.specs.Machine.Event.{Set_limit, Tick, Done}
 use Rattle.flat_model.specs.Scripts.Grammar.{words}
 use Rattle.request.specs.Replies.{reply_of}
 use Rattle.request.specs.Requests.{event_of}
@@ -23,6 +23,20 @@ returns-in-Call c =
     c.set_reply.new.self.reply_line c.set_reply.new.self.below
     (event_of c.in-Call.request) (reply_of c.call-reply.result) before after asked c.call-reply.ensures.step
     (c.snapshot_of-before.ensures, c.snapshot_of-after.ensures) c.set_reply.ensures.reply_line
+
+pub returns-in-Limit : goal.returns-in-Limit
+unfolding StackSteps
+returns-in-Limit c =
+    let event = Set_limit c.in-Limit.fd c.in-Limit.limit in
+    let asked : AsksFor (plain_line c.args.line.now) (Some (asks.Call event)) =
+    subst (λ (a : Ask). AsksFor (plain_line c.args.line.now) (Some (ask_of a))) c.in-Limit.is c.in-Some.ensures.asks in
+    let before = c.snapshot_of-before-in-Limit.result in
+    let after = c.snapshot_of-after-in-Limit.result in
+    answered_by_call (plain_line c.args.line.now) c.args.stack.now c.set_limit-reply.new.stack
+    c.set_reply-in-Limit.new.self.reply_line c.set_reply-in-Limit.new.self.below event
+    (reply_of c.set_limit-reply.result) before after asked c.set_limit-reply.ensures.step
+    (c.snapshot_of-before-in-Limit.ensures, c.snapshot_of-after-in-Limit.ensures)
+    c.set_reply-in-Limit.ensures.reply_line
 
 pub returns-in-Ticks : goal.returns-in-Ticks
 unfolding StackSteps

@@ -1,4 +1,4 @@
-use Rattle.std.proofs.Common.{◌≡◌, ◌∙◌, ap, length, map, arith}
+use Rattle.std.proofs.Common.{◌≡◌, length, map, arith}
 use Rattle.std.specs.Prelude.{slice_get}
 use Rattle.ether_host.specs.Inside.{link_seen}
 use Rattle.segment.specs.Frames.{frames_received}
@@ -13,8 +13,7 @@ loop-place-preserved c =
     walk_on (λ place t u. u ≡ with_received
     (length (frames_received place (slice_get (map link_seen c.args.links.now) place) (map flying c.args.due.now)))
     t) c.args.tallies.now.items c.loop-place.tallies.items c.loop-place.place
-    s c.with_received.result s c.loop-place.invariant (omega arith) c.index.ensures
-    (c.with_received.ensures ∙ ap (λ n. with_received n s) c.received_count-frames.ensures)
+    s c.counted.result s c.loop-place.invariant (omega arith) c.index.ensures c.counted.ensures
 
 pub returns : goal.returns
 returns c =

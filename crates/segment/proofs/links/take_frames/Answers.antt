@@ -35,7 +35,7 @@ loop-preserved g c =
     let h = halves c.loop.stack (link_seen c.loop.link) in
     let k = halves c.give.new.stack (link_seen c.give.new.link) in
     let hand = c.give.new.self in
-    let f = take hand.len hand.room in
+    let f = take hand.len hand.room.value in
     let step : (Some f, k) ≡ gives_short h =
     ap (λ (b : Bool). (if b then Some f else None, k)) (sym c.if-not-give.false) ∙ c.give.ensures.step in
     let is : flying hand ≡ record { sender = c.args.sender; packet = f; wait = 0 } =
@@ -62,7 +62,7 @@ ended g c =
     so_far_end FRAMES (halves c.args.stack.now (link_seen c.args.link.now)) (FRAMES - c.loop.counter) h k
     c.loop.invariant.given c.loop.invariant.so_far
     (given_end (FRAMES - c.loop.counter) (FRAMES - (c.loop.counter + 1)) h k (omega arith)
-    (ap (λ (b : Bool). (if b then Some (take hand.len hand.room) else None, k)) (sym c.if-not-give.true)
+    (ap (λ (b : Bool). (if b then Some (take hand.len hand.room.value) else None, k)) (sym c.if-not-give.true)
     ∙ c.give.ensures.step))
 
 given_then : (g : _) (c : goal.Then-not-give g)

@@ -28,13 +28,16 @@ bad c =
     c.args.chain c.requires.owned (moves_none _ _)) c.requires.ready.table c.free_chain.ensures
 
 pub returns-then-is_bad-clause-step : goal.returns-then-is_bad-clause-step
-returns-then-is_bad-clause-step c = λ rest held new acc is.
+returns-then-is_bad-clause-step c = λ fate rest held new acc is.
     let fr = bad (goal.at.returns-then-is_bad-clause-step c).After-free_chain in
-    arrives_bad held (with_waiting c.args.pool.now c.args.self.now.datagrams c.args.counters.now rest) new c.args.head
+    arrives_bad fate held (with_waiting c.args.pool.now c.args.self.now.datagrams c.args.counters.now rest) new
+    c.args.head
     (chain_of c.args.pool.now c.args.chain)
     (ap (λ (n : ℕ). is_bad_fragment (flat_head c.args.head) (n - 20)) (sym c.requires.total ∙ sym c.len-len.ensures)
-    ∙ (sym c.is_bad.ensures ∙ c.if-is_bad.true)) (is
-    ∙ (λ j. record rest { unfinished = fr.shows j; counters = c.count_ended.ensures j }))
+    ∙ (sym c.is_bad.ensures ∙ c.if-is_bad.true)) (
+      is.0,
+      is.1 ∙ (λ j. record rest { unfinished = fr.shows j; counters = c.count_ended.ensures j }),
+    )
 
 pub returns-then-is_bad-clause-accounts : goal.returns-then-is_bad-clause-accounts
 returns-then-is_bad-clause-accounts c = λ rest held acc.
@@ -71,7 +74,7 @@ long : (c : After-pull_up) → length (string (chain_of c.args.pool.now c.args.c
 long c = omega (arith, c.len-len.ensures, c.requires.total, c.requires.header)
 
 pub returns-in_default-clause-step : goal.returns-in_default-clause-step
-returns-in_default-clause-step c = λ rest held new acc is.
+returns-in_default-clause-step c = λ fate rest held new acc is.
     let is_sound = sound (goal.at.returns-in_default-clause-step c).After-pull_up in
     elim (cases_Bool (is_some (entry_of (chain_of c.args.pool.now c.args.chain) 0).cluster)) [
       | inr plain ↦ absurd (none-some c.args.chain (sym c.in_default.is ∙ (c.pull_up.ensures.plain plain).3))
@@ -80,7 +83,7 @@ returns-in_default-clause-step c = λ rest held new acc is.
           c.pull_up.ensures.tested cluster rest held
           (accounted_counters c.args.pool.now c.args.self.now.datagrams c.args.counters.now c.count.new.self rest
           (held ⊕ weight_at c.args.pool.now c.args.chain) acc) in
-          none_cluster rest held new c.args.head c.args.pool.now c.pull_up.new.pool c.args.self.now.datagrams
+          none_cluster fate rest held new c.args.head c.args.pool.now c.pull_up.new.pool c.args.self.now.datagrams
           c.pull_up.new.self.datagrams c.args.counters.now c.count.new.self c.pull_up.new.counters c.args.chain
           (is_some c.pull_up.result) is_sound c.count.ensures cluster tested (ap is_some c.in_default.is) is
     ]
@@ -135,7 +138,7 @@ insert_or_begin-requires c =
     }
 
 pub returns-clause-step : goal.returns-clause-step
-returns-clause-step c = λ rest held new acc goes.
+returns-clause-step c = λ fate rest held new acc goes.
     let at = (goal.at.returns-clause-step c).After-trim_front in
     let is_sound = sound (goal.at.returns-clause-step c).After-pull_up in
     let acc' =
@@ -144,11 +147,11 @@ returns-clause-step c = λ rest held new acc goes.
     c.args.self.now.datagrams c.pull_up.new.self.datagrams c.args.counters.now c.pull_up.new.counters acc
     (moves_trans (moved at) (trimmed at).moves) c.requires.owned c.requires.ready.table (trimmed at).table (one_weighs c.args.pool.now c.args.chain)
     (one_weighs c.trim_front.new.pool c.in-Some.chain) in
-    let joins = c.insert_or_begin.ensures.step rest held new acc' goes in
+    let joins = c.insert_or_begin.ensures.step fate rest held new acc' goes in
     elim (cases_Bool (is_some (entry_of (chain_of c.args.pool.now c.args.chain) 0).cluster)) [
       | inr plain ↦
           let same = c.pull_up.ensures.plain plain in
-          some_plain rest held new c.args.head c.args.pool.now c.pull_up.new.pool c.trim_front.new.pool
+          some_plain fate rest held new c.args.head c.args.pool.now c.pull_up.new.pool c.trim_front.new.pool
           c.args.self.now.datagrams c.pull_up.new.self.datagrams c.args.counters.now c.count.new.self
           c.pull_up.new.counters c.args.chain c.in-Some.chain is_sound c.count.ensures c.in-Some.ensures.entries (trimmed at) joins
           plain
@@ -161,7 +164,7 @@ returns-clause-step c = λ rest held new acc goes.
           (c.pull_up.ensures.tested cluster rest held
           (accounted_counters c.args.pool.now c.args.self.now.datagrams c.args.counters.now c.count.new.self rest
           (held ⊕ weight_at c.args.pool.now c.args.chain) acc)) in
-          some_cluster rest held new c.args.head c.args.pool.now c.pull_up.new.pool c.trim_front.new.pool
+          some_cluster fate rest held new c.args.head c.args.pool.now c.pull_up.new.pool c.trim_front.new.pool
           c.args.self.now.datagrams c.pull_up.new.self.datagrams c.args.counters.now c.count.new.self
           c.pull_up.new.counters c.args.chain c.in-Some.chain is_sound c.count.ensures c.in-Some.ensures.entries (trimmed at) joins
           cluster

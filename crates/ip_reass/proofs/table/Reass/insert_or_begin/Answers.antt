@@ -1,3 +1,4 @@
+use Rattle.flat_model.specs.Machine.Fate.{told}
 use Rattle.std.proofs.Common.{◌+◌, ◌<◌, ◌≤◌, ◌++◌, ◌∷◌, ◌∙◌, ℕ, length, refl, sym, ap, subst, arith}
 use Rattle.mbuf_chain.specs.Chain.{ChainView, string}
 use Rattle.mbuf_chain.specs.Owners.{Moves}
@@ -32,8 +33,9 @@ lacks c =
     c.place_of.result c.key_of.ensures c.in_default.is c.place_of.ensures c.free_chain.ensures
 
 pub returns-in_default-clause-step : goal.returns-in_default-clause-step
-returns-in_default-clause-step c = λ rest held new acc is.
-    (lacks c).step rest held new c.args.head.offset c.args.head.more c.count_ended.new.self acc c.count_ended.ensures is
+returns-in_default-clause-step c = λ fate rest held new acc is.
+    (lacks c).step fate rest held new c.args.head.offset c.args.head.more c.count_ended.new.self acc
+    c.count_ended.ensures is
 
 pub returns-in_default-clause-layout : goal.returns-in_default-clause-layout
 returns-in_default-clause-layout c = record {
@@ -88,11 +90,11 @@ returns-in-Kept-clause-layout c =
     (s.layout _ _ _ _ _ c.insert_and_count-arrival.ensures.layout)
 
 pub returns-in-Kept-clause-step : goal.returns-in-Kept-clause-step
-returns-in-Kept-clause-step c = λ rest held new acc goes.
+returns-in-Kept-clause-step c = λ fate rest held new acc goes.
     let s = there (goal.at.returns-in-Kept-clause-step c).After-insert_and_count-arg-3-1 in
-    s.step rest held new c.args.head.offset c.args.head.more acc
-    (λ here most. c.insert_and_count-arrival.ensures.step rest held new here most
-    (subst (λ (r : Arrival). GoesOn held c.insert_and_count-arrival.new.pool r
+    s.step fate rest held new c.args.head.offset c.args.head.more acc
+    (λ here most. c.insert_and_count-arrival.ensures.step fate rest held new here most
+    (subst (λ (r : Arrival). GoesOn (told fate) held c.insert_and_count-arrival.new.pool r
     (with_waiting c.insert_and_count-arrival.new.pool c.insert_and_count-arrival.new.table.items
     c.insert_and_count-arrival.new.counters rest) new) (sym c.in-Kept.is) goes))
 
@@ -143,10 +145,10 @@ returns-clause-layout c =
     s.layout _ _ _ _ _ c.insert_and_count-arrival.ensures.layout
 
 pub returns-clause-step : goal.returns-clause-step
-returns-clause-step c = λ rest held new acc goes.
+returns-clause-step c = λ fate rest held new acc goes.
     let s = there (goal.at.returns-clause-step c).After-insert_and_count-arg-3-1 in
-    s.step rest held new c.args.head.offset c.args.head.more acc
-    (λ here most. c.insert_and_count-arrival.ensures.step rest held new here most goes)
+    s.step fate rest held new c.args.head.offset c.args.head.more acc
+    (λ here most. c.insert_and_count-arrival.ensures.step fate rest held new here most goes)
 
 pub returns-clause-whole : goal.returns-clause-whole
 returns-clause-whole c = c.insert_and_count-arrival.ensures.whole

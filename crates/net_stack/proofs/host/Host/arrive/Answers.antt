@@ -1,8 +1,15 @@
-use Rattle.std.proofs.Common.{ℕ, true, refl, List, length, sym, ap, ◌∙◌, arith}
+use Rattle.std.proofs.Common.{ℕ, true, refl, List, length, subst, sym, ap, ◌∙◌, arith}
 use Rattle.std.proofs.lemmas.List.{length-drop}
 use Rattle.mbuf_chain.specs.Chain.{Entry, chain_of, flat_bytes, string, with_chain}
 use Rattle.chain_ops.specs.Trims.{only_first, without_first}
 use Rattle.chain_ops.proofs.Laws.Strings.{without_first_bytes}
+use Rattle.flat_model.specs.declared.fate.Fate.{Fate}
+use Rattle.sock_calls.specs.Delivery.{NetView}
+use Rattle.net_stack.specs.Inside.Arrivals.{IsArrived, fate_by}
+use Rattle.net_stack.specs.Inside.Hosts.{arrival_view}
+use Rattle.net_stack.specs.declared.host.Ending.{Ending}
+use Rattle.net_stack.proofs.Aside.{host_view}
+use Rattle.net_stack.proofs.Endings.{told_whole_by}
 use Rattle.ip_reass.specs.Table.{unfinished}
 use Rattle.net_stack.proofs.ArriveLemmas.{IsChanged, IsForUs, changed, freed, ends_here, for_us, cut_length, fragment_arrives, whole_arrives}
 use Rattle.net_stack.proofs.host.Host.arrive.Goals as goal
@@ -63,36 +70,42 @@ off c is =
     changed c.args.chain (without_first 20 (chain_of c.trim_back.new.pool c.args.chain).entries)
     is.cut.beside.owned is.cut.beside.reass.table is.cut.beside.socks.ready c.trim_front.ensures
 
-pub input-requires-clause-fit : goal.input-requires-clause-fit
-input-requires-clause-fit c =
-    let at = goal.at.input-requires-clause-fit c in
+pub input-whole-requires-clause-fit : goal.input-whole-requires-clause-fit
+input-whole-requires-clause-fit c =
+    let at = goal.at.input-whole-requires-clause-fit c in
     let x = off at.After-trim_front (cut at.After-trim_back) in
     record { socks = x.beside.socks.ready; owned = x.beside.owned }
 
-pub input-requires-clause-waits : goal.input-requires-clause-waits
-input-requires-clause-waits c =
-    let at = goal.at.input-requires-clause-waits c in
+pub input-whole-requires-clause-waits : goal.input-whole-requires-clause-waits
+input-whole-requires-clause-waits c =
+    let at = goal.at.input-whole-requires-clause-waits c in
     (off at.After-trim_front (cut at.After-trim_back)).beside.reass.table
 
-pub input-requires-clause-most : goal.input-requires-clause-most
-input-requires-clause-most c =
+pub input-whole-requires-clause-most : goal.input-whole-requires-clause-most
+input-whole-requires-clause-most c =
     omega (
       arith,
       ap (λ (es : List Entry). length (flat_bytes es))
-          (off (goal.at.input-requires-clause-most c).After-trim_front
-          (cut (goal.at.input-requires-clause-most c).After-trim_back)).entries,
+          (off (goal.at.input-whole-requires-clause-most c).After-trim_front
+          (cut (goal.at.input-whole-requires-clause-most c).After-trim_back)).entries,
       ap (λ (xs : List ℕ). length xs) (without_first_bytes 20 (chain_of c.trim_back.new.pool c.args.chain).entries),
       length-drop 20 (string (chain_of c.trim_back.new.pool c.args.chain)),
       cut_length {a = c.args.self.now.net.counters} {b = c.count.new.self}
-          (cut (goal.at.input-requires-clause-most c).After-trim_back),
+          (cut (goal.at.input-whole-requires-clause-most c).After-trim_back),
     )
 
 pub returns-else-is_fragment : goal.returns-else-is_fragment
-returns-else-is_fragment c = record {
-  does = whole_arrives (cut (goal.at.returns-else-is_fragment c).After-trim_back)
-      (sym c.is_fragment.ensures ∙ c.if-is_fragment.false) (off (goal.at.returns-else-is_fragment c).After-trim_front
-      (cut (goal.at.returns-else-is_fragment c).After-trim_back))
-      c.input.ensures.input;
-  reass = c.input.ensures.waits;
-  output = refl;
-}
+returns-else-is_fragment c =
+    let d = c.input-whole.new in
+    let now : NetView = host_view d.pool d.self d.waiting d.counters in
+    record {
+      does = subst (λ (f : Fate). IsArrived (arrival_view c.args.self.now) c.args.chain f now)
+          (sym (ap (λ (e : Ending). fate_by e d.reached) c.of_whole.ensures
+          ∙ told_whole_by c.input-whole.result d.reached))
+          (whole_arrives (cut (goal.at.returns-else-is_fragment c).After-trim_back)
+          (sym c.is_fragment.ensures ∙ c.if-is_fragment.false) (off (goal.at.returns-else-is_fragment c).After-trim_front
+          (cut (goal.at.returns-else-is_fragment c).After-trim_back))
+          c.input-whole.ensures.input);
+      reass = c.input-whole.ensures.waits;
+      output = refl;
+    }

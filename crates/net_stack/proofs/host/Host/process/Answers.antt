@@ -6,6 +6,7 @@ use Rattle.flat_model.specs.Amounts.Weight.{nothing}
 use Rattle.flat_model.specs.Machine.Arrival.{By_wire, is_fragment}
 use Rattle.flat_model.specs.Packets.Header.{head_fault, head_of}
 use Rattle.flat_model.specs.declared.counters.Why.TheVariants.{CantForward}
+use Rattle.flat_model.specs.declared.fate.Fate.TheVariants.{Dropped}
 use Rattle.sock_calls.specs.Delivery.{net_state}
 use Rattle.net_stack.specs.Inside.Arrivals.{is_ours_or_all}
 use Rattle.net_stack.specs.Inside.Hosts.{arrival_view}
@@ -44,8 +45,9 @@ returns-then-not-is_for_us c =
     ap (λ (x : IpHead). is_ours_or_all u.socks.pcbs.addr u.socks.pcbs.bcast x.dst) (sym c.head-head.ensures)
     ∙ sym c.is_for_us.ensures ∙ c.if-not-is_for_us.true in
     record {
-      does = ended {a = u.net.counters} packet CantForward fit.socks fit.reass fit.owned c.requires.can.wire.free
-          (λ rest w. forwarded packet (By_wire (length packet)) nothing w (net_state (arrival_view u) rest)
+      does = ended {a = u.net.counters} (Dropped CantForward) packet CantForward fit.socks fit.reass fit.owned
+          c.requires.can.wire.free
+          (λ rest w weighs. forwarded packet (By_wire (length packet)) nothing w (net_state (arrival_view u) rest)
           (subst (λ (xs : List ℕ). head_fault xs ≡ None) c.in_ok-headed.ensures.ok
           c.in_ok-headed.headed.is_headed.faultless)
           (subst (λ (xs : List ℕ). is_ours xs ≡ false) c.in_ok-headed.ensures.ok other)) refl c.count_dropped.ensures;
@@ -59,6 +61,7 @@ returns-in_err-headed c =
     let packet = c.args.packet.now in
     rw (p.1, p.2) (
       refl,
-      λ rest w. refused packet (By_wire (length packet)) nothing w (net_state (arrival_view c.args.self.now) rest)
+      λ rest w weighs. refused packet (By_wire (length packet)) nothing w
+          (net_state (arrival_view c.args.self.now) rest)
           c.in_err-headed.field-0.0 c.in_err-headed.ensures.err,
     )

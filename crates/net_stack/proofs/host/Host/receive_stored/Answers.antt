@@ -1,7 +1,9 @@
 use Rattle.std.proofs.Common.{ap, refl, subst, sym, ◌∙◌}
+use Rattle.flat_model.specs.declared.counters.Why.TheVariants.{NoBufs}
+use Rattle.flat_model.specs.declared.fate.Fate.TheVariants.{Dropped}
 use Rattle.sock_calls.specs.declared.net.Net.{Net}
 use Rattle.sock_calls.specs.Sockets.{SocksView}
-use Rattle.net_stack.specs.Inside.Arrivals.{HasCome, IsArrived}
+use Rattle.net_stack.specs.Inside.Arrivals.{HasCome, IsArrived, fate_by}
 use Rattle.net_stack.specs.Inside.Hosts.{arrival_view}
 use Rattle.net_stack.proofs.Aside.{host_view}
 use Rattle.net_stack.proofs.ReceiveLemmas.{IsReadyToArrive, came, lost, stored_ready}
@@ -35,7 +37,7 @@ returns-then-reserve_buffers c =
       does = came c.args.packet.now c.requires.fit.socks c.requires.fit.owned is.asked refl
           c.if-reserve_buffers.true is.ready c.put_packet-chain.ensures
           (subst (λ (s : SocksView). IsArrived (host_view c.put_packet-chain.new.pool s u.reass u.net.counters)
-          c.put_packet-chain.result (arrival_view k)) is.socks c.arrive.ensures.does);
+          c.put_packet-chain.result (fate_by c.arrive.result k.reached) (arrival_view k)) is.socks c.arrive.ensures.does);
       reass = c.arrive.ensures.reass;
       output = c.arrive.ensures.output ∙ ap (λ (n : Net). record n { counters = k.net.counters }) is.output;
     }
@@ -46,7 +48,7 @@ returns-else-reserve_buffers c =
     let is = c.reserve_buffers.ensures.asked in
     record {
       does = subst (λ (s : SocksView). HasCome (arrival_view c.args.self.now) c.args.packet.now
-          (host_view u.pool s u.reass c.count_ended.new.self)) (sym is.socks)
+          (Dropped NoBufs) (host_view u.pool s u.reass c.count_ended.new.self)) (sym is.socks)
           (lost c.args.packet.now c.requires.fit.socks c.requires.fit.owned is.asked refl
           c.if-reserve_buffers.false c.count_ended.ensures);
       reass = is.ready;

@@ -1,4 +1,5 @@
 use Rattle.flat_model.specs.Machine.Event.{Comes, Done}
+use Rattle.net_stack.specs.Inside.Arrivals.{fate_by}
 use Rattle.net_stack.specs.Inside.Fields.{stack_of}
 use Rattle.net_stack.proofs.CallLemmas.{Called, lent, lent_inside, lent_shows}
 use Rattle.net_stack.proofs.TrafficLemmas.{are_bytes, come_owned, come_called}
@@ -18,6 +19,7 @@ all : (c : goal.After-self-1)
     (record (lent c.self.inside c.deref_mut.result.now) { host = c.receive.new.self })
 all c =
     come_called (lent c.self.inside c.deref_mut.result.now) c.args.self.now c.receive.new.self c.args.packet.now
+    (fate_by c.receive.result c.receive.new.self.reached)
     (lent_inside c.self.inside c.deref_mut.result.now c.deref_mut.ensures.value c.self.invariant)
     (lent_shows c.self.inside c.deref_mut.result.now c.args.self.now c.deref_mut.ensures.value c.self.view_is)
     (are_bytes c.args.packet.now c.type_inv.packet, c.requires) c.receive.ensures.does c.receive.ensures.reass

@@ -1,6 +1,5 @@
 use Rattle.std.proofs.Common.{◌≡◌, List, length, map, ap, refl, subst, ◌∙◌}
 use Rattle.std.specs.Prelude.{slice_get}
-use Rattle.flat_model.specs.declared.config.Config.{Config}
 use Rattle.net_stack.specs.Runs.{AreCalls}
 use Rattle.segment.specs.Chances.{shuffled}
 use Rattle.segment.specs.Flying.{Flying, comes}
@@ -15,8 +14,7 @@ returns g c =
     let old = view c.args.self.now in
     let due : map flying c.shuffle.new.due.items ≡ (leaving old).0 =
     c.shuffle.ensures.due ∙ ap (λ (fs : List Flying). (shuffled old.chances fs old.random).0) c.leave.ensures.due in
-    let counted : map flying c.as_slice.result.now ≡ (leaving old).0 = ap (map flying) c.as_slice.ensures.value ∙ due in
-    let now : map flying c.as_slice-4.result.now ≡ (leaving old).0 = ap (map flying) c.as_slice-4.ensures.value ∙ due in
+    let now : map flying c.as_slice-2.result.now ≡ (leaving old).0 = ap (map flying) c.as_slice-2.ensures.value ∙ due in
     record {
       configs = refl;
       room = c.leave.ensures.room;
@@ -29,23 +27,12 @@ returns g c =
       tallies =
           subst (λ (ts : List Tally). AtEach
           (λ place t u. u ≡ with_received (length (received_in place (slice_get old.configs place) (leaving old).0)) t)
-          ts
-          c.count_all.new.tallies.items) (ap (λ v. v.items) c.shuffle.ensures.tallies)
+          ts c.deliver_all.new.tallies.items) (ap (λ v. v.items) c.shuffle.ensures.tallies)
           (subst (λ (fs : List Flying). AtEach
           (λ place t u. u ≡ with_received (length (received_in place (slice_get old.configs place) fs)) t)
-          c.shuffle.new.self.tallies.items c.count_all.new.tallies.items) counted
-          (subst (λ (configs : List Config). AtEach
-          (λ place t u. u ≡ with_received (length
-          (received_in place (slice_get configs place)
-          (map flying c.as_slice.result.now))) t) c.shuffle.new.self.tallies.items c.count_all.new.tallies.items)
-          c.as_slice-2.ensures.value c.count_all.ensures));
+          c.shuffle.new.self.tallies.items c.deliver_all.new.tallies.items) now c.deliver_all.ensures.counted);
       hosts =
           subst (λ (fs : List Flying). AtEach
           (λ place s t. AreCalls s (comes (received_in place (slice_get old.configs place) fs)) t) old.stacks
-          c.deliver_all.new.stacks.items) now
-          (subst (λ (configs : List Config). AtEach
-          (λ place s t. AreCalls s (comes
-          (received_in place (slice_get configs place)
-          (map flying c.as_slice-4.result.now))) t) old.stacks c.deliver_all.new.stacks.items)
-          c.as_slice-5.ensures.value c.deliver_all.ensures);
+          c.deliver_all.new.stacks.items) now c.deliver_all.ensures.hosts;
     }

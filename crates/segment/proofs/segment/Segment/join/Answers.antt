@@ -15,19 +15,19 @@ returns-in-Ok c = record {
   is_config = c.in-Ok.ensures.booted.0;
   stack = c.in-Ok.stack;
   started = c.in-Ok.ensures.booted.1;
-  configs = c.push_reserved.ensures.items ∙ ap (λ (xs : List Config). xs ++ c.args.config ∷ []) c.reserve.ensures.items;
+  configs = c.add.ensures ∙ ap (λ (xs : List Config). xs ++ c.args.config ∷ []) c.reserve.ensures.same;
   stacks =
-      c.push_reserved-in-Ok.ensures.items
+      c.push_reserved.ensures.items
       ∙ ap (λ (xs : List StackView). xs ++ c.in-Ok.stack ∷ []) c.reserve-else-is_err.ensures.items;
   bare = sym c.is_ether.ensures ∙ c.if-is_ether.false;
   links = refl;
   flight = refl;
   room = refl;
   chances =
-      c.push_reserved-in-Ok-2.ensures.items
+      c.push_reserved-in-Ok.ensures.items
       ∙ ap (λ (xs : List Chances). xs ++ no_chances ∷ []) c.reserve-else-is_err-2.ensures.items;
   tallies =
-      c.push_reserved-in-Ok-3.ensures.items
+      c.push_reserved-in-Ok-2.ensures.items
       ∙ ap (λ (xs : List Tally). xs ++ nothing_counted ∷ []) c.reserve-else-is_err-3.ensures.items;
   random = refl;
 }

@@ -22,22 +22,22 @@ returns-in-Ok-boot c =
       stack = c.in-Ok-boot.stack;
       started = c.in-Ok-boot.ensures.booted.1;
       configs =
-          c.push_reserved.ensures.items ∙ ap (λ (xs : List Config). xs ++ c.args.config ∷ []) c.reserve.ensures.items;
+          c.add.ensures ∙ ap (λ (xs : List Config). xs ++ c.args.config ∷ []) c.reserve.ensures.same;
       stacks =
-          c.push_reserved-in-Ok-boot.ensures.items
+          c.push_reserved.ensures.items
           ∙ ap (λ (xs : List StackView). xs ++ c.in-Ok-boot.stack ∷ []) c.reserve-else-is_err.ensures.items;
       links =
-          ap (map link_seen) c.push_reserved-in-Ok-boot-2.ensures.items
+          ap (map link_seen) c.push_reserved-in-Ok-boot.ensures.items
           ∙ map-append link_seen c.reserve-else-is_err-2.new.self.items (layer ∷ [])
           ∙ ap (λ (xs : List LinkLayer). map link_seen xs ++ link_seen layer ∷ []) c.reserve-else-is_err-2.ensures.items
           ∙ ap (λ (l : LinkState). map link_seen c.args.self.now.links.items ++ l ∷ []) c.in-Ok.ensures;
       flight = refl;
       room = refl;
       chances =
-          c.push_reserved-in-Ok-boot-3.ensures.items
+          c.push_reserved-in-Ok-boot-2.ensures.items
           ∙ ap (λ (xs : List Chances). xs ++ no_chances ∷ []) c.reserve-else-is_err-3.ensures.items;
       tallies =
-          c.push_reserved-in-Ok-boot-4.ensures.items
+          c.push_reserved-in-Ok-boot-3.ensures.items
           ∙ ap (λ (xs : List Tally). xs ++ nothing_counted ∷ []) c.reserve-else-is_err-4.ensures.items;
       random = refl;
     }
@@ -46,9 +46,9 @@ pub returns-in-Err : goal.returns-in-Err
 returns-in-Err c =
     let v = view c.args.self.now in (
       unbooted c.in-Err.fault v c.args.config c.args.link c.in_ok-check_ether.ensures c.in-Err.ensures.booted,
-      view_same v c.reserve.new.self.items c.reserve-else-is_err.new.self.items
+      view_same v c.reserve.new.self.configs.items c.reserve-else-is_err.new.self.items
           (map link_seen c.reserve-else-is_err-2.new.self.items) c.reserve-else-is_err-3.new.self.items
-          c.reserve-else-is_err-4.new.self.items c.reserve.ensures.items c.reserve-else-is_err.ensures.items
+          c.reserve-else-is_err-4.new.self.items c.reserve.ensures.same c.reserve-else-is_err.ensures.items
           (ap (map link_seen) c.reserve-else-is_err-2.ensures.items) c.reserve-else-is_err-3.ensures.items
           c.reserve-else-is_err-4.ensures.items,
     )

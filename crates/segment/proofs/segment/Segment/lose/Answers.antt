@@ -8,6 +8,6 @@ use Rattle.segment.proofs.segment.Segment.lose.Goals as goal
 pub returns-clause-lost : goal.returns-clause-lost
 returns-clause-lost c =
     let frames = c.args.self.now.flight.frames.items in
-    changed (view c.args.self.now) (map flying c.remove.new.self.items) (remove (map flying frames) c.args.at)
-    (vec_capacity c.remove.new.self)
-    (ap (map flying) c.remove.ensures.items ∙ map_remove flying frames c.args.at) c.remove.ensures.capacity
+    changed (view c.args.self.now) (map flying c.remove-frame.new.self.items) (remove (map flying frames) c.args.at)
+    (vec_capacity c.remove-frame.new.self)
+    (ap (map flying) c.remove-frame.ensures.items ∙ map_remove flying frames c.args.at) c.remove-frame.ensures.capacity

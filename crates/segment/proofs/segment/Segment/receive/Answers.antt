@@ -29,7 +29,7 @@ returns-clause-received c =
             map_get link_seen c.args.self.now.links.items c.args.place link
             (omega (arith, c.len-else-place-len.ensures, c.if-place-len-2.false)) c.index_mut.ensures.value;
         goes =
-            (are_bytes c.args.frame.now (λ k. omega (arith, c.type_inv.frame k)), omega arith, c.receive.ensures);
+            (are_bytes c.args.frame.now (λ k. omega (arith, c.type_inv.frame k)), omega arith, c.receive.ensures.takes);
         is =
             ap (λ (links : List LinkState). record v {
               stacks = slice_set v.stacks c.args.place c.receive.new.stack;

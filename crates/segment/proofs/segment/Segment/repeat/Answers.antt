@@ -2,7 +2,7 @@ use Rattle.std.proofs.Common.{◌∙◌, ap, map, refl, arith}
 use Rattle.std.specs.Prelude.{vec_capacity}
 use Rattle.std.proofs.lemmas.List.{length-map}
 use Rattle.segment.specs.Inside.{flying, view}
-use Rattle.segment.proofs.Changing.{changed, copied, no_room, none_copied}
+use Rattle.segment.proofs.Changing.{changed, copied, no_room, none_copied, same_flying}
 use Rattle.segment.proofs.segment.Segment.repeat.Goals as goal
 
 pub returns-then-at-len-clause-repeated : goal.returns-then-at-len-clause-repeated
@@ -33,9 +33,11 @@ returns-then-len-capacity-clause-repeated c =
 pub returns-clause-repeated : goal.returns-clause-repeated
 returns-clause-repeated c =
     let frames = c.args.self.now.flight.frames.items in
+    let frame = c.index-frame.result.now in
     changed (view c.args.self.now) (map flying c.push_reserved.new.self.items) _ (vec_capacity c.push_reserved.new.self)
     (ap (map flying) c.push_reserved.ensures.items
-    ∙ copied frames c.args.at (vec_capacity c.args.self.now.flight.frames) c.index-copy.result.now
-    (omega (arith, c.if-at-len.false, c.len.ensures)) c.index-copy.ensures
+    ∙ copied frames c.args.at (vec_capacity c.args.self.now.flight.frames) frame c.copy.new.self
+    (omega (arith, c.if-at-len.false, c.len.ensures)) c.index-frame.ensures
+    (same_flying c.copy.new.self frame c.copy.ensures.sender c.copy.ensures.wait c.copy.ensures.packet)
     (omega (arith, c.if-len-capacity.false, c.len-2.ensures, c.capacity.ensures)))
     c.push_reserved.ensures.capacity

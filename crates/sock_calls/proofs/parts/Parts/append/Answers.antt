@@ -1,12 +1,13 @@
-use Rattle.std.proofs.Common.{◌≡◌, List, length, true, ap, sym, ◌∙◌, arith}
-use Rattle.flat_model.specs.Sockets.Fits.{fits}
+use Rattle.std.proofs.Common.{◌≡◌, ℕ, List, length, true, ap, sym, ◌∙◌, arith}
+use Rattle.flat_model.specs.Sockets.Fits.{fits, memory_of}
 use Rattle.flat_model.specs.Machine.State.{Datagram}
 use Rattle.mbuf_chain.specs.Chain.{ChainView, chain_of, string}
 use Rattle.mbuf_chain.proofs.Laws.Owners.{times-append, live_first}
+use Rattle.ledger.specs.Accounts.{entries_weight, weight_at}
 use Rattle.ledger.proofs.Laws.{enough_mbufs}
 use Rattle.sock_calls.specs.Sockets.{from_three, queues_of, queued_chains}
 use Rattle.sock_calls.specs.Inside.Parts.{socks_of}
-use Rattle.sock_calls.proofs.Delivered.{Tested, freed, tested, joined, full_end, lacking_end, fitting_end}
+use Rattle.sock_calls.proofs.Delivered.{Tested, limit_at, freed, tested, joined, full_end, lacking_end, fitting_end}
 use Rattle.sock_calls.proofs.Copies.{named_at, descriptor_of}
 use Rattle.sock_calls.proofs.parts.Parts.append.Goals as goal
 use Rattle.sock_calls.proofs.parts.Parts.append.Goals.{After-reserve}
@@ -21,7 +22,11 @@ returns-then-not-fits_at-clause-appended g c =
     full_end c.args.datagram.sender (record {
       fit = c.requires.fit;
       named = named_at c.args.self.now.pcbs c.args.fd;
-      full = ap (fits (queues_of p (from_three c.args.self.now.queues) c.args.fd)) (sym c.len-len.ensures)
+      limited = limit_at c.args.self.now.pcbs c.args.fd c.limit-limit.result c.limit-limit.ensures;
+      full = ap (λ (n : ℕ). fits c.limit-limit.result (queues_of p (from_three c.args.self.now.queues) c.args.fd) n
+          (memory_of (weight_at p c.args.datagram.chain))) (sym c.len-len.ensures)
+          ∙ ap (fits c.limit-limit.result (queues_of p (from_three c.args.self.now.queues) c.args.fd)
+          c.len-len.result) (sym c.memory_of-memory.ensures.value)
           ∙ sym (c.if-not-fits_at.ensures p c.requires.fit.socks.each);
       freed = c.free_chain.ensures;
       unfinished = λ s. g.met.R.Waiting.unfinished_same p c.free_chain.new.self w s;
@@ -35,10 +40,16 @@ returns-then-not-fits_at-clause-waits g c =
     (freed c.requires.fit c.free_chain.ensures).same c.requires.waits
 
 -- ---- the datagram fits, and the pool was tested
-room : (g : _) (c : After-reserve g) → fits (queues_of c.args.pool.now (from_three c.args.self.now.queues) c.args.fd)
-    (length (string (chain_of c.args.pool.now c.args.datagram.chain))) ≡ true
+room : (g : _) (c : After-reserve g)
+    → fits c.limit-limit.result (queues_of c.args.pool.now (from_three c.args.self.now.queues) c.args.fd)
+    (length (string (chain_of c.args.pool.now c.args.datagram.chain)))
+    (memory_of (weight_at c.args.pool.now c.args.datagram.chain)) ≡ true
 room g c =
-    ap (fits (queues_of c.args.pool.now (from_three c.args.self.now.queues) c.args.fd)) (sym c.len-len.ensures)
+    ap (λ (n : ℕ). fits c.limit-limit.result
+    (queues_of c.args.pool.now (from_three c.args.self.now.queues) c.args.fd) n
+    (memory_of (weight_at c.args.pool.now c.args.datagram.chain))) (sym c.len-len.ensures)
+    ∙ ap (fits c.limit-limit.result (queues_of c.args.pool.now (from_three c.args.self.now.queues) c.args.fd)
+    c.len-len.result) (sym c.memory_of-memory.ensures.value)
     ∙ sym (c.if-not-fits_at.ensures c.args.pool.now c.requires.fit.socks.each)
 
 after : (g : _) (c : After-reserve g)
@@ -57,6 +68,7 @@ returns-then-not-reserve-clause-appended g c =
     lacking_end c.args.datagram.sender
     (record { fit = c.requires.fit; moves = c.reserve.ensures.moves; reserves = c.if-not-reserve.ensures.reserves })
     (named_at c.args.self.now.pcbs c.args.fd)
+    (limit_at c.args.self.now.pcbs c.args.fd c.limit-limit.result c.limit-limit.ensures)
     (room g (goal.at.returns-then-not-reserve-clause-appended g c).After-reserve) c.free_chain-then-not-reserve.ensures
     (λ s. g.met.R.Waiting.unfinished_same c.reserve.new.pool r c.reserve.new.waiting s)
     (λ s. g.met.R.Reclaim.owned_same c.reserve.new.pool r c.reserve.new.waiting s)
@@ -83,7 +95,11 @@ append_at-requires g c =
       );
       free = omega (arith, enough_mbufs q 1 0 (sym c.if-not-reserve.ensures.answer) (omega arith));
       len = c.len-len.ensures ∙ ap (λ (v : ChainView). length (string v)) (sym x.chain);
-      fits = ap (λ (ds : List Datagram). fits ds c.len-len.result) (x.shows c.args.fd)
+      memory = c.memory_of-memory.ensures.value
+          ∙ ap (λ (v : ChainView). memory_of (entries_weight v.entries)) (sym x.chain);
+      bound = c.memory_of-memory.ensures.bound;
+      fits = ap (λ (ds : List Datagram). fits c.limit-limit.result ds c.len-len.result c.memory_of-memory.result)
+          (x.shows c.args.fd)
           ∙ sym (c.if-not-fits_at.ensures c.args.pool.now c.requires.fit.socks.each);
     }
 
@@ -91,7 +107,8 @@ pub returns-clause-appended : goal.returns-clause-appended
 returns-clause-appended g c =
     fitting_end c.args.datagram.sender
     (record { fit = c.requires.fit; moves = c.reserve.ensures.moves; reserves = c.if-not-reserve.ensures.reserves })
-    (named_at c.args.self.now.pcbs c.args.fd) c.requires.opened
+    (named_at c.args.self.now.pcbs c.args.fd)
+    (limit_at c.args.self.now.pcbs c.args.fd c.limit-limit.result c.limit-limit.ensures) c.requires.opened
     (room g (goal.at.returns-clause-appended g c).After-reserve) c.append_at.ensures.steps c.append_at.ensures.here
     (λ s. g.met.R.Waiting.unfinished_same c.reserve.new.pool c.append_at.new.pool c.reserve.new.waiting s)
     (λ s. g.met.R.Reclaim.owned_same c.reserve.new.pool c.append_at.new.pool c.reserve.new.waiting s)

@@ -9,7 +9,7 @@ invariant-receivers g l = record {
   way : IsUnderWay
       (net_view l.fn.pool (socks_of l.fn.self) (g.R.Waiting.unfinished l.fn.pool l.fn.waiting)
       (g.R.Reclaim.owned l.fn.pool l.fn.waiting) l.fn.counters)
-      l.datagram.chain l.fds l.datagram.sender l.i
+      l.datagram.chain l.fds l.datagram.sender l.i l.reached
       (net_view l.pool (socks_of l.self) (g.R.Waiting.unfinished l.pool l.waiting)
       (g.R.Reclaim.owned l.pool l.waiting) l.counters);
   within : l.i ≤ l.last;

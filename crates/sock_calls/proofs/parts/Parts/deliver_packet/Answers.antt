@@ -1,14 +1,18 @@
-use Rattle.std.proofs.Common.{◌≤◌, ℕ, List, All, length, slice_index_or, sym, ap, subst, ◌∙◌, arith, rules}
+use Rattle.std.proofs.Common.{◌≡◌, ◌≤◌, ℕ, List, All, Some, refl, length, option_map, slice_index_or, sym, ap, subst, ◌∙◌, arith, rules}
 use Rattle.std.proofs.lemmas.Grind.{common_steps}
 use Rattle.flat_model.specs.Amounts.Weight.{times}
+use Rattle.flat_model.specs.Machine.Fate.{mark}
 use Rattle.flat_model.specs.Sockets.Fits.{fits}
-use Rattle.pcb_table.specs.Table.{Table, IsOpen}
+use Rattle.flat_model.specs.declared.counters.Why.TheVariants.{UdpFullSocket}
+use Rattle.flat_model.specs.declared.fate.Reached.{Reached}
+use Rattle.pcb_table.specs.declared.block.Block.{Block}
+use Rattle.pcb_table.specs.Table.{Table, IsOpen, block_at}
 use Rattle.udp.specs.Checked.{unmatched}
 use Rattle.sock_calls.specs.Sockets.{from_three, queues_of}
 use Rattle.sock_calls.specs.Inside.Parts.{socks_of}
 use Rattle.sock_calls.proofs.Arriving.{all_open}
-use Rattle.sock_calls.proofs.Delivered.{fit_as}
-use Rattle.sock_calls.proofs.Storing.{IsBeside, beside_data, delivers_to, full_ends, lone_descriptor, lone_is, unmatched_ends}
+use Rattle.sock_calls.proofs.Delivered.{fit_as, limit_at}
+use Rattle.sock_calls.proofs.Storing.{IsBeside, beside_data, delivers_to, full_ends, lone_descriptor, lone_is, lone_open, unmatched_ends}
 use Rattle.sock_calls.proofs.parts.Parts.deliver_packet.Goals as goal
 use Rattle.sock_calls.proofs.parts.Parts.deliver_packet.Goals.{After-store_data-chain}
 
@@ -20,20 +24,38 @@ returns-then-is_empty-clause-delivered g c =
     (c.no_port-why.ensures ∙ ap (λ (t : Table). unmatched t c.args.packet.now.to.ip) c.matching_sockets.ensures.blocks)
     c.matching_sockets.ensures.blocks c.count_ended.ensures
 
-pub fits_at-requires : goal.fits_at-requires
-fits_at-requires g c =
+pub is_full-requires-clause-opened : goal.is_full-requires-clause-opened
+is_full-requires-clause-opened g c =
+    subst (λ (t : Table). IsOpen (slice_index_or c.as_slice.result.now 0 0) t) (sym c.matching_sockets.ensures.blocks)
+    (lone_open c.matching_sockets.ensures.found
+    (sym c.as_slice.ensures.value ∙ lone_is c.as_slice.result.now c.in-len1.len_at_least c.in-len1.len_below))
+
+pub is_full-requires-clause-descriptor : goal.is_full-requires-clause-descriptor
+is_full-requires-clause-descriptor g c =
     lone_descriptor c.requires.fit.socks c.matching_sockets.ensures.found
     (sym c.as_slice.ensures.value ∙ lone_is c.as_slice.result.now c.in-len1.len_at_least c.in-len1.len_below)
 
-pub returns-then-not-fits_at-clause-delivered : goal.returns-then-not-fits_at-clause-delivered
-returns-then-not-fits_at-clause-delivered g c =
-    let queue = queues_of c.args.pool.now (from_three c.args.self.now.queues) in
-    full_ends c.requires.fit.socks c.args.packet.now.is_checked c.matching_sockets.ensures.found
+pub mark-requires : goal.mark-requires
+mark-requires g c =
+    lone_descriptor c.requires.fit.socks c.matching_sockets.ensures.found
     (sym c.as_slice.ensures.value ∙ lone_is c.as_slice.result.now c.in-len1.len_at_least c.in-len1.len_below)
+
+pub returns-then-is_full-clause-delivered : goal.returns-then-is_full-clause-delivered
+returns-then-is_full-clause-delivered g c =
+    let queue = queues_of c.args.pool.now (from_three c.args.self.now.queues) in
+    let full = c.if-is_full.ensures c.args.pool.now c.requires.fit.socks.each refl in
+    full_ends (c.mark.ensures
+    ∙ ap (λ (r : Reached). mark (Some UdpFullSocket) (slice_index_or c.as_slice.result.now 0 0) r) c.nobody.ensures)
+    c.requires.fit.socks c.args.packet.now.is_checked c.matching_sockets.ensures.found
+    (sym c.as_slice.ensures.value ∙ lone_is c.as_slice.result.now c.in-len1.len_at_least c.in-len1.len_below)
+    (limit_at c.args.self.now.pcbs (slice_index_or c.as_slice.result.now 0 0) 0
+    (subst (λ (t : Table). option_map (λ (b : Block). b.receive_limit)
+    (block_at (slice_index_or c.as_slice.result.now 0 0) t) ≡ Some 0)
+    c.matching_sockets.ensures.blocks full.limit))
     c.requires.wire.free
-    (ap (λ (l : List ℕ). fits (queue (slice_index_or c.as_slice.result.now 0 0)) (length l)) (sym c.data.ensures.value)
-    ∙ sym (c.if-not-fits_at.ensures c.args.pool.now c.requires.fit.socks.each))
-    c.matching_sockets.ensures.blocks c.count_ended-then-not-fits_at.ensures
+    (ap (λ (l : List ℕ). fits 0 (queue (slice_index_or c.as_slice.result.now 0 0)) (length l) 0)
+    (sym c.data.ensures.value) ∙ full.over)
+    c.matching_sockets.ensures.blocks c.count_ended-then-is_full.ensures
 
 -- ---- the data are in a chain of their own
 beside : (g : _) (c : After-store_data-chain g)

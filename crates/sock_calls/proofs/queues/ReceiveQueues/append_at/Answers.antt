@@ -1,10 +1,11 @@
 use Rattle.std.proofs.Common.{◌≡◌, ◌<◌, List, ◌∷◌, [], ◌++◌, suc, length, ap, sym, subst, ◌∙◌, arith}
 use Rattle.std.specs.Prelude.{slice_index_or, slice_set}
-use Rattle.flat_model.specs.Sockets.Fits.{fits}
+use Rattle.flat_model.specs.Sockets.Fits.{fits, memory_of}
 use Rattle.mbuf_chain.specs.Owners.{times_among}
 use Rattle.mbuf_chain.proofs.Laws.Owners.{live_first, apart_first}
+use Rattle.ledger.specs.Accounts.{weight_at}
 use Rattle.sockbuf.specs.SockBuf.{SockBufView, IsSockBuf, chains_of, datagrams, datagram_from}
-use Rattle.sock_calls.specs.Sockets.{from_three, queue_at}
+use Rattle.sock_calls.specs.Sockets.{from_three, queue_at, queues_of}
 use Rattle.sock_calls.proofs.Frames.{at_set, times_at}
 use Rattle.sock_calls.proofs.Places.{at_three, named_is, steps_inside, steps_three, written}
 use Rattle.sock_calls.proofs.queues.ReceiveQueues.append_at.Goals as goal
@@ -21,10 +22,10 @@ here c =
     named_is c.index-deref_mut-place_of.result c.args.fd (c.deref_mut.ensures.value ∙ c.self.view_is) (within c)
     c.place_of.ensures.value
 
-pub append_fitting-requires : goal.append_fitting-requires
-append_fitting-requires c =
+pub append_fitting-requires-clause-can : goal.append_fitting-requires-clause-can
+append_fitting-requires-clause-can c =
     let p = c.args.pool.now in
-    let at = here (goal.at.append_fitting-requires c).After-index-deref_mut-place_of in
+    let at = here (goal.at.append_fitting-requires-clause-can c).After-index-deref_mut-place_of in
     record {
       ready = subst (IsSockBuf p) (sym at) (c.requires.each c.args.fd);
       live = live_first p c.args.datagram.chain _ c.requires.owned;
@@ -36,7 +37,10 @@ append_fitting-requires c =
             ap (λ (v : SockBufView). times_among k (chains_of p v)) at,
           ));
       len = c.requires.len;
-      fits = ap (λ (v : SockBufView). fits (datagrams p v) c.args.len) at ∙ c.requires.fits;
+      fits = ap (λ (v : SockBufView). fits c.args.limit (datagrams p v) c.args.len
+          (memory_of (weight_at p c.args.datagram.chain))) at
+          ∙ ap (fits c.args.limit (queues_of p (from_three c.args.self.now) c.args.fd) c.args.len)
+          (sym c.requires.memory) ∙ c.requires.fits;
       free = c.requires.free;
     }
 

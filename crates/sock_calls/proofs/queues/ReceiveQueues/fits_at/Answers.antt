@@ -12,4 +12,4 @@ returns c = λ p each.
     let at = c.index-deref-place_of.is ∙ named_is c.index-deref-place_of.result c.args.fd (is ∙ c.self.view_is) lt
     c.place_of.ensures.value in
     c.fits.ensures p (subst (IsSockBuf p) (sym at) (each c.args.fd))
-    ∙ ap (λ (v : SockBufView). fits (datagrams p v) c.args.len) at
+    ∙ ap (λ (v : SockBufView). fits c.args.limit (datagrams p v) c.args.len c.args.memory) at

@@ -4,7 +4,7 @@ use Rattle.flat_model.specs.Sockets.Fits.{fits}
 use Rattle.sockbuf.specs.SockBuf.{SockBufView, IsSockBuf, datagrams}
 use Rattle.mbuf_chain.specs.Train.{queued_packets}
 use Rattle.sockbuf.specs.Stored.{stored_datagram, stored_packet}
-use Rattle.sock_calls.specs.Inside.Storing.{data_start}
+use Rattle.sock_calls.specs.Inside.Storing.{data_memory, data_start}
 use Rattle.sock_calls.specs.Sockets.{from_three, queue_at, queues_of}
 use Rattle.sock_calls.proofs.Frames.{at_set}
 use Rattle.sock_calls.proofs.Places.{at_three, named_is, steps_inside, steps_three, written}
@@ -12,8 +12,9 @@ use Rattle.sock_calls.proofs.queues.ReceiveQueues.store_at.Goals as goal
 use Rattle.sock_calls.proofs.queues.ReceiveQueues.store_at.Goals.{After-fits, After-index-deref_mut-place, then-is_large, else-is_large}
 
 -- what the test of the queue says
-tested : (c : After-fits) → c.fits.result ≡ fits (queues_of c.args.pool.now (from_three c.args.self.now) c.args.fd)
-    (length c.args.bytes.now)
+tested : (c : After-fits) → c.fits.result
+    ≡ fits c.args.limit (queues_of c.args.pool.now (from_three c.args.self.now) c.args.fd) (length c.args.bytes.now)
+    (data_memory c.args.is_large)
 tested c =
     let p = c.args.pool.now in
     let has = c.deref.ensures.0 in
@@ -22,7 +23,9 @@ tested c =
     let at = c.index-deref-place.is ∙ named_is c.index-deref-place.result c.args.fd (has ∙ c.self.view_is) within
     c.place_of-place.ensures.value in
     c.fits.ensures p (subst (IsSockBuf p) (sym at) (c.requires.each c.args.fd))
-    ∙ ap (λ (v : SockBufView). fits (datagrams p v) (length c.args.bytes.now)) at
+    ∙ ap (λ (v : SockBufView). fits c.args.limit (datagrams p v) (length c.args.bytes.now) c.data_memory-memory.result)
+    at ∙ ap (fits c.args.limit (queues_of p (from_three c.args.self.now) c.args.fd) (length c.args.bytes.now))
+    c.data_memory-memory.ensures
 
 -- the queue that is written
 within : (c : After-index-deref_mut-place) → c.place_of-place.result < length c.deref_mut.result.now
@@ -43,7 +46,8 @@ store-requires-clause-ready c =
 pub store-requires-clause-fits : goal.store-requires-clause-fits
 store-requires-clause-fits c =
     let at = goal.at.store-requires-clause-fits c in
-    ap (λ (v : SockBufView). fits (datagrams c.args.pool.now v) (length c.args.bytes.now))
+    ap (λ (v : SockBufView). fits c.args.limit (datagrams c.args.pool.now v) (length c.args.bytes.now)
+    (data_memory c.args.is_large))
     (here at.After-index-deref_mut-place) ∙ sym (tested at.After-fits) ∙ c.if-not-fits.false
 
 pub returns-then-not-fits : goal.returns-then-not-fits

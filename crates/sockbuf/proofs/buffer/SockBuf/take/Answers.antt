@@ -3,7 +3,8 @@ use Rattle.std.proofs.lemmas.Bool.{eqb-true, eqb-false}
 use Rattle.mbuf_chain.specs.Chain.{chain_of, flat_bytes}
 use Rattle.mbuf_chain.proofs.Laws.Owners.{live_first, owned_after}
 use Rattle.ledger.specs.Accounts.{entries_weight}
-use Rattle.sockbuf.specs.SockBuf.{SockBufView, IsSockBuf, memory_of}
+use Rattle.flat_model.specs.Sockets.Fits.{memory_of}
+use Rattle.sockbuf.specs.SockBuf.{SockBufView, IsSockBuf}
 use Rattle.sockbuf.proofs.Fronts.{stripped}
 use Rattle.sockbuf.proofs.Queues.{IsTakenOut, Taken, taken, oldest, address, last_one}
 use Rattle.sockbuf.proofs.buffer.SockBuf.take.Goals as goal

@@ -1,0 +1,12 @@
+"""Step 5: fragments out. Source: RFC 791 3.2."""
+from __future__ import annotations
+
+from lab import Header, Host
+from step4 import put_ip  # noqa: F401
+
+
+def ip_output(host: Host, it: Header, mtu: int) -> None:
+    """Sends a datagram with these addresses, this protocol and this data, in packets of at most `mtu` bytes, by put_ip
+    and host.transmit. If it fits, it's one packet. Otherwise the data of each fragment except the last is as long as
+    possible, and a multiple of 8 bytes. All fragments of a datagram have one identification, and two datagrams have
+    different ones."""

@@ -1,0 +1,14 @@
+use Rattle.std.proofs.Common.{ℕ, ◌+◌, List, ◌++◌, take, ap, ◌∙◌}
+use Rattle.flat_ether.specs.Icmp.{message, reflected}
+use Rattle.ether_host.proofs.Rooms.{quoted_front}
+use Rattle.ether_host.proofs.answer.unreachable_reply.Goals as goal
+
+pub returns : goal.returns
+returns c =
+    let rest : List ℕ = take (4 + c.min-quoted.result) c.put_bytes.new.buffer in
+    c.put.ensures
+    ∙ ap (λ (front : List ℕ). reflected c.args.config.now c.args.id c.args.came.now (front ++ rest))
+    c.message_head-front.ensures.is
+    ∙ ap (λ (r : List ℕ). reflected c.args.config.now c.args.id c.args.came.now (message 3 c.args.code r))
+    (ap (take (4 + c.min-quoted.result)) c.put_bytes.ensures
+    ∙ quoted_front c.args.came.now _ c.min-quoted.result c.min-quoted.ensures)

@@ -1,0 +1,11 @@
+-- The law holds for every ledger of the buffers.
+use Rattle.flat_model.specs.Machine.Ledger.{exact_ledger}
+use Rattle.flat_wire.proofs.ForEver.{wire_law_for_ever_lem}
+use Rattle.flat_wire.proofs.Received.{received_for_ever_lem}
+use Rattle.flat_wire.proofs.laws.wire_law_for_ever.Goals as goal
+
+pub returns-clause-waits : goal.returns-clause-waits
+returns-clause-waits c = wire_law_for_ever_lem exact_ledger exact_ledger
+
+pub returns-clause-received : goal.returns-clause-received
+returns-clause-received c = received_for_ever_lem exact_ledger exact_ledger

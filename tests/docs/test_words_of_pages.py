@@ -1,0 +1,93 @@
+"""No page has more words than its limit, in text and tables: what a new feature adds, it takes from the same page.
+Code blocks don't count."""
+import re
+
+import pytest
+
+from tests.docs.pages import TOP, documents
+
+LIMITS = {
+    "README.md": 700,
+    "CONTRIBUTING.md": 1700,
+    "docs/DECISIONS.md": 4700,
+    "docs/abi.md": 380,
+    "docs/behaviour.md": 3950,
+    "docs/book.md": 1950,
+    "docs/c.md": 1850,
+    "docs/captures.md": 1950,
+    "docs/device.md": 2260,
+    "docs/judge.md": 1800,
+    "docs/lab.md": 500,
+    "docs/memory.md": 2050,
+    "docs/model.md": 2450,
+    "docs/ns3.md": 2450,
+    "docs/page.md": 1440,
+    "docs/performance.md": 1900,
+    "docs/proved.md": 2700,
+    "docs/python.md": 2650,
+    "docs/results.md": 2400,
+    "docs/scripts.md": 5650,
+    "docs/security.md": 1800,
+    "docs/teaching.md": 1640,
+    "docs/tour.md": 1680,
+    "docs/maintain/answers.md": 780,
+    "docs/maintain/architecture.md": 690,
+    "docs/maintain/gate-times.md": 1250,
+    "docs/maintain/recipes.md": 3000,
+    "docs/maintain/testing.md": 4560,
+    "docs/maintain/words.md": 900,
+}
+# Each crate's README has at most so many words, and these at most more: take out lists of calls and definitions, which
+# the sources document.
+OF_A_CRATE = 700
+LONGER = {
+    "bsdplay": 750,
+    "capture": 870,
+    "flat_ether": 1300,
+    "flat_model": 750,
+    "flat_wire": 1200,
+    "ip_out": 830,
+    "ip_reass": 2250,
+    "ledger": 750,
+    "libbsdudp": 1200,
+    "mbuf_chain": 950,
+    "net_stack": 2050,
+    "page": 1300,
+    "pcb_table": 750,
+    "play_script": 2300,
+    "play_wire": 1500,
+    "segment": 2150,
+    "sock_calls": 1850,
+    "sockbuf": 1150,
+    "udp": 1180,
+}
+# README has its first screen on few lines.
+LINES_OF_README = 90
+
+
+def words(path):
+    """Returns the number of words of a page, without code blocks."""
+    text = re.sub(r"(?ms)^```.*?^```$", "", (TOP / path).read_text(encoding="utf-8"))
+    return len(re.sub(r"(?m)^(    |\|[-:| ]+\|$).*", "", text).split())
+
+
+@pytest.mark.parametrize("path", LIMITS)
+def test_a_page_has_few_words(path):
+    count = words(path)
+    assert count <= LIMITS[path], f"{path}: {count} words, at most {LIMITS[path]}: take out what other pages say, too"
+    assert count > LIMITS[path] * 3 // 4, f"{path}: only {count} words: lower its limit, {LIMITS[path]}"
+
+
+def test_each_page_has_a_limit():
+    pages = {it for it in documents() if re.fullmatch(r"(README|CONTRIBUTING|docs/.*)\.md", it)}
+    assert pages == set(LIMITS)
+
+
+@pytest.mark.parametrize("crate", sorted(it.parent.name for it in TOP.glob("crates/*/README.md")))
+def test_the_readme_of_a_crate_has_few_words(crate):
+    count, most = words(f"crates/{crate}/README.md"), LONGER.get(crate, OF_A_CRATE)
+    assert count <= most, f"crates/{crate}/README.md: {count} words, at most {most}"
+
+
+def test_readme_is_short():
+    assert len((TOP / "README.md").read_text(encoding="utf-8").splitlines()) <= LINES_OF_README
