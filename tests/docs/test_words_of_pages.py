@@ -37,30 +37,8 @@ LIMITS = {
     "docs/maintain/testing.md": 4560,
     "docs/maintain/words.md": 900,
 }
-# Each crate's README has at most so many words, and these at most more: take out lists of calls and definitions, which
-# the sources document.
+# The most words of a crate's README: no lists of calls and definitions, which the sources document.
 OF_A_CRATE = 700
-LONGER = {
-    "bsdplay": 750,
-    "capture": 870,
-    "flat_ether": 1300,
-    "flat_model": 750,
-    "flat_wire": 1200,
-    "ip_out": 830,
-    "ip_reass": 2250,
-    "ledger": 750,
-    "libbsdudp": 1200,
-    "mbuf_chain": 950,
-    "net_stack": 2050,
-    "page": 1300,
-    "pcb_table": 750,
-    "play_script": 2300,
-    "play_wire": 1500,
-    "segment": 2150,
-    "sock_calls": 1850,
-    "sockbuf": 1150,
-    "udp": 1180,
-}
 # README has its first screen on few lines.
 LINES_OF_README = 90
 
@@ -85,8 +63,8 @@ def test_each_page_has_a_limit():
 
 @pytest.mark.parametrize("crate", sorted(it.parent.name for it in TOP.glob("crates/*/README.md")))
 def test_the_readme_of_a_crate_has_few_words(crate):
-    count, most = words(f"crates/{crate}/README.md"), LONGER.get(crate, OF_A_CRATE)
-    assert count <= most, f"crates/{crate}/README.md: {count} words, at most {most}"
+    count = words(f"crates/{crate}/README.md")
+    assert count <= OF_A_CRATE, f"crates/{crate}/README.md: {count} words, at most {OF_A_CRATE}"
 
 
 def test_readme_is_short():
