@@ -26,7 +26,7 @@ LIMITS = {
     "docs/proved.md": 2700,
     "docs/python.md": 2650,
     "docs/results.md": 2400,
-    "docs/scripts.md": 5650,
+    "docs/scripts.md": 4310,
     "docs/security.md": 1800,
     "docs/teaching.md": 1640,
     "docs/tour.md": 1680,
