@@ -140,7 +140,7 @@ pub fn receive_out_of_order(
 /// What `account_for` returns.
 #[derive(Drop)]
 pub struct Accounted {
-    /// What became of the packet.
+    /// The fate of the packet.
     pub fate: Fate,
     /// The counters after it.
     pub counters: Counters,

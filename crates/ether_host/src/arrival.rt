@@ -244,7 +244,7 @@ impl LinkLayer {
         self.add_error(is_no_protocol(why), came);
     }
 
-    /// What the link does with a packet to this host, by what became of it in the stack.
+    /// What the link does with a packet to this host, by its fate in the stack.
     pub(crate) fn answer_fate(&mut self, came: &[u8], fate: Fate)
         ensures { link_seen self.new ≡ answers_fate came.now fate (link_seen self.old) }
     {

@@ -17,8 +17,8 @@ use net_stack::Stack;
 impl LinkLayer {
     ghost use Rattle.ether_host.specs.Inside.{link_seen};
 
-    /// A frame arrives: see `EtherHost::receive`. Returns what became of its packet, or `None` if it has none for the
-    /// stack.
+    /// A frame arrives: see `EtherHost::receive`. Returns the fate of its packet, or `None` if it has no packet for
+    /// the stack.
     pub fn receive(&mut self, stack: &mut Stack, frame: &[u8]) -> Option<Fate>
         requires { length frame.now ≤ ETHER_HEADER + IP_MAX_PACKET }
         ensures takes { TakesFrame frame.now (halves stack.old (link_seen self.old))
@@ -67,7 +67,7 @@ impl LinkLayer {
         self.give_drained(stack, buffer)
     }
 
-    /// What other hosts reported for the datagrams that a connected socket sent to its peer: see
+    /// The error that other hosts reported for the datagrams that a connected socket sent to its peer: see
     /// `EtherHost::last_error`.
     pub fn last_error(&mut self, stack: &Stack, fd: u32) -> Result<Option<NetFault>, Errno>
         ensures { (result, halves stack.now (link_seen self.new))

@@ -18,8 +18,8 @@ use crate::layer::LinkLayer;
 use flat_model::Fate;
 use net_stack::Stack;
 
-/// A frame with a packet arrives: the stack takes the packet, and the link may queue a reply. Returns what became of
-/// the packet.
+/// A frame with a packet arrives: the stack receives the packet, and the link may queue a reply. Returns the packet's
+/// fate.
 pub(crate) fn take_packet(stack: &mut Stack, layer: &mut LinkLayer, frame: &[u8]) -> Fate
     requires long { ETHER_HEADER ≤ length frame.now }
     requires most { length frame.now ≤ ETHER_HEADER + IP_MAX_PACKET }
@@ -34,7 +34,7 @@ pub(crate) fn take_packet(stack: &mut Stack, layer: &mut LinkLayer, frame: &[u8]
     fate
 }
 
-/// Takes the packet that has waited longest from the stack, and puts it after the place of a header.
+/// Removes the packet that has waited longest from the stack, and puts it after the place of a header.
 fn take(stack: &mut Stack, buffer: &mut [u8]) -> Option<usize>
     requires mtu { stack.old.config.mtu ≤ ETHER_MTU }
     requires room { ETHER_HEADER + ETHER_MTU ≤ length buffer.old }
@@ -45,7 +45,7 @@ fn take(stack: &mut Stack, buffer: &mut [u8]) -> Option<usize>
     stack.tx(&mut buffer[BODY..])
 }
 
-/// Takes packets from the stack until one is sent.
+/// Removes packets from the stack until one is sent.
 pub(crate) fn drain(stack: &mut Stack, layer: &mut LinkLayer, buffer: &mut [u8]) -> Option<usize>
     requires mtu { stack.old.config.mtu ≤ ETHER_MTU }
     requires room { ETHER_HEADER + ETHER_MTU ≤ length buffer.old }

@@ -1,4 +1,4 @@
-//! What became of a packet that arrived.
+//! The fate of a packet that arrived.
 ghost use Rattle.std.specs.Prelude.{◌≡◌, ◌<◌, ◌+◌, ◌≤◌};
 ghost use Rattle.params.specs.declared.TheConstants.{FIRST_DESCRIPTOR, MAX_SOCKETS};
 ghost use Rattle.flat_model.specs.Machine.Fate.{mark, nobody};
@@ -16,7 +16,7 @@ pub struct Reached {
     pub lost: u64,
 }
 
-/// What became of a packet that arrived.
+/// The fate of a packet that arrived.
 #[derive(Clone, Copy, Debug, PartialEq, Eq)]
 pub enum Fate {
     /// It carried a datagram for these sockets.

@@ -39,7 +39,7 @@ pub fn keys_are_whole()
 {}
 
 /// A send that reaches the output queue uses up its identification, whether or not the queue accepts all of its
-/// packets. In the state right after it, before any of its packets comes back, the next datagram has the next
+/// packets. In the state right after it, before any of its packets is looped back, the next datagram has the next
 /// identification; 0 follows 65,535.
 pub fn sends_are_numbered()
     ensures { (fd : ℕ) (out : List Item) (x : Sending) (old : State) →
@@ -56,9 +56,9 @@ pub fn exact_is_loose()
         Run config turns new → Leads loose_ledger (boot config) turns new }
 {}
 
-/// What holds in every state that the machine reaches. Its accounts are never overdrawn. What it holds refers to
-/// clusters of the pool and has space for its bytes. Descriptors differ, keys differ, and every number is within its
-/// limits. All this holds at the start, and every step of the exact machine preserves it.
+/// The invariants of every state that the machine reaches. Its accounts are never overdrawn. Its datagrams and packets
+/// refer to clusters of the pool and have space for their bytes. Descriptors differ, keys differ, and every number is
+/// within its limits. All this holds at the start, and every step of the exact machine preserves it.
 pub fn states_are_consistent()
     ensures start { (config : Config) → IsConfig config → IsConsistent (boot config) }
     ensures step { (old new : State) (event : Event) (reply : Reply) →
@@ -108,9 +108,9 @@ pub fn accounts_balance()
 /// No socket can starve another. At the start all queues are within their limits, and every step keeps them so, if it
 /// sets no limit of a queue in which datagrams wait. In such a state a queue of limit n holds at most 2n / 128 mbufs
 /// and refers to at most 2n / 2,176 clusters. Let each socket have a limit, and let the pool have room for all that the
-/// limits allow, for the output queue as it is, and for what a step holds and needs. Then the step's test for buffers
-/// doesn't fail. So a send is never refused for the pool, and a datagram that fits its socket's limit is never dropped
-/// for want of buffers: a packet with a whole datagram for one socket is queued.
+/// limits allow, for the output queue as it is, and for the buffers that a step holds and needs. Then the step's test
+/// for buffers doesn't fail. So a send is never refused for the pool, and a datagram that fits its socket's limit is
+/// never dropped for want of buffers: a packet with a whole datagram for one socket is queued.
 pub fn sockets_are_isolated()
     ensures start { (config : Config) → KeepLimits (boot config) }
     ensures step { (old new : State) (event : Event) (reply : Reply) → IsConsistent old → KeepLimits old →
@@ -147,13 +147,13 @@ pub fn limits_are_unset()
         ≡ (nat_le (16 + n + bytes_queued queue) 41600 && nat_le (16 + n + memory_queued queue) 83200) }
 {}
 
-/// A packet with its fate is a step: what became of it takes nothing from the contract of the event.
+/// A packet with its fate is a step: a fate adds to the contract of the event and removes nothing from it.
 pub fn fates_are_steps()
     ensures { (old new : State) (packet : List ℕ) (fate : Fate) → Fated old packet fate new →
         Step old (Comes packet) Done new }
 {}
 
-/// A clock that ticks while nothing else happens: after 60 ticks no datagram is unfinished, and further ticks change
+/// A clock that ticks without any other call: after 60 ticks no datagram is unfinished, and further ticks change
 /// nothing. So after a long time without calls 60 ticks are enough.
 pub fn ticks_settle()
     ensures finish { (s new : State) (n : ℕ) → IsConsistent s → FRAGMENT_TICKS ≤ n →

@@ -64,7 +64,7 @@ pub fn age_law()
 
 /// What arrives in time is received. All packets of a fragmented datagram arrive at a host, in any order and any number
 /// of times, with fewer than 60 of its ticks among them; nothing is reclaimed and nothing lacks buffers meanwhile, and
-/// nobody forges a fragment with the same key. Then one of these arrivals completes the datagram, and it's appended to
+/// no host forges a fragment with the same key. Then one of these arrivals completes the datagram, and it's appended to
 /// the queue of the socket that matches at that moment. If none matches, `udp.noport` counts it; if the queue has no
 /// space, `udp.fullsock` does.
 pub fn progress_law()
@@ -72,12 +72,12 @@ pub fn progress_law()
 {}
 
 /// No packet is lost without a count. In each run each packet that arrives, from the wire or by loopback, has one
-/// place: it's lost for one cause, it waits for the other fragments of its datagram, or its datagram goes to the
-/// sockets that match, each of which gets it or loses its copy for one cause. The fate that `rx` told agrees with the
-/// place. Each counter of a cause counts exactly the packets and the copies with that cause. Each datagram that a
-/// socket got was read, was closed away with its socket, or is in a queue. Each datagram whose first fragment waited
-/// was completed, expired, was reclaimed, or is unfinished. Each packet for the link was given to it, waits, or found
-/// the queue full. All this holds until a counter stops at its greatest value.
+/// place: it's lost for one cause, it waits for the other fragments of its datagram, or its datagram reaches the
+/// sockets that match, each of which gets it or loses its copy for one cause. The fate that `rx` returned agrees with
+/// the place. Each counter of a cause counts exactly the packets and the copies with that cause. Each datagram that a
+/// socket got was read, was dropped when its socket was closed, or is in a queue. Each datagram whose first fragment
+/// waited was completed, expired, was reclaimed, or is unfinished. Each packet for the link was given to it, waits, or
+/// found the queue full. All this holds until a counter stops at its greatest value.
 pub fn conservation_law()
     ensures { ConservationLaw }
 {}

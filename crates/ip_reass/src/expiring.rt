@@ -31,7 +31,7 @@ fn has_first(pool: &Pool, train: &Train) -> bool
 }
 
 /// Adds a datagram to those in `list`, of which there are `count`, if the next tick drops it and a place is left.
-/// Returns how many there are then.
+/// Returns the new count.
 fn list_expiring(pool: &Pool, datagram: &Datagram, count: usize, list: &mut [Expired]) -> usize
     requires pieces { IsUnfinished pool.now datagram.now }
     requires few { count + 1 < 2 ^ 64 }
@@ -50,7 +50,7 @@ fn list_expiring(pool: &Pool, datagram: &Datagram, count: usize, list: &mut [Exp
     count + 1
 }
 
-/// Puts the datagrams that the next tick drops into `list`. Returns how many they are.
+/// Puts the datagrams that the next tick drops into `list`. Returns their number.
 fn list_all_expiring(pool: &Pool, table: &[Datagram], list: &mut [Expired]) -> usize
     requires { IsTable pool.now table.now }
     ensures { IsListed list.old 0 (expired_among (unfinished pool.now table.now)) list.new result }
@@ -63,8 +63,8 @@ fn list_all_expiring(pool: &Pool, table: &[Datagram], list: &mut [Expired]) -> u
 }
 
 impl Reass {
-    /// Puts the datagrams that the next tick drops into `list`, oldest first, as many as it has places for, and returns
-    /// how many they are. The other places of `list` are unchanged.
+    /// Puts the datagrams that the next tick drops into `list`, oldest first, until `list` is full, and returns the
+    /// number of these datagrams. The other places of `list` are unchanged.
     pub fn expiring(&self, pool: &Pool, list: &mut [Expired]) -> usize
         requires { IsTable pool.now self.now.datagrams }
         ensures number { result ≡ length (expired_among (unfinished pool.now self.now.datagrams)) }

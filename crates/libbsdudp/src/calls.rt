@@ -67,7 +67,7 @@ pub(crate) fn send(stack: &mut Stack, fd: u32, to: Option<Addr>, bytes: &[u8]) -
     }
 }
 
-/// Takes the oldest queued datagram.
+/// Removes the oldest queued datagram.
 pub(crate) fn receive(stack: &mut Stack, fd: u32, buffer: &mut [u8], from: &mut CAddr) -> i32
     ensures { IsReceived fd result buffer.old buffer.new from.old from.new stack.old stack.new }
 {
@@ -99,7 +99,7 @@ pub(crate) fn rx(stack: &mut Stack, packet: &[u8]) -> i32
     0
 }
 
-/// Passes a packet that isn't too long to the stack, and returns what became of it.
+/// Passes a packet that isn't too long to the stack, and returns its fate.
 fn come_told(stack: &mut Stack, packet: &[u8]) -> CFate
     requires { length packet.now ≤ IP_MAX_PACKET }
     ensures { HasFate packet.now result stack.old stack.new }
@@ -107,7 +107,7 @@ fn come_told(stack: &mut Stack, packet: &[u8]) -> CFate
     CFate::of(stack.rx_told(packet))
 }
 
-/// Passes a packet to the stack, and writes what became of it.
+/// Passes a packet to the stack, and writes its fate.
 pub(crate) fn rx_fate(stack: &mut Stack, packet: &[u8], fate: &mut CFate) -> i32
     ensures { AnswersFate packet.now result fate.old fate.new stack.old stack.new }
 {
@@ -119,7 +119,7 @@ pub(crate) fn rx_fate(stack: &mut Stack, packet: &[u8], fate: &mut CFate) -> i32
     }
 }
 
-/// Takes the oldest packet of the output queue, into a buffer that is long enough.
+/// Removes the oldest packet of the output queue, into a buffer that is long enough.
 fn give(stack: &mut Stack, buffer: &mut [u8]) -> i32
     requires { stack.old.config.mtu ≤ length buffer.old }
     ensures { GivesPacket buffer.old buffer.new result stack.old stack.new }
@@ -130,7 +130,7 @@ fn give(stack: &mut Stack, buffer: &mut [u8]) -> i32
     }
 }
 
-/// Takes the oldest packet of the output queue.
+/// Removes the oldest packet of the output queue.
 pub(crate) fn tx(stack: &mut Stack, buffer: &mut [u8]) -> i32
     ensures { AnswersTransmit buffer.old buffer.new result stack.old stack.new }
 {

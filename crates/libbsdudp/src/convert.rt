@@ -127,7 +127,7 @@ const KEPT: u8 = 2;
 const DROPPED: u8 = 3;
 
 impl CFate {
-    /// What became of a whole datagram. `completed` is 1 if a fragment completed it, otherwise 0.
+    /// The fate of a whole datagram. `completed` is 1 if a fragment completed it, otherwise 0.
     fn whole(completed: u8, whole: Result<Reached, Why>) -> CFate
         ensures { result ≡ c_whole completed whole }
     {
@@ -162,7 +162,7 @@ impl CFate {
         }
     }
 
-    /// What became of the packet in a frame. `None`: the stack got none.
+    /// The fate of the packet in a frame. `None`: the stack received no packet.
     pub(crate) fn of_frame(told: Option<Fate>) -> CFate
         ensures { result ≡ c_frame_fate told }
     {

@@ -95,7 +95,7 @@ pub extern "C" fn bsdudp_core_ether_receive(
     )
 }
 
-/// Receives a frame as `bsdudp_core_ether_receive` does, and writes what became of its packet. Returns 0, or -EMSGSIZE
+/// Receives a frame as `bsdudp_core_ether_receive` does, and writes the fate of its packet. Returns 0, or -EMSGSIZE
 /// if it has more than 65,549 bytes.
 ///
 ///     int bsdudp_core_ether_receive_fate(struct bsdudp_core *, struct bsdudp_core *link, const uint8_t *frame,

@@ -32,7 +32,7 @@ pub(crate) fn receive(stack: &mut Stack, layer: &mut LinkLayer, frame: &[u8]) ->
     0
 }
 
-/// Receives a frame that isn't too long, and returns what became of its packet.
+/// Receives a frame that isn't too long, and returns the fate of its packet.
 fn take(stack: &mut Stack, layer: &mut LinkLayer, frame: &[u8]) -> CFate
     requires { length frame.now ≤ ETHER_HEADER + IP_MAX_PACKET }
     ensures { HasFrameFate frame.now result (both stack.old (link_seen layer.old))
@@ -41,7 +41,7 @@ fn take(stack: &mut Stack, layer: &mut LinkLayer, frame: &[u8]) -> CFate
     CFate::of_frame(layer.receive(stack, frame))
 }
 
-/// Receives a frame, and writes what became of its packet.
+/// Receives a frame, and writes the fate of its packet.
 pub(crate) fn receive_fate(
     stack: &mut Stack,
     layer: &mut LinkLayer,
@@ -59,7 +59,7 @@ pub(crate) fn receive_fate(
     }
 }
 
-/// Takes the next frame, into a buffer that is long enough.
+/// Removes the next frame, into a buffer that is long enough.
 fn give(stack: &mut Stack, layer: &mut LinkLayer, buffer: &mut [u8]) -> i32
     requires mtu { stack.old.config.mtu ≤ ETHER_MTU }
     requires room { ETHER_HEADER + ETHER_MTU ≤ length buffer.old }
@@ -72,7 +72,7 @@ fn give(stack: &mut Stack, layer: &mut LinkLayer, buffer: &mut [u8]) -> i32
     }
 }
 
-/// Takes the next frame.
+/// Removes the next frame.
 pub(crate) fn transmit(stack: &mut Stack, layer: &mut LinkLayer, buffer: &mut [u8]) -> i32
     ensures { IsFramed buffer.old buffer.new result (both stack.old (link_seen layer.old))
         (both stack.new (link_seen layer.new)) }
@@ -83,8 +83,8 @@ pub(crate) fn transmit(stack: &mut Stack, layer: &mut LinkLayer, buffer: &mut [u
     give(stack, layer, buffer)
 }
 
-/// Returns what other hosts reported about a socket's datagrams: 0 for no report, ECONNREFUSED or EHOSTUNREACH, or a
-/// negative error code if the call fails.
+/// Returns the error that other hosts reported about a socket's datagrams: 0 for no report, ECONNREFUSED or
+/// EHOSTUNREACH, or a negative error code if the call fails.
 pub(crate) fn last_error(stack: &Stack, layer: &mut LinkLayer, fd: u32) -> i32
     ensures { ReportsError fd result (both stack.now (link_seen layer.old)) (both stack.now (link_seen layer.new)) }
 {

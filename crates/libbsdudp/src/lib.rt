@@ -47,7 +47,7 @@ pub extern "C" fn bsdudp_core_rx(handle: &mut Handle, packet: &[u8]) -> i32
     with_held!(handle, NO_STACK, held => calls::rx(&mut held.stack, packet))
 }
 
-/// Receives a packet as `bsdudp_core_rx` does, and writes what became of it. Returns 0, or -EMSGSIZE if it has more
+/// Receives a packet as `bsdudp_core_rx` does, and writes its fate. Returns 0, or -EMSGSIZE if it has more
 /// than 65,535 bytes.
 ///
 ///     int bsdudp_core_rx_fate(struct bsdudp_core *, const uint8_t *packet, size_t len, struct bsdudp_fate *)

@@ -22,7 +22,7 @@ pub(crate) struct Host {
     pub(crate) reached: Reached,
 }
 
-/// What became of a packet, in two bytes, which are returned in registers: a `Fate` is returned through memory, which
+/// The fate of a packet, in two bytes, which are returned in registers: a `Fate` is returned through memory, which
 /// costs each packet 20 to 40 instructions. `Host::fate` makes the fate of it.
 #[derive(Clone, Copy)]
 pub(crate) enum Ending {

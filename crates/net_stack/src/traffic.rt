@@ -36,7 +36,7 @@ impl Stack {
         self.host.receive(packet);
     }
 
-    /// Does the same as `rx`, and returns what became of the packet: the sockets that got it and those that lost it, or
+    /// Does the same as `rx`, and returns the packet's fate: the sockets that got it and those that lost it, or
     /// that it's kept as a fragment, or the cause that it's dropped for.
     #[inline(always)]
     pub fn rx_told(&mut self, packet: &[u8]) -> Fate
