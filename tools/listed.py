@@ -136,31 +136,6 @@ def counters() -> list[Counter]:
     return [Counter(variant, name, counts[variant], causes.get(variant, "")) for variant, name in named]
 
 
-def variants(path: pathlib.Path, types: str) -> set[str]:
-    """Returns the variants of these types that a file of definitions imports."""
-    pattern = r"use Rattle\.flat_model\.specs\.declared\.(?:" + types + r")\.TheVariants\.\{([^}]*)\}"
-    found = re.findall(pattern, path.read_text(encoding="utf-8"))
-    return {name.strip() for names in found for name in names.split(",")}
-
-
-@functools.lru_cache(maxsize=None)
-def places_of_counts() -> dict[str, list[tuple[str, str]]]:
-    """Returns, for each counter, the definitions that increase it or end a packet with its cause: their files and
-    names."""
-    counter_of = dict(causes_counted())
-    places: dict[str, list[tuple[str, str]]] = {}
-    for path in sorted(SPECS.rglob("*.antt")):
-        named = variants(path, r"counter\.Counter|counters\.Why")
-        if path.name == "Count.antt" or not named:
-            continue
-        for name, text in definitions(path).items():
-            for word in sorted(named & set(re.findall(r"\w+", text))):
-                place = str(path.relative_to(SPECS)), name
-                known = places.setdefault(counter_of.get(word, word), [])
-                known += [] if place in known else [place]
-    return places
-
-
 # ---- errors --------------------------------------------------------------------------------------------------------
 
 # The definitions whose text has the errors of a call, in order. Those of both sends are under `send`.

@@ -26,7 +26,7 @@ def test_table_of_checks():
 
 def test_each_counter_has_a_function_of_the_book():
     """tools/lists writes the other cells of the table of counters."""
-    heads = ("Counter", "What it counts", "Cause", "Volume 2", "Definition")
+    heads = ("Counter", "What it counts", "Cause", "Volume 2")
     rows = table(BEHAVIOUR, "Counters", *heads)[1]
     none_of(Fault(it.place, f"the row of {it.cells[0]} lacks the book's function") for it in rows if not it.cells[3])
 
