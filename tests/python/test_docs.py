@@ -61,12 +61,12 @@ def test_signatures(name):
 def test_socket_methods():
     """The page's lists of present and missing methods together have all methods of a Python socket."""
     section = PAGE.split("## A socket")[1].split("##")[0]
-    there, table = section.split("A socket of this package differs")
-    lacking = re.search(r"^\| What isn't there \| (.*) \|$", table, re.M)[1]
+    there, table = section.split("Unlike Python's")
+    lacking = re.search(r"^\| Missing \| (.*) \|$", table, re.M)[1]
     public = {name for name in dir(socket.socket) if not name.startswith("_")}
     assert set(re.findall(r"`(\w+)`", lacking)) == public - set(dir(bsdudp.Socket))
     methods = {name for name in public if callable(getattr(bsdudp.Socket, name, None))}
-    assert {name for name in re.findall(r"`(\w+)`", there)} - {"with", "__index__"} == methods
+    assert {name for name in re.findall(r"`(\w+)`", there)} - {"with"} == methods
 
 
 @pytest.mark.needs("scapy")
