@@ -22,25 +22,37 @@ BAD = "BAD EDIT: "
 
 
 class Refused(Exception):
-    """Why a text isn't an edit, or doesn't apply."""
+    """Why a text isn't an edit, or doesn't apply, and its line there, from 0."""
+
+    def __init__(self, why: str, line: int = 0) -> None:
+        super().__init__(why)
+        self.line = line
 
 
 class Pair(NamedTuple):
-    """A text in a file of the crate, and its replacement."""
+    """A text in a file of the crate, its replacement, and its line in the edit, from 0."""
 
     file: str
     old: str
     new: str
+    line: int
+
+
+def parts_of(path: pathlib.Path) -> Iterator[tuple[int, str, str]]:
+    """Yields each edit in a table: the line of its name, from 0, its name and its text. None if there is no table."""
+    whole = path.read_text(encoding="utf-8") if path.is_file() else ""
+    for it in re.finditer(r"(?:.+\n?)+", whole):
+        name, _, text = it[0].rstrip("\n").partition("\n")
+        yield whole.count("\n", 0, it.start()), name, text
 
 
 def table_of(path: pathlib.Path) -> dict[str, str]:
     """Returns the text of each edit in a table, by its name: none if there is no table. Raises Refused if a part of the
     table has no name, or one that another part has."""
     edits: dict[str, str] = {}
-    for part in filter(None, path.read_text(encoding="utf-8").strip("\n").split("\n\n") if path.is_file() else []):
-        name, _, text = part.partition("\n")
+    for line, name, text in parts_of(path):
         if not NAME.fullmatch(name) or name in edits:
-            raise Refused(f"this is no name of its own: {name}")
+            raise Refused(f"this is no name of its own: {name}", line)
         edits[name] = text
     return edits
 
@@ -62,20 +74,21 @@ def pairs_in(text: str) -> list[Pair]:
     """Returns the pairs of an edit's text, in order. Raises Refused with the reason if it isn't one."""
     pairs: list[Pair] = []
     path = old = None
-    for line in text.split("\n"):
+    first = 0
+    for at, line in enumerate(text.split("\n")):
         if line.startswith("file: "):
             path = line.removeprefix("file: ").strip()
         elif line.startswith("old: "):
-            old = line.removeprefix("old: ")
+            old, first = line.removeprefix("old: "), at
         elif line.startswith("new:"):
             if path is None or old is None:
-                raise Refused("'new:' stands before 'file:' or 'old:'")
-            pairs.append(Pair(path, old, line.removeprefix("new:").removeprefix(" ")))
+                raise Refused("'new:' stands before 'file:' or 'old:'", at)
+            pairs.append(Pair(path, old, line.removeprefix("new:").removeprefix(" "), first))
             old = None
         elif line.strip():
-            raise Refused(f"a line begins with none of 'file: ', 'old: ' and 'new:': {line}")
+            raise Refused(f"a line begins with none of 'file: ', 'old: ' and 'new:': {line}", at)
     if old is not None:
-        raise Refused(f"no 'new:' follows: {old}")
+        raise Refused(f"no 'new:' follows: {old}", first)
     if not pairs:
         raise Refused("it has no pair of 'old:' and 'new:'")
     return pairs
@@ -85,14 +98,14 @@ def applied(pairs: list[Pair], crate: pathlib.Path, texts: dict[str, str] | None
     """Returns the texts with each pair replaced. A file that isn't in `texts` is read from the crate's folder. Raises
     Refused if a file is missing, or if an old text isn't in it exactly once."""
     made = dict(texts or {})
-    for path, old, new in pairs:
+    for path, old, new, line in pairs:
         if path not in made:
             if not path.startswith(("src/", "specs/", "proofs/")) or not (crate / path).is_file():
-                raise Refused(f"there is no file {path}")
+                raise Refused(f"there is no file {path}", line)
             made[path] = (crate / path).read_text(encoding="utf-8")
         found = made[path].count(old) if old else 0
         if found != 1:
-            raise Refused(f"this stands in {path} {found} times: {old}")
+            raise Refused(f"this stands in {path} {found} times: {old}", line)
         made[path] = made[path].replace(old, new)
     return made
 
@@ -108,25 +121,26 @@ def copy_files(to: pathlib.Path, *paths: str) -> None:
             shutil.copy2(TOP / path, to / path)
 
 
-def faults(crate: pathlib.Path) -> Iterator[tuple[pathlib.Path, str]]:
-    """Yields the files with edits in a crate's folder that don't apply, each with the reason."""
-    edits: list[tuple[pathlib.Path, str, str]] = []
+def faults(crate: pathlib.Path) -> Iterator[tuple[str, str]]:
+    """Yields the files with edits in a crate's folder that don't apply, each with the line and the reason."""
+    edits: list[tuple[pathlib.Path, int, str, str]] = []
     for path in sorted(crate.glob(f"{FOLDER}/**/*")):
         if path.parent.parent != crate or path.suffix != ".edit" or not NAME.fullmatch(path.stem):
-            yield path, "this folder has only files NAME.edit"
+            yield f"{path}:1", "this folder has only files NAME.edit"
             continue
-        edits.append((path, path.stem, path.read_text(encoding="utf-8")))
+        edits.append((path, 1, path.stem, path.read_text(encoding="utf-8")))
     for table in TABLES:
         try:
-            edits += [(crate / table, name, text) for name, text in table_of(crate / table).items()]
+            table_of(crate / table)
+            edits += [(crate / table, line + 2, name, text) for line, name, text in parts_of(crate / table)]
         except Refused as why:
-            yield crate / table, str(why)
+            yield f"{crate / table}:{why.line + 1}", str(why)
     known: dict[str, pathlib.Path] = {}
-    for path, name, text in edits:
+    for path, first, name, text in edits:
         other = known.setdefault(name, path)
         if other != path:
-            yield path, f"{other.relative_to(crate)} has the same name: {name}"
+            yield f"{path}:{first}", f"{other.relative_to(crate)} has the same name: {name}"
         try:
             applied(pairs_in(text), crate)
         except Refused as why:
-            yield path, f"{name} doesn't apply: {why}"
+            yield f"{path}:{first + why.line}", f"{name} doesn't apply: {why}"

@@ -132,7 +132,27 @@ def test_bodies_that_are_refused(page, named):
 @pytest.mark.parametrize("crate", sorted(it.name for it in TOP.glob("crates/*")))
 def test_mutants_apply(crate):
     """Each mutant of a crate still applies: its file contains each text that it replaces exactly once."""
-    none_of(Fault(f"{path.relative_to(TOP)}:1", why) for path, why in edits.faults(TOP / "crates" / crate))
+    none_of(Fault(place.removeprefix(f"{TOP}/"), why) for place, why in edits.faults(TOP / "crates" / crate))
+
+
+# Tables of mutants, and the beginning of what is said of each: its line, and why.
+ONE, TWO = ("file: src/lib.rt\nold: one\nnew: two", "file: src/lib.rt\nold: 1\nnew: 3\nold: 1\nnew: 4")
+TABLES = {
+    "no empty line before a name": (f"a\n{ONE}\nb\n{ONE}\n", ["5: a doesn't apply: a line begins with none of"]),
+    "a text that isn't there": (f"a\n{ONE}\n\n\nb\n{TWO}\n", ["11: b doesn't apply: this stands in src/lib.rt"]),
+    "a name that stands twice": (f"a\n{ONE}\n\na\n{ONE}\n", ["6: this is no name of its own: a"]),
+    "no fault": (f"a\n{ONE}\n\nb\n{ONE}\n", []),
+}  # fmt: skip
+
+
+@pytest.mark.parametrize("what", TABLES)
+def test_a_fault_of_a_mutant_has_its_line(what, tmp_path):
+    text, wanted = TABLES[what]
+    (tmp_path / "src").mkdir()
+    (tmp_path / "src/lib.rt").write_text("one 1\n", encoding="utf-8")
+    (tmp_path / edits.TABLE).write_text(text, encoding="utf-8")
+    found = [f"{place}: {why}".removeprefix(f"{tmp_path / edits.TABLE}:") for place, why in edits.faults(tmp_path)]
+    assert len(found) == len(wanted) and all(map(str.startswith, found, wanted)), found
 
 
 def test_each_crate_has_a_mutant():
