@@ -1,5 +1,5 @@
 #!/usr/bin/env bash
-# Measures the named subjects, or all. Ends with status 1 if a row takes more instructions than its limit. A subject is
+# Measures the named subjects, or all. Ends with status 1 if a row needs more instructions than its limit. A subject is
 # a folder next to this file. Its measure.sh, or otherwise lib.sh, measures it.
 set -euo pipefail
 source "$(dirname "$0")/../tools/script.bash"

@@ -52,7 +52,7 @@ def table_of(path: pathlib.Path) -> dict[str, str]:
     edits: dict[str, str] = {}
     for line, name, text in parts_of(path):
         if not NAME.fullmatch(name) or name in edits:
-            raise Refused(f"this is no name of its own: {name}", line)
+            raise Refused(f"a mutant must have a separate name of letters, digits, - and _: {name}", line)
         edits[name] = text
     return edits
 
@@ -82,15 +82,15 @@ def pairs_in(text: str) -> list[Pair]:
             old, first = line.removeprefix("old: "), at
         elif line.startswith("new:"):
             if path is None or old is None:
-                raise Refused("'new:' stands before 'file:' or 'old:'", at)
+                raise Refused("'file:' and 'old:' must precede 'new:'", at)
             pairs.append(Pair(path, old, line.removeprefix("new:").removeprefix(" "), first))
             old = None
         elif line.strip():
-            raise Refused(f"a line begins with none of 'file: ', 'old: ' and 'new:': {line}", at)
+            raise Refused(f"a line must begin with 'file: ', 'old: ' or 'new:': {line}", at)
     if old is not None:
         raise Refused(f"no 'new:' follows: {old}", first)
     if not pairs:
-        raise Refused("it has no pair of 'old:' and 'new:'")
+        raise Refused("it must have a pair of 'old:' and 'new:'")
     return pairs
 
 
@@ -105,7 +105,7 @@ def applied(pairs: list[Pair], crate: pathlib.Path, texts: dict[str, str] | None
             made[path] = (crate / path).read_text(encoding="utf-8")
         found = made[path].count(old) if old else 0
         if found != 1:
-            raise Refused(f"this stands in {path} {found} times: {old}", line)
+            raise Refused(f"{path} must have this text once, not {found} times: {old}", line)
         made[path] = made[path].replace(old, new)
     return made
 

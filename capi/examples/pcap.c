@@ -101,9 +101,9 @@ int main(int argc, char **argv)
     out = pcap_dump_open(raw, argv[2]);
     link = pcap_datalink(in);
     if (!is_known(link))
-        return fprintf(stderr, "link type %d isn't known: take Ethernet, Linux cooked, loopback or raw IP\n", link), 1;
+        return fprintf(stderr, "unknown link type %d: use Ethernet, Linux cooked, loopback or raw IP\n", link), 1;
     if (out == NULL || bsdudp_boot(&stack, &config) < 0)
-        return fprintf(stderr, "can't write, or no such host\n"), 1;
+        return fprintf(stderr, "can't write OUT, or no host can have ADDR and BCAST\n"), 1;
     if (bsdudp_socket(&stack) != FD || bsdudp_bind(&stack, FD, &any) < 0)
         return 1;
     while (pcap_next_ex(in, &head, &frame) == 1) {

@@ -18,8 +18,8 @@ if TYPE_CHECKING:
 MOST_FLOOD = 100
 OK, DEVIATES, USAGE, NO_ADAPTER = 0, 1, 2, 3
 TEMPLATES = pathlib.Path(__file__).resolve().parent / "templates"
-DESCRIPTION = """Judges a UDP/IPv4 stack: sends packets through it, and compares what comes with two laws and with all
-machines that the RFCs permit. docs/judge.md says what an adapter is, and leads to a first verdict in five minutes."""
+DESCRIPTION = """Judges a UDP/IPv4 stack: sends packets through it, and compares its replies with two laws and with
+all machines that the RFCs permit. docs/judge.md describes adapters, and a first verdict in five minutes."""
 STATUS = """Status: 0 if there is no deviation that the baseline lacks, 1 if there is one, 2 if the command line is
 wrong, 3 if a stack or a device can't be reached."""
 

@@ -54,7 +54,7 @@ def _known(host: Host, port: SupportsIndex) -> Tuple[Raw, int]:
 def endpoint(address: object) -> Tuple[Raw, int]:
     """Returns an address for the library, and where it is. TypeError or ValueError if it is not an `Endpoint`."""
     if not isinstance(address, tuple) or len(address) != 2:
-        raise TypeError("an address is a tuple of a host and a port, as ('10.0.0.1', 7)")
+        raise TypeError("an address must be a tuple of a host and a port, such as ('10.0.0.1', 7)")
     try:
         return _known(*address)
     except TypeError:  # a host that can't be a key, or is of a wrong type

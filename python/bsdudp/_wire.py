@@ -121,9 +121,9 @@ class Wire(Uncopied):
             raise ValueError("a wire must join at least one stack")
         for stack in stacks:
             if isinstance(stack, Host):
-                raise TypeError("a Wire joins only Stacks: carry the frames of a Host by transmit and receive")
+                raise TypeError("a wire must join Stacks, not a Host: carry its frames by transmit and receive")
             if not isinstance(stack, Stack):
-                raise TypeError(f"a Wire joins only Stacks, not {type(stack).__name__}")
+                raise TypeError(f"a wire must join Stacks, not {type(stack).__name__}")
         self._stacks = stacks
         self._place: Dict[bytes, int] = {}
         for at, stack in enumerate(stacks):

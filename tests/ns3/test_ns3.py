@@ -20,12 +20,12 @@ SANITIZED = ["-DBSDUDP_EXAMPLES=OFF", "-DCMAKE_BUILD_TYPE=None"]
 SANITIZED += ["-DCMAKE_CXX_FLAGS=-O1 -g1 -fsanitize=address,undefined -fno-sanitize-recover=all"]
 # Refused configurations, and their error texts.
 REFUSED = {
-    "frame": "its MTU is 1501: set one of 68 to 1500",
+    "frame": "its MTU must be 68 to 1500, not 1501",
     "gateway": "gateway must be a neighbour",
-    "mtu": "its MTU is 9000: set one of 68 to 4352",
+    "mtu": "its MTU must be 68 to 4352, not 9000",
     "device": "node 0 has a bsdudp stack already",
     "stack": "node 0 has another stack already",
-    "later": "was given ns-3's own, too",
+    "later": "a node must have only one stack",
     "address": "10.0.0.1 with the broadcast address 10.0.0.1",
     "count": "there are 1 nodes and 2 devices",
     "bulk": "has no TCP, which BulkSendApplication needs",

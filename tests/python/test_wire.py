@@ -323,7 +323,7 @@ def test_what_a_wire_joins():
         bsdudp.Wire([host])
     with bsdudp.Stack() as one, bsdudp.Stack() as other, pytest.raises(ValueError, match=r"the address 10\.0\.0\.1"):
         bsdudp.Wire([one, other])
-    with pytest.raises(TypeError, match="joins only Stacks, not str"):
+    with pytest.raises(TypeError, match="must join Stacks, not str"):
         bsdudp.Wire(["10.0.0.1"])
     with bsdudp.Stack() as stack:
         assert bsdudp.Wire(iter([stack])).stacks == (stack,)

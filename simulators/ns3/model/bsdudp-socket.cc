@@ -382,7 +382,7 @@ BsdudpSocket::RecvFrom(uint32_t maxSize, uint32_t flags, Address& fromAddress)
             return packet;
         }
     }
-    NS_LOG_WARN("a datagram of " << length << " bytes comes without its tags");
+    NS_LOG_WARN("a datagram of " << length << " bytes arrives without its tags");
     return Create<Packet>(room.data(), length);
 }
 
@@ -430,7 +430,7 @@ void
 BsdudpSocket::BindToNetDevice(Ptr<NetDevice> netdevice)
 {
     NS_ABORT_MSG_IF(netdevice && (!m_stack || netdevice != m_stack->m_device),
-                    "bsdudp: a socket can be bound to the stack's own device alone");
+                    "bsdudp: the device of a socket must be its stack's");
     UdpSocket::BindToNetDevice(netdevice);
 }
 

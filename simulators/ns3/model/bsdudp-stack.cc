@@ -165,8 +165,8 @@ BsdudpStack::GetRefusal(Ptr<NetDevice> device)
     const uint16_t greatest = device->NeedsArp() ? GREATEST_MTU_ON_ETHERNET : GREATEST_MTU;
     if (reason.str().empty() && (device->GetMtu() < LEAST_MTU || device->GetMtu() > greatest))
     {
-        reason << "its MTU is " << device->GetMtu() << ": set one of " << LEAST_MTU << " to "
-               << greatest << " before the stack is installed";
+        reason << "its MTU must be " << LEAST_MTU << " to " << greatest << ", not "
+               << device->GetMtu() << ", before the stack is installed";
     }
     return reason.str();
 }
@@ -177,7 +177,7 @@ BsdudpStack::Start(Ptr<NetDevice> device, Ipv4Address address, Ipv4Mask mask)
     NS_LOG_FUNCTION(this << device << address << mask);
     const std::string refusal = GetRefusal(device);
     NS_ABORT_MSG_UNLESS(refusal.empty(), "bsdudp: no stack for this device: " << refusal);
-    NS_ABORT_MSG_IF(m_device, "bsdudp: the stack was started before");
+    NS_ABORT_MSG_IF(m_device, "bsdudp: a stack must be started only once");
     m_address = address;
     m_broadcast = address.GetSubnetDirectedBroadcast(mask);
     m_device = device;
@@ -246,7 +246,7 @@ void
 BsdudpStack::NotifyNewAggregate()
 {
     NS_ABORT_MSG_IF(GetObject<Ipv4>() || GetObject<UdpL4Protocol>(),
-                    "bsdudp: a node with a bsdudp stack was given ns-3's own, too: leave its "
+                    "bsdudp: a node must have only one stack, bsdudp or ns-3's own: leave its "
                     "InternetStackHelper out");
     Object::NotifyNewAggregate();
 }
@@ -306,7 +306,7 @@ BsdudpStack::GetCounter(const std::string& name) const
 {
     uint64_t value = 0;
     const uint32_t which = FindCounter(name);
-    NS_ABORT_MSG_IF(which == COUNTERS, "bsdudp: no counter is called " << name);
+    NS_ABORT_MSG_IF(which == COUNTERS, "bsdudp: unknown counter: " << name);
     bsdudp_counter(&m_stack, which, &value);
     return value;
 }
