@@ -138,9 +138,9 @@ def test_mutants_apply(crate):
 # Tables of mutants, and the beginning of what is said of each: its line, and why.
 ONE, TWO = ("file: src/lib.rt\nold: one\nnew: two", "file: src/lib.rt\nold: 1\nnew: 3\nold: 1\nnew: 4")
 TABLES = {
-    "no empty line before a name": (f"a\n{ONE}\nb\n{ONE}\n", ["5: a doesn't apply: a line begins with none of"]),
-    "a text that isn't there": (f"a\n{ONE}\n\n\nb\n{TWO}\n", ["11: b doesn't apply: this stands in src/lib.rt"]),
-    "a name that stands twice": (f"a\n{ONE}\n\na\n{ONE}\n", ["6: this is no name of its own: a"]),
+    "no empty line before a name": (f"a\n{ONE}\nb\n{ONE}\n", ["5: a doesn't apply: a line must begin with"]),
+    "a text that isn't there": (f"a\n{ONE}\n\n\nb\n{TWO}\n", ["11: b doesn't apply: src/lib.rt must have"]),
+    "a name that stands twice": (f"a\n{ONE}\n\na\n{ONE}\n", ["6: a mutant must have a separate name of"]),
     "no fault": (f"a\n{ONE}\n\nb\n{ONE}\n", []),
 }  # fmt: skip
 
