@@ -10,7 +10,7 @@ def words():
     """Returns the words in the tables, each with the place of its row."""
     sections = read(PAGE).split("\n## ")[1:]
     names = [it.partition("\n")[0] for it in sections if "\n| What is tested | Word |" in it]
-    rows = [row for it in names for row in table(PAGE, it, "What is tested", "Word", "Needs")[1]]
+    rows = [row for it in names for row in table(PAGE, it, "What is tested", "Word")[1]]
     return {word: row.place for row in rows for word in in_code(row.cells[1])}
 
 
