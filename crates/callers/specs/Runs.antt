@@ -22,6 +22,9 @@ use Rattle.flat_wire.specs.Places.{IsCounting, PacketPlace, counts_in, ends_at}
 use Rattle.flat_wire.specs.Progress.{IsCompleted, IsSending, key_for, parts}
 use Rattle.flat_wire.specs.Queue.{packets_in_queue}
 use Rattle.flat_wire.specs.Wire.{ComesFrom, packet_in}
+use Rattle.flat_ether.specs.Ever.{ArePassed, PassedAct, steps_of_acts, turns_of_acts}
+use Rattle.flat_ether.specs.Hosts.{AreHostActs, Host, HostAct, host_up}
+use Rattle.flat_ether.specs.declared.link.Link.{Link}
 use Rattle.net_stack.specs.Runs.{AreCalls, AreCallsOf, PassedCall, steps_of}
 use Rattle.net_stack.specs.Stack.{StackView, state_of}
 
@@ -83,3 +86,17 @@ pub record AreOnOnePacedWire (first second : Config) (sent : List PassedCall) (c
       → packet_in turn ≡ Some packet → ComesFrom first.addr packet
       → IsMadeBySend (steps_of sent) (born (length before)) packet
   pub paced : ArePaced first.addr came born made life pace
+
+-- two hosts on one Ethernet, as in `AreOnEthernetForEver`, with a premise that a user can check
+pub record AreOnPacedEthernet (c d : Config) (l m : Link) (sent : List PassedAct) (came : List HostAct) (s t : Host)
+    (born made : ℕ → ℕ) (life pace : ℕ) : Type 0 where
+  pub first_boots : IsConfig c
+  pub second_boots : IsConfig d
+  pub first_acts : ArePassed (host_up c l) sent s
+  pub second_acts : AreHostActs (host_up d m) came t
+  pub not_addr : c.addr ≢ d.addr
+  pub not_bcast : c.addr ≢ d.bcast
+  pub wire : (before after : List Turn) (turn : Turn) (packet : List ℕ)
+      → turns_of_acts d m.mac came ≡ before ++ turn ∷ after → packet_in turn ≡ Some packet → ComesFrom c.addr packet
+      → IsMadeBySend (steps_of_acts c l.mac sent) (born (length before)) packet
+  pub paced : ArePaced c.addr (turns_of_acts d m.mac came) born made life pace

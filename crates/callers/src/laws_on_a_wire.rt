@@ -1,18 +1,23 @@
 //! Two stacks on a wire that loses, repeats and exchanges packets, and the laws of their runs.
-ghost use Rattle.std.specs.Prelude.{◌≡◌, ◌≤◌, ◌∷◌, [], length, take, IfOk, All, List, Some, ℕ, ◌<◌};
+ghost use Rattle.std.specs.Prelude.{◌≡◌, ◌≤◌, ◌∷◌, [], length, take, Contains, IfOk, All, List, Some, ℕ, ◌<◌};
 ghost use Rattle.flat_model.specs.Machine.Event.{Reply};
 ghost use Rattle.flat_model.specs.Machine.Replies.{received_reply, given_reply};
 ghost use Rattle.net_stack.specs.Runs.{AreCalls, PassedCall, turns_of_calls};
 ghost use Rattle.callers.specs.Received.{HasGiven, IsReceivedInOrder, packet_comes, send_event};
 ghost use Rattle.params.specs.declared.TheConstants.{IP_MAX_PACKET, MAX_MTU, OUTPUT_QUEUE_PACKETS};
-ghost use Rattle.flat_model.specs.Machine.State.{Unfinished};
+ghost use Rattle.flat_model.specs.Machine.State.{Datagram, Socket, Unfinished};
 ghost use Rattle.flat_model.specs.declared.config.Config.{Config};
 ghost use Rattle.flat_model.specs.Machine.Ledger.{exact_ledger};
 ghost use Rattle.flat_model.specs.Runs.Run.{Turn};
 ghost use Rattle.flat_wire.specs.Ever.{AreAllSent};
+ghost use Rattle.flat_ether.specs.Ever.{PassedAct, acts_passed};
+ghost use Rattle.flat_ether.specs.Hosts.{Host, HostAct};
+ghost use Rattle.flat_ether.specs.Laws.{WasSentOnEthernet};
+ghost use Rattle.flat_ether.specs.declared.link.Link.{Link};
 ghost use Rattle.net_stack.specs.Stack.{StackView, state_of};
-ghost use Rattle.callers.specs.Runs.{AreFirstGiven, AreOnOnePacedWire, AreTwoParts, IsAccountedFor, IsReceivedUnlessLacking};
+ghost use Rattle.callers.specs.Runs.{AreFirstGiven, AreOnOnePacedWire, AreOnPacedEthernet, AreTwoParts, IsAccountedFor, IsReceivedUnlessLacking};
 
+use flat_ether::hosts_on_an_ethernet_for_ever;
 use flat_model::{Addr, Config, Counter, Counters, Errno, Fate, states_are_consistent};
 use flat_wire::{age_law, conservation_law, pace_law, progress_law, queue_law};
 use net_stack::{BootFault, Stack, calls_are_run, stacks_on_a_wire, stacks_on_a_wire_for_ever};
@@ -231,4 +236,17 @@ pub fn paced_stacks()
 {
     pace_law();
     stacks_on_a_wire_for_ever();
+}
+
+/// Two hosts on an Ethernet, of which the first paces its sends, as in `paced_stacks`. Then what waits in the second's
+/// queues was sent, for ever: by `pace_law` and `hosts_on_an_ethernet_for_ever`.
+pub fn paced_hosts()
+    ensures { (c d : Config) (l m : Link) (sent : List PassedAct) (came : List HostAct) (s t : Host) (born made : ℕ → ℕ)
+        (life pace : ℕ) (socket : Socket) (datagram : Datagram)
+        → AreOnPacedEthernet c d l m sent came s t born made life pace → Contains t.machine.sockets socket
+        → Contains socket.queue datagram → datagram.sender.ip ≡ c.addr
+        → WasSentOnEthernet c d l (acts_passed sent) s socket datagram }
+{
+    pace_law();
+    hosts_on_an_ethernet_for_ever();
 }

@@ -1,18 +1,21 @@
 -- Whole runs of a host from its start.
 use Rattle.std.proofs.Common.{◌≡◌, ℕ, Bool, true, false, cond, List, [], ◌∷◌, ◌++◌, Option, Some, None, refl, sym, ap, ◌∙◌, subst, append_assoc}
 use Rattle.std.specs.Prelude.{All, Contains, filter_map, is_some, option_to_list, Result}
-use Rattle.std.specs.List.{AllByRecursion as Each}
+use Rattle.std.specs.List.{AllByRecursion as Each, cons_option}
+use Rattle.std.proofs.lemmas.List.{map-append}
 use Rattle.std.proofs.lemmas.List.Elements.{All-from_recursion, recursion_from_All, All-contains_itself, All-head, Contains-append_left, Contains-append_right, filter_map-append}
 use Rattle.flat_model.specs.Amounts.Weight.{Item}
 use Rattle.flat_model.specs.Machine.Event.{Transmit, Given, Comes, Done, Tick}
 use Rattle.flat_model.specs.Machine.Ledger.{exact_ledger}
-use Rattle.flat_model.specs.Machine.State.{State, Socket, socket_at}
+use Rattle.flat_model.specs.Machine.State.{State, Socket, boot, socket_at}
 use Rattle.flat_model.specs.Runs.Run.{Turn, Leads}
 use Rattle.flat_model.specs.declared.config.Config.{Config}
 use Rattle.flat_model.specs.declared.fate.Fate.{Fate}
 use Rattle.flat_model.proofs.Laws.{each-weaker, fated_step}
+use Rattle.flat_wire.specs.Trail.{PassedStep, trail_turns}
 use Rattle.flat_wire.specs.Wire.{packet_in, packet_out}
 use Rattle.flat_ether.specs.Claims.{is_claimed}
+use Rattle.flat_ether.specs.Ever.{step_by, turn_if, turn_of_act, turns_of_acts}
 use Rattle.flat_ether.specs.Frames.{body_of, kind_of}
 use Rattle.flat_ether.specs.Hosts.{HostAct, AreHostActs, Comes_in, Drained, Goes_out, Clock, Calls, CallsMachine, Asks_error, Ages, Host, ReceivesKind, IsHostAct, drained, error_of_socket, gives, gives_after, gives_claimed, gives_drained, gives_probe, host_up, is_to_us, or_drains, with_output_left}
 use Rattle.flat_ether.specs.declared.error.NetFault.{NetFault}
@@ -23,6 +26,7 @@ use Rattle.flat_ether.specs.declared.link.Link.{Link}
 use Rattle.flat_ether.specs.declared.link.FrameKind.{FrameKind}
 use Rattle.flat_ether.specs.declared.link.FrameKind.TheVariants.{Packet, Martian, Arp, Other}
 use Rattle.flat_ether.proofs.Arrived as Arrived
+use Rattle.flat_ether.proofs.Marked.{AreMarked, both_marked, mute_marked, none_marked, one_marked, then_marked}
 use Rattle.flat_ether.proofs.Sent as Sent
 use Rattle.flat_ether.proofs.Turns.{then_leads, transmits, same_output, bytes_of_body, short_body}
 
@@ -49,20 +53,29 @@ module _ (c : Config) (l : Link) where
 
   -- An act on a machine and its link, after these frames arrived and these packets were given: `then'` are the frames
   -- that have arrived afterwards.
-  record Makes (F G then' : List (List ℕ)) (old new : State) (link : LinkState) (packets out : List (List ℕ)) : Type 0
-    where
-      turns : List Turn
-      leads : Leads exact_ledger old turns new
-      in' : filter_map packet_in turns ≡ packets
-      good : Good then' (G ++ filter_map packet_out turns) link
-      sent : Each (IsFrameSent c l F (G ++ filter_map packet_out turns)) out
+  record Makes (F G then' : List (List ℕ)) (old new : State) (link : LinkState) (packets out : List (List ℕ))
+      (turn : Option Turn) : Type 0 where
+    turns : List Turn
+    leads : Leads exact_ledger old turns new
+    in' : filter_map packet_in turns ≡ packets
+    good : Good then' (G ++ filter_map packet_out turns) link
+    sent : Each (IsFrameSent c l F (G ++ filter_map packet_out turns)) out
+    steps : AreMarked exact_ledger old turns new (cons_option (step_by turn old new) [])
 
   -- nothing was given
   same : (F G : List (List ℕ)) (s : LinkState) → Good F G s → Good F (G ++ []) s
   same F G s good = more_good F G [] s good
 
-  quiet : (F G : List (List ℕ)) (s t : State) (link : LinkState) → t ≡ s → Good F G link → Makes F G F s t link [] []
-  quiet F G s t link e good = record { turns = []; leads = e; in' = refl; good = same F G link good; sent = tt }
+  quiet : (F G : List (List ℕ)) (s t : State) (link : LinkState) → t ≡ s → Good F G link
+      → Makes F G F s t link [] [] None
+  quiet F G s t link e good = record {
+    turns = [];
+    leads = e;
+    in' = refl;
+    good = same F G link good;
+    sent = tt;
+    steps = none_marked s t e;
+  }
 
   -- ---- frames that are sent
 
@@ -77,7 +90,7 @@ module _ (c : Config) (l : Link) where
 
   drains : (items : List Item) (F G : List (List ℕ)) (s : State) (link : LinkState) → s.output ≡ items → Good F G link
       → Makes F G F s (with_output_left s (drained items link).output) (drained items link).link []
-      (option_to_list (drained items link).frame)
+      (option_to_list (drained items link).frame) None
   drains [] F G s link e good = quiet F G s _ link (same_output s [] e) good
   drains (item ∷ later) F G s link e good =
       go (sends item.bytes link) given
@@ -94,10 +107,10 @@ module _ (c : Config) (l : Link) where
       go : (g : Gives) → Sent.IsGiven c l F (G ++ item.bytes ∷ []) g
           → ((t : LinkState) → Good F (G ++ item.bytes ∷ []) t
           → Makes F (G ++ item.bytes ∷ []) F (with_output_left s later) (with_output_left s (drained later t).output)
-          (drained later t).link [] (option_to_list (drained later t).frame))
+          (drained later t).link [] (option_to_list (drained later t).frame) None)
           → Makes F G F s (with_output_left s (or_drains g later (drained later g.1)).output)
           (or_drains g later (drained later g.1)).link []
-          (option_to_list (or_drains g later (drained later g.1)).frame)
+          (option_to_list (or_drains g later (drained later g.1)).frame) None
       go (None, t) is rest =
           let r = rest t is.good in
           let more : (G ++ item.bytes ∷ []) ++ filter_map packet_out r.turns
@@ -109,6 +122,8 @@ module _ (c : Config) (l : Link) where
             in' = r.in';
             good = subst (λ H. Good F H (drained later t).link) more r.good;
             sent = subst (λ H. Each (IsFrameSent c l F H) (option_to_list (drained later t).frame)) more r.sent;
+            steps =
+                mute_marked s (with_output_left s later) turn refl refl (transmits s item later e) r.steps;
           }
       go (Some f, t) is rest = record {
         turns = turn ∷ [];
@@ -116,17 +131,21 @@ module _ (c : Config) (l : Link) where
         in' = refl;
         good = is.good;
         sent = (is.sent f refl, tt);
+        steps =
+            mute_marked s (with_output_left s later) turn refl refl (transmits s item later e)
+            (none_marked (with_output_left s later) (with_output_left s later) refl);
       }
 
   -- frames of the link's own
   own_makes : (F G : List (List ℕ)) (s : State) (g : Gives) → Sent.IsGiven c l F G g
-      → Makes F G F s s g.1 [] (option_to_list g.0)
+      → Makes F G F s s g.1 [] (option_to_list g.0) None
   own_makes F G s g own = record {
     turns = [];
     leads = refl;
     in' = refl;
     good = same F G g.1 own.good;
     sent = each-weaker (λ f is. Sent.more_sent c l F G [] f is) (option_to_list g.0) (sent_list F G g.0 own.sent);
+    steps = none_marked s s refl;
   }
 
   abbrev after_by : Host → Drained → Bool → Option (List ℕ) × Host
@@ -135,16 +154,16 @@ module _ (c : Config) (l : Link) where
       ((gives_own d.link).0, record { machine = with_output_left h.machine d.output; link = (gives_own d.link).1 })
 
   after_makes : (F G : List (List ℕ)) (h : Host) (d : Drained)
-      → Makes F G F h.machine (with_output_left h.machine d.output) d.link [] (option_to_list d.frame)
+      → Makes F G F h.machine (with_output_left h.machine d.output) d.link [] (option_to_list d.frame) None
       → Makes F G F h.machine (gives_after h d).1.machine (gives_after h d).1.link []
-      (option_to_list (gives_after h d).0)
+      (option_to_list (gives_after h d).0) None
   after_makes F G h d m = go (is_some d.frame)
     where
       own : Sent.IsGiven c l F (G ++ filter_map packet_out m.turns) (gives_own d.link)
       own = Sent.own_given c l F (G ++ filter_map packet_out m.turns) d.link m.good
 
       go : (b : Bool) → Makes F G F h.machine (after_by h d b).1.machine (after_by h d b).1.link []
-          (option_to_list (after_by h d b).0)
+          (option_to_list (after_by h d b).0) None
       go true = m
       go false = record {
         turns = m.turns;
@@ -152,6 +171,7 @@ module _ (c : Config) (l : Link) where
         in' = m.in';
         good = own.good;
         sent = sent_list F (G ++ filter_map packet_out m.turns) (gives_own d.link).0 own.sent;
+        steps = m.steps;
       }
 
   abbrev gives_by : Host → Bool → Option (List ℕ) × Host
@@ -160,26 +180,26 @@ module _ (c : Config) (l : Link) where
 
   claimed_makes : (F G : List (List ℕ)) (h : Host) → Good F G h.link
       → Makes F G F h.machine (gives_claimed h).1.machine (gives_claimed h).1.link []
-      (option_to_list (gives_claimed h).0)
+      (option_to_list (gives_claimed h).0) None
   claimed_makes F G h good = go (is_some (gives_own h.link).0)
     where
       own : Sent.IsGiven c l F G (gives_own h.link)
       own = Sent.own_given c l F G h.link good
 
       go : (b : Bool) → Makes F G F h.machine (gives_by h b).1.machine (gives_by h b).1.link []
-          (option_to_list (gives_by h b).0)
+          (option_to_list (gives_by h b).0) None
       go true = own_makes F G h.machine (gives_own h.link) own
       go false =
           after_makes F G h (drained h.machine.output (gives_own h.link).1)
           (drains h.machine.output F G h.machine (gives_own h.link).1 refl own.good)
 
   gives_makes : (F G : List (List ℕ)) (h : Host) → Good F G h.link
-      → Makes F G F h.machine (gives h).1.machine (gives h).1.link [] (option_to_list (gives h).0)
+      → Makes F G F h.machine (gives h).1.machine (gives h).1.link [] (option_to_list (gives h).0) None
   gives_makes F G h good = go (is_claimed h.link.claim)
     where
       go : (b : Bool) → Makes F G F h.machine (cond b (gives_claimed h) (gives_probe h)).1.machine
           (cond b (gives_claimed h) (gives_probe h)).1.link []
-          (option_to_list (cond b (gives_claimed h) (gives_probe h)).0)
+          (option_to_list (cond b (gives_claimed h) (gives_probe h)).0) None
       go true = claimed_makes F G h good
       go false = own_makes F G h.machine (gives_claim h.link) (Sent.claim_given c l F G h.link good)
 
@@ -193,6 +213,7 @@ module _ (c : Config) (l : Link) where
 
   act_makes : (F G : List (List ℕ)) (old new : Host) (act : HostAct) → Good F G old.link → IsHostAct old act new
       → Makes F G (frames_then act F) old.machine new.machine new.link (packets_in c l.mac act) (frame_out act)
+      (turn_of_act c l.mac act)
   act_makes F G old new (Comes_in f) good is =
       go (kind_of old.link.config old.link.link.mac f) (kind_of c l.mac f) kinds refl is.2
     where
@@ -213,23 +234,25 @@ module _ (c : Config) (l : Link) where
       taken fate wide false = wide
 
       still : (link : LinkState) → new ≡ record old { link = link } → Good (f ∷ F) (G ++ []) link
-          → Makes F G (f ∷ F) old.machine new.machine new.link [] []
+          → Makes F G (f ∷ F) old.machine new.machine new.link [] [] None
       still link e g = record {
         turns = [];
         leads = ap (λ (h : Host). h.machine) e;
         in' = refl;
         good = subst (Good (f ∷ F) (G ++ [])) (sym (ap (λ (h : Host). h.link) e)) g;
         sent = tt;
+        steps = none_marked old.machine new.machine (ap (λ (h : Host). h.machine) e);
       }
 
       go : (s t : FrameKind) → s ≡ t → kind_of c l.mac f ≡ t → ReceivesKind s f old new
-          → Makes F G (f ∷ F) old.machine new.machine new.link (packet_if t f) []
+          → Makes F G (f ∷ F) old.machine new.machine new.link (packet_if t f) [] (turn_if t f)
       go s t e k h =
-          subst (λ (x : FrameKind). Makes F G (f ∷ F) old.machine new.machine new.link (packet_if x f) []) e
+          subst (λ (x : FrameKind). Makes F G (f ∷ F) old.machine new.machine new.link (packet_if x f) [] (turn_if x f))
+          e
           (by s (k ∙ sym e) h)
         where
           by : (s : FrameKind) → kind_of c l.mac f ≡ s → ReceivesKind s f old new
-              → Makes F G (f ∷ F) old.machine new.machine new.link (packet_if s f) []
+              → Makes F G (f ∷ F) old.machine new.machine new.link (packet_if s f) [] (turn_if s f)
           by Packet k h = record {
             turns = record { event = Comes (body_of f); reply = Done } ∷ [];
             leads = (
@@ -243,6 +266,10 @@ module _ (c : Config) (l : Link) where
                 subst (Good (f ∷ F) (G ++ [])) (sym h.link)
                 (taken h.fate (wider (ap (λ (x : FrameKind). arp_if x f) k)) (is_to_us old.link f));
             sent = tt;
+            steps =
+                one_marked old.machine new.machine (record { event = Comes (body_of f); reply = Done })
+                (bytes_of_body f is.0, short_body f is.1)
+                (fated_step old.machine new.machine (body_of f) h.fate h.machine);
           }
           by Martian k h =
               still (refuses old.link) h (wider (ap (λ (x : FrameKind). arp_if x f) k))
@@ -252,7 +279,7 @@ module _ (c : Config) (l : Link) where
           by Other k h =
               still (ignores old.link) h (wider (ap (λ (x : FrameKind). arp_if x f) k))
   act_makes F G old new (Goes_out f) good is =
-      subst (λ (x : Option (List ℕ) × Host). Makes F G F old.machine x.1.machine x.1.link [] (option_to_list x.0))
+      subst (λ (x : Option (List ℕ) × Host). Makes F G F old.machine x.1.machine x.1.link [] (option_to_list x.0) None)
       (sym is) (gives_makes F G old good)
   act_makes F G old new Clock good is = record {
     turns = record { event = Tick; reply = Done } ∷ [];
@@ -260,6 +287,7 @@ module _ (c : Config) (l : Link) where
     in' = refl;
     good = subst (Good F (G ++ [])) (sym is.link) (same F G (ticks old.link) (Sent.ticks_good c l F G old.link good));
     sent = tt;
+    steps = one_marked old.machine new.machine (record { event = Tick; reply = Done }) tt is.machine;
   }
   act_makes F G old new (Calls turn) good is = record {
     turns = turn ∷ [];
@@ -267,19 +295,21 @@ module _ (c : Config) (l : Link) where
     in' = refl;
     good = calls_good F G old new turn good is;
     sent = tt;
+    steps = one_marked old.machine new.machine turn is.event is.machine;
   }
   act_makes F G old new (Asks_error fd fault) good is =
-      subst (λ (x : Result (Option NetFault) Errno × Host). Makes F G F old.machine x.1.machine x.1.link [] []) (sym is)
+      subst (λ (x : Result (Option NetFault) Errno × Host). Makes F G F old.machine x.1.machine x.1.link [] [] None)
+      (sym is)
       (go (socket_at fd old.machine))
     where
       go : (me : Option Socket) → Makes F G F old.machine (error_of_socket me old).1.machine
-          (error_of_socket me old).1.link [] []
+          (error_of_socket me old).1.link [] [] None
       go None = quiet F G old.machine old.machine old.link refl good
       go (Some me) =
           quiet F G old.machine old.machine (takes_error me.port me.peer old.link).1 refl
           (Sent.takes_good c l F G me.port me.peer old.link good)
   act_makes F G old new Ages good is =
-      subst (λ (h : Host). Makes F G F old.machine h.machine h.link [] []) (sym is)
+      subst (λ (h : Host). Makes F G F old.machine h.machine h.link [] [] None) (sym is)
       (quiet F G old.machine old.machine (ticks old.link) refl (Sent.ticks_good c l F G old.link good))
 
   -- ---- all of them
@@ -289,22 +319,31 @@ module _ (c : Config) (l : Link) where
   all_then [] F = F
   all_then (act ∷ acts) F = all_then acts (frames_then act F)
 
-  record MakesAll (F G : List (List ℕ)) (old new : State) (link : LinkState) (acts : List HostAct) : Type 0 where
+  -- the steps of these acts that are seen
+  abbrev pub steps_done : (old : Host) (acts : List HostAct) (new : Host) → AreHostActs old acts new → List PassedStep
+  steps_done old [] new done = []
+  steps_done old (act ∷ acts) new (mid, is, later) =
+      cons_option (step_by (turn_of_act c l.mac act) old.machine mid.machine) (steps_done mid acts new later)
+
+  record MakesAll (F G : List (List ℕ)) (old new : State) (link : LinkState) (acts : List HostAct)
+      (shown : List PassedStep) : Type 0 where
     turns : List Turn
     leads : Leads exact_ledger old turns new
     in' : filter_map packet_in turns ≡ packets_to c l.mac acts
     good : Good (all_then acts F) (G ++ filter_map packet_out turns) link
     sent : AreSent c l (G ++ filter_map packet_out turns) F acts
+    steps : AreMarked exact_ledger old turns new shown
 
   acts_make : (F G : List (List ℕ)) (old new : Host) (acts : List HostAct) → Good F G old.link
-      → AreHostActs old acts new
-      → MakesAll F G old.machine new.machine new.link acts
+      → (done : AreHostActs old acts new)
+      → MakesAll F G old.machine new.machine new.link acts (steps_done old acts new done)
   acts_make F G old new [] good done = record {
     turns = [];
     leads = ap (λ (h : Host). h.machine) done;
     in' = refl;
     good = subst (λ (h : Host). Good F (G ++ []) h.link) (sym done) (same F G old.link good);
     sent = tt;
+    steps = none_marked old.machine new.machine (ap (λ (h : Host). h.machine) done);
   }
   acts_make F G old new (act ∷ acts) good (mid, is, later) =
       let a = act_makes F G old mid act good is in
@@ -325,6 +364,10 @@ module _ (c : Config) (l : Link) where
             ∙ ap (λ xs. packets_in c l.mac act ++ xs) b.in';
         good = subst (λ H. Good (all_then acts (frames_then act F)) H new.link) out b.good;
         sent = subst (λ H. AreSent c l H F (act ∷ acts)) out (All-from_recursion _ (frame_out act) sent, b.sent);
+        steps =
+            then_marked old.machine mid.machine new.machine a.turns b.turns
+            (step_by (turn_of_act c l.mac act) old.machine mid.machine) (steps_done mid acts new later) a.steps
+            b.steps;
       }
 
   up_good : Good [] [] (host_up c l).link
@@ -344,9 +387,9 @@ module _ (c : Config) (l : Link) where
   all_waiting : (F G : List (List ℕ)) (s : LinkState) → Good F G s → All (λ h. Contains G h.packet) s.held
   all_waiting F G s good = All-from_recursion _ s.held (each-weaker (λ h is. is.made) s.held good.held)
 
-  abbrev made_by : (acts : List HostAct) (new : Host) → MakesAll [] [] (host_up c l).machine new.machine new.link acts
-      → MakesTurns c l acts new
-  made_by acts new m = record {
+  abbrev made_by : (acts : List HostAct) (new : Host) (shown : List PassedStep)
+      → MakesAll [] [] (host_up c l).machine new.machine new.link acts shown → MakesTurns c l acts new
+  made_by acts new shown m = record {
     turns = m.turns;
     leads = m.leads;
     came = m.in';
@@ -355,7 +398,31 @@ module _ (c : Config) (l : Link) where
   }
 
   pub makes_turns : (acts : List HostAct) (new : Host) → AreHostActs (host_up c l) acts new → MakesTurns c l acts new
-  makes_turns acts new done = made_by acts new (acts_make [] [] (host_up c l) new acts up_good done)
+  makes_turns acts new done =
+      made_by acts new (steps_done (host_up c l) acts new done) (acts_make [] [] (host_up c l) new acts up_good done)
+
+  -- the turns of these acts, with the steps that are seen
+  pub record MakesSteps (acts : List HostAct) (new : Host) (shown : List PassedStep) : Type 0 where
+    pub makes : MakesTurns c l acts new
+    pub steps : AreMarked exact_ledger (boot c) makes.turns new.machine shown
+
+  pub makes_steps : (acts : List HostAct) (new : Host) (done : AreHostActs (host_up c l) acts new)
+      → MakesSteps acts new (steps_done (host_up c l) acts new done)
+  makes_steps acts new done =
+      let m = acts_make [] [] (host_up c l) new acts up_good done in
+      record { makes = made_by acts new (steps_done (host_up c l) acts new done) m; steps = m.steps }
+
+  -- the turns of the steps that are seen
+  pub turns_done : (old : Host) (acts : List HostAct) (new : Host) (done : AreHostActs old acts new)
+      → trail_turns (steps_done old acts new done) ≡ turns_of_acts c l.mac acts
+  turns_done old [] new done = refl
+  turns_done old (act ∷ acts) new (mid, is, later) = go (turn_of_act c l.mac act) (turns_done mid acts new later)
+    where
+      go : (turn : Option Turn) → trail_turns (steps_done mid acts new later) ≡ turns_of_acts c l.mac acts
+          → trail_turns (cons_option (step_by turn old.machine mid.machine) (steps_done mid acts new later))
+          ≡ cons_option turn (turns_of_acts c l.mac acts)
+      go None e = e
+      go (Some turn) e = ap (λ ts. turn ∷ ts) e
 
   -- ---- a call among other acts
 
@@ -394,6 +461,9 @@ module _ (c : Config) (l : Link) where
     pub rest : List Turn
     pub all : MakesTurns c l (before ++ Calls turn ∷ after) new
     pub turns_are : all.turns ≡ first.turns ++ turn ∷ rest
+    pub shown : List PassedStep
+    pub shown_are : trail_turns shown ≡ turns_of_acts c l.mac (before ++ Calls turn ∷ after)
+    pub steps : AreMarked exact_ledger (boot c) all.turns new.machine shown
 
   pub split : (before after : List HostAct) (turn : Turn) (new : Host)
       → AreHostActs (host_up c l) (before ++ Calls turn ∷ after) new → IsSplit before after turn new
@@ -405,6 +475,7 @@ module _ (c : Config) (l : Link) where
           let a = acts_make [] [] (host_up c l) mid before up_good early in
           let out : List (List ℕ) = filter_map packet_out a.turns in
           let call : List (List ℕ) = filter_map packet_out (turn ∷ []) in
+          let call_step : PassedStep = record { old = mid.machine; turn = turn; new = next.machine } in
           let b =
           acts_make (all_then before []) (out ++ call) next new after
           (calls_good (all_then before []) out mid next turn a.good is) late in
@@ -417,7 +488,7 @@ module _ (c : Config) (l : Link) where
           more_all (out ++ call) (filter_map packet_out b.turns) [] before (more_all out call [] before a.sent) in
           record {
             then' = mid;
-            first = made_by before mid a;
+            first = made_by before mid (steps_done (host_up c l) before mid early) a;
             rest = b.turns;
             all = record {
               turns = a.turns ++ turn ∷ b.turns;
@@ -439,4 +510,18 @@ module _ (c : Config) (l : Link) where
                   (subst (λ H. Good (all_then after (all_then before [])) H new.link) given b.good);
             };
             turns_are = refl;
+            shown = steps_done (host_up c l) before mid early ++ call_step ∷ steps_done next after new late;
+            shown_are =
+                map-append (λ (p : PassedStep). p.turn) (steps_done (host_up c l) before mid early)
+                (call_step ∷ steps_done next after new late)
+                ∙ ap (λ ts. ts ++ turn ∷ trail_turns (steps_done next after new late))
+                (turns_done (host_up c l) before mid early)
+                ∙ ap (λ ts. turns_of_acts c l.mac before ++ turn ∷ ts) (turns_done next after new late)
+                ∙ sym (filter_map-append (turn_of_act c l.mac) before (Calls turn ∷ after));
+            steps =
+                both_marked (host_up c l).machine mid.machine new.machine a.turns (turn ∷ b.turns)
+                (steps_done (host_up c l) before mid early) (call_step ∷ steps_done next after new late) a.steps
+                (then_marked mid.machine next.machine new.machine (turn ∷ []) b.turns (Some call_step)
+                (steps_done next after new late) (one_marked mid.machine next.machine turn is.event is.machine)
+                b.steps);
           }

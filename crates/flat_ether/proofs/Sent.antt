@@ -23,7 +23,7 @@ use Rattle.flat_model.specs.declared.address.Addr.{Addr}
 use Rattle.flat_ether.specs.Frames.{arp_bytes, arp_of, body_of, ether_broadcast, frame, is_arp, is_host_mac, kind_of, no_mac, same_mac}
 use Rattle.flat_ether.specs.Icmp.{answer_to, echo_message, echo_reply, error_for, is_answerable, is_first, is_no_protocol, is_ping, is_quote_of, quote_of, unreachable_reply, reflected, unreachable_message}
 use Rattle.flat_ether.specs.Laws.{IsMade, IsReply, IsRoute, IsFrameSent, arp_if, last_given, is_arp_from, given_in}
-use Rattle.flat_ether.specs.Links.{Gives, WaitingPacket, LinkState, ages, neighbour_aged, answers_by, answers_dropped, answers_fate, answers_first, answers_now, answers_on, answers_whole, answers_with, asked_at, asks, asks_at, by_route, claim_frame, drops_first, counts_too_long, counts_icmp_dropped, first_ready, gives_answer, gives_claim, gives_held, gives_own, gives_reply, gives_request, is_resolvable, has_ip, holds_packet, is_answering, is_asked, is_busy, is_request_due, is_sound_arp, keeps_first, limits, makes_way, mac_known, mac_in, adds_error_if, adds_error, takes_at, takes_error, mac_of, or_then, queues_reply, neighbour_place, put, puts_answer, puts_echo, puts_unreachable, quote_in, quote_for, quote_with, ready_or, replies_to, sends, sends_answer, sends_at, sends_held, neighbour_stays, takes_place, ticks, to_hop, unknown, route_of, route_to}
+use Rattle.flat_ether.specs.Links.{Gives, WaitingPacket, LinkState, ages, neighbour_aged, answers_by, answers_dropped, answers_fate, answers_first, answers_now, answers_on, answers_with, asked_at, asks, asks_at, by_route, claim_frame, drops_first, counts_too_long, counts_icmp_dropped, first_ready, gives_answer, gives_claim, gives_held, gives_own, gives_reply, gives_request, is_resolvable, has_ip, holds_packet, is_answering, is_asked, is_busy, is_request_due, is_sound_arp, keeps_first, limits, makes_way, mac_known, mac_in, adds_error_if, adds_error, takes_at, takes_error, mac_of, or_then, queues_reply, neighbour_place, put, puts_answer, puts_echo, puts_unreachable, quote_in, quote_for, quote_with, ready_or, replies_to, sends, sends_answer, sends_at, sends_held, neighbour_stays, takes_place, ticks, to_hop, unknown, route_of, route_to}
 use Rattle.flat_ether.specs.Routes.{is_neighbour, route}
 use Rattle.flat_ether.specs.declared.answer.Answer.{Answer}
 use Rattle.flat_ether.specs.declared.answer.Answer.TheVariants.{Echo, Unreachable, Silence}

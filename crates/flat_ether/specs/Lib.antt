@@ -6,3 +6,4 @@ pub mod Errors
 pub mod Links
 pub mod Hosts
 pub mod Laws
+pub mod Ever

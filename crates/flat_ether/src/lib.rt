@@ -19,7 +19,8 @@ pub use claim::{AddressState, Claim, ClaimFrame};
 pub use error::{NetFault, SocketError};
 pub use laws::{
     any_hosts_on_an_ethernet, frames_go_to_hosts, hosts_keep_to_the_mtu, hosts_make_turns,
-    hosts_on_an_ethernet, hosts_send_as_themselves, martians_are_dropped, replies_are_numbered,
+    hosts_on_an_ethernet, hosts_on_an_ethernet_for_ever, hosts_send_as_themselves,
+    martians_are_dropped, replies_are_numbered,
 };
 pub use link::{FrameKind, Link, Route};
 pub use mac::{ETHER_BROADCAST, Mac, NO_MAC};

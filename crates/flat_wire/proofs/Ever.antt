@@ -26,7 +26,7 @@ use Rattle.flat_wire.proofs.Decode.{source_read}
 use Rattle.flat_wire.proofs.Reading.{read_head}
 use Rattle.flat_wire.proofs.Walk as Walk
 use Rattle.flat_wire.proofs.Closed.{IsClosedBy}
-use Rattle.flat_wire.proofs.Quiet.{quiet}
+use Rattle.flat_wire.proofs.Quiet.{IsQuiet, quiet}
 use Rattle.flat_wire.proofs.Second as Second
 use Rattle.flat_wire.proofs.SecondSteps as Steps
 
@@ -402,6 +402,20 @@ module _ (S A B mtu : ℕ) (Answered : Sending → Type 0) (M : Ledger) (first_i
 
   -- ---- every event
 
+  -- an event by which no datagram begins or gets older
+  keeps : (seen : List Seen) (event : Event) (reply : Reply) (old new : State) (holds : Holds seen old)
+      → IsQuiet M (λ cc us c. Witnessed seen us) event
+      → Steps.IsGoodEvent S A B mtu (P seen) Answered M (log seen holds.apart) low not_A not_B not_loopback event
+      → StepBy M old event reply new → Holds seen new
+  keeps seen event reply old new holds is_quiet is_good h =
+      let next = stepped seen old new event reply holds.apart holds.ports holds.good is_good h in
+      record {
+        apart = holds.apart;
+        ports = next.0;
+        good = next.1;
+        witnessed = quiet M (λ cc us c. Witnessed seen us) event reply old new is_quiet holds.witnessed h;
+      }
+
   one : (seen : List Seen) (event : Event) (label : Option ℕ) (reply : Reply) (old new : State) → Holds seen old
       → IsLabelled event label → IsNearTo event label seen → StepBy M old event reply new
       → Holds (sees event label seen) new
@@ -418,85 +432,25 @@ module _ (S A B mtu : ℕ) (Answered : Sending → Type 0) (M : Ledger) (first_i
         witnessed = sends seen fd to bytes reply old new holds h;
       }
   one seen Open label reply old new holds is near h =
-      let next = stepped seen old new Open reply holds.apart holds.ports holds.good tt h in
-      record {
-        apart = holds.apart;
-        ports = next.0;
-        good = next.1;
-        witnessed = quiet M (λ cc us c. Witnessed seen us) Open reply old new tt holds.witnessed h;
-      }
+      keeps seen Open reply old new holds tt tt h
   one seen (Bind fd a) label reply old new holds is near h =
-      let next = stepped seen old new (Bind fd a) reply holds.apart holds.ports holds.good tt h in
-      record {
-        apart = holds.apart;
-        ports = next.0;
-        good = next.1;
-        witnessed = quiet M (λ cc us c. Witnessed seen us) (Bind fd a) reply old new tt holds.witnessed h;
-      }
+      keeps seen (Bind fd a) reply old new holds tt tt h
   one seen (Connect fd a) label reply old new holds is near h =
-      let next = stepped seen old new (Connect fd a) reply holds.apart holds.ports holds.good tt h in
-      record {
-        apart = holds.apart;
-        ports = next.0;
-        good = next.1;
-        witnessed = quiet M (λ cc us c. Witnessed seen us) (Connect fd a) reply old new tt holds.witnessed h;
-      }
+      keeps seen (Connect fd a) reply old new holds tt tt h
   one seen (Receive fd most) label reply old new holds is near h =
-      let next = stepped seen old new (Receive fd most) reply holds.apart holds.ports holds.good tt h in
-      record {
-        apart = holds.apart;
-        ports = next.0;
-        good = next.1;
-        witnessed = quiet M (λ cc us c. Witnessed seen us) (Receive fd most) reply old new tt holds.witnessed h;
-      }
+      keeps seen (Receive fd most) reply old new holds tt tt h
   one seen (Close fd) label reply old new holds is near h =
-      let next = stepped seen old new (Close fd) reply holds.apart holds.ports holds.good tt h in
-      record {
-        apart = holds.apart;
-        ports = next.0;
-        good = next.1;
-        witnessed = quiet M (λ cc us c. Witnessed seen us) (Close fd) reply old new tt holds.witnessed h;
-      }
+      keeps seen (Close fd) reply old new holds tt tt h
   one seen (Set_option fd option on) label reply old new holds is near h =
-      let next = stepped seen old new (Set_option fd option on) reply holds.apart holds.ports holds.good tt h in
-      record {
-        apart = holds.apart;
-        ports = next.0;
-        good = next.1;
-        witnessed = quiet M (λ cc us c. Witnessed seen us) (Set_option fd option on) reply old new tt holds.witnessed h;
-      }
+      keeps seen (Set_option fd option on) reply old new holds tt tt h
   one seen (Set_limit fd limit) label reply old new holds is near h =
-      let next = stepped seen old new (Set_limit fd limit) reply holds.apart holds.ports holds.good tt h in
-      record {
-        apart = holds.apart;
-        ports = next.0;
-        good = next.1;
-        witnessed = quiet M (λ cc us c. Witnessed seen us) (Set_limit fd limit) reply old new tt holds.witnessed h;
-      }
+      keeps seen (Set_limit fd limit) reply old new holds tt tt h
   one seen Transmit label reply old new holds is near h =
-      let next = stepped seen old new Transmit reply holds.apart holds.ports holds.good tt h in
-      record {
-        apart = holds.apart;
-        ports = next.0;
-        good = next.1;
-        witnessed = quiet M (λ cc us c. Witnessed seen us) Transmit reply old new tt holds.witnessed h;
-      }
+      keeps seen Transmit reply old new holds tt tt h
   one seen Ask_counters label reply old new holds is near h =
-      let next = stepped seen old new Ask_counters reply holds.apart holds.ports holds.good tt h in
-      record {
-        apart = holds.apart;
-        ports = next.0;
-        good = next.1;
-        witnessed = quiet M (λ cc us c. Witnessed seen us) Ask_counters reply old new tt holds.witnessed h;
-      }
+      keeps seen Ask_counters reply old new holds tt tt h
   one seen Ask_usage label reply old new holds is near h =
-      let next = stepped seen old new Ask_usage reply holds.apart holds.ports holds.good tt h in
-      record {
-        apart = holds.apart;
-        ports = next.0;
-        good = next.1;
-        witnessed = quiet M (λ cc us c. Witnessed seen us) Ask_usage reply old new tt holds.witnessed h;
-      }
+      keeps seen Ask_usage reply old new holds tt tt h
 
   runs : (seen : List Seen) (ls : List Labelled) (old new : State) → Holds seen old
       → Each (λ (l : Labelled). IsLabelled l.turn.event l.label) ls → AreNear seen ls

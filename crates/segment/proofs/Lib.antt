@@ -14,6 +14,7 @@ mod Apart
 mod Delivering
 mod Wires
 mod Bare
+mod OneWire
 mod Framing
 mod EtherHistory
 mod EtherWires

@@ -4,6 +4,7 @@ use Rattle.flat_model.specs.Machine.Count.{value_of}
 use Rattle.flat_model.specs.Runs.Run.{Turn}
 use Rattle.flat_model.specs.declared.config.Config.{Config}
 use Rattle.flat_model.specs.declared.counter.Counter.TheVariants.{IpLocalout}
+use Rattle.flat_wire.specs.Ever.{IsShortSend}
 use Rattle.flat_wire.specs.Wire.{ComesFrom, packet_in}
 use Rattle.net_stack.specs.Stack.{StackView}
 use Rattle.net_stack.specs.Runs.{AreCalls}
@@ -120,4 +121,17 @@ pub record AreOnSegment (room i j : ℕ) (first second : Config) (s t : StackVie
   pub first_stack : slice_get last.stacks i ≡ Some s
   pub second_stack : slice_get last.stacks j ≡ Some t
   pub few : value_of IpLocalout s.counters < 2 ^ 16
+  pub outside : All (λ packet. ¬ ComesFrom first.addr packet) (filter_map packet_in (called_of j acts))
+
+-- The same with any number of sends, if the first never sends a datagram that is longer than one packet.
+pub record AreOnSegmentWhole (room i j : ℕ) (first second : Config) (s t : StackView) (acts : List Act)
+    (last : SegmentView) : Type 0 where
+  pub done : AreActs (no_hosts room) acts last
+  pub bare : is_ether last ≡ false
+  pub two : i ≢ j
+  pub first_is : slice_get last.configs i ≡ Some first
+  pub second_is : slice_get last.configs j ≡ Some second
+  pub first_stack : slice_get last.stacks i ≡ Some s
+  pub second_stack : slice_get last.stacks j ≡ Some t
+  pub whole : All (λ (turn : Turn). IsShortSend first.mtu turn.event) (turns_of i acts)
   pub outside : All (λ packet. ¬ ComesFrom first.addr packet) (filter_map packet_in (called_of j acts))

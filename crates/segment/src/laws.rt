@@ -6,6 +6,7 @@ ghost use Rattle.flat_model.specs.Machine.Ledger.{exact_ledger};
 ghost use Rattle.flat_model.specs.Machine.State.{Datagram, Socket};
 ghost use Rattle.flat_model.specs.declared.address.Addr.{Addr};
 ghost use Rattle.flat_model.specs.declared.config.Config.{Config};
+ghost use Rattle.flat_wire.specs.Ever.{AreAllSent};
 ghost use Rattle.flat_wire.specs.Wire.{WasSent};
 ghost use Rattle.flat_ether.specs.Hosts.{Host, HostAct};
 ghost use Rattle.flat_ether.specs.Hosts as host;
@@ -13,11 +14,11 @@ ghost use Rattle.flat_ether.specs.Laws.{WasReceivedOnEthernet, WasSentOnEthernet
 ghost use Rattle.flat_ether.specs.declared.link.Link.{Link};
 ghost use Rattle.net_stack.specs.Stack.{StackView, state_of};
 ghost use Rattle.segment.specs.Segment.{SegmentView, is_ether, no_hosts};
-ghost use Rattle.segment.specs.Law.{Act, AreActs, AreOnSegment, turns_of};
+ghost use Rattle.segment.specs.Law.{Act, AreActs, AreOnSegment, AreOnSegmentWhole, turns_of};
 ghost use Rattle.segment.specs.EtherLaw.{AreOnEtherSegment, acts_of};
 
 use flat_ether::any_hosts_on_an_ethernet;
-use net_stack::stacks_on_a_wire;
+use net_stack::{stacks_on_a_wire, stacks_on_a_wire_for_ever};
 
 /// A host of a segment, whatever was done since it had no hosts: what its stack did is a run of the machine that was
 /// booted with its configuration. For a segment with one host on which nothing is carried, that is the law of a script
@@ -44,6 +45,23 @@ pub fn hosts_on_a_segment()
         → WasSent exact_ledger exact_ledger first second (turns_of i acts) before (state_of s) fd most sender bytes }
 {
     stacks_on_a_wire();
+}
+
+/// The law of two hosts of a segment for a first one that never sends a datagram that is longer than one packet. It may
+/// send any number of them, at any rate, and the segment may delay them for any time. `received`: as in
+/// `hosts_on_a_segment`. `waits`: the same, whole, for each datagram in a queue of the second one.
+pub fn hosts_on_a_segment_for_ever()
+    ensures received { (room i j : ℕ) (first second : Config) (s t : StackView) (acts : List Act) (last : SegmentView)
+        (before after : List Turn) (fd most : ℕ) (sender : Addr) (bytes : List ℕ)
+        → AreOnSegmentWhole room i j first second s t acts last
+        → turns_of j acts ≡ before ++ record { event = Receive fd most; reply = Received sender bytes } ∷ after
+        → sender.ip ≡ first.addr
+        → WasSent exact_ledger exact_ledger first second (turns_of i acts) before (state_of s) fd most sender bytes }
+    ensures waits { (room i j : ℕ) (first second : Config) (s t : StackView) (acts : List Act) (last : SegmentView)
+        → AreOnSegmentWhole room i j first second s t acts last
+        → AreAllSent exact_ledger first second (turns_of i acts) (state_of s) (state_of t) }
+{
+    stacks_on_a_wire_for_ever();
 }
 
 /// Two hosts of a segment on which all are on an Ethernet, whatever was done since it had no hosts: hosts joined, calls
