@@ -92,6 +92,7 @@ TOOLS = {
     "cc": Tool(command(os.environ.get("CC", "cc")), "gcc"),
     "c++": Tool(command(os.environ.get("CXX", "c++")), "g++"),
     "objdump": Tool(command("objdump"), "binutils"),
+    "abidiff": Tool(command("abidiff"), "abigail-tools"),
     "tsan": Tool(links("-fsanitize=thread"), "gcc"),
     "asan": Tool(links("-fsanitize=address,undefined"), "gcc"),
     "pkg-config": Tool(command("pkg-config"), "pkg-config"),
