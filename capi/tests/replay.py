@@ -169,7 +169,7 @@ def by_links(program, scratch, wanted):
     source = pathlib.Path(scratch, "other.pcap")
     write(source, 105, [(1, heard[0])])  # IEEE 802.11
     refused = subprocess.run([program, source, "/dev/null", "10.0.0.1", "10.0.0.255"], capture_output=True, check=False)
-    if refused.returncode != 1 or not refused.stderr.startswith(b"link type 105 isn't known"):
+    if refused.returncode != 1 or not refused.stderr.startswith(b"unknown link type 105"):
         raise Wrong(f"pcap takes a link that it doesn't know: {refused}")
 
 
