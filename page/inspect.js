@@ -4,7 +4,7 @@
 const SIGNS = { in: "⇢", out: "⇠", send: "↗", read: "↙", call: "•", tick: "◔", ask: "?", wire: "⇄", bad: "✗",
   card: "!" };
 const signOf = step => {
-  const kind = isLeftToCard(step) ? "card" : !step.isOk || step.drops.length > 0 ? "bad" : step.kind;
+  const kind = apartOf(step) ? "card" : !step.isOk || step.drops.length > 0 ? "bad" : step.kind;
   return h("span", { class: `sign sign-${kind}`, "aria-hidden": "true" }, SIGNS[kind]);
 };
 const cut = (text, most) => (text.length > most ? text.slice(0, most) + "…" : text);
@@ -103,7 +103,7 @@ function verdictsOf(step, before, now) {
   if (step.packet && step.kind === "in" && !grown.length && !step.drops.some(it => ENDS.has(it.name))) {
     all.push(verdict("wait", step.packet.isFragment ? "Kept: the datagram isn't whole yet." : "Accepted."));
   }
-  if (isLeftToCard(step)) all.push(cardVerdict(step));
+  if (apartOf(step)) all.push(apartVerdict(step, apartOf(step)));
   else for (const it of step.drops) {
     const cause = causeIn(step, it.name), { rule } = CAUSES.find(known => known.text === cause) || {};
     const many = it.by > 1 ? `${it.by} dropped` : "Dropped";
@@ -115,9 +115,8 @@ function verdictsOf(step, before, now) {
   return all;
 }
 
-const cardVerdict = step => verdict("wait", h("b", {}, "Left to the card"),
-  ": the UDP checksum has only the sum of the pseudo header, so the stack drops the datagram (",
-  h("code", {}, "udp.badsum"), `)${bothSums(step, "udp.badsum")}.`, h("span", { class: "rule" }, CARD_RULE));
+const apartVerdict = (step, { head, says, rule }) => step.drops.map(({ name }) => verdict("wait", h("b", {}, head),
+  says, h("code", {}, name), `)${bothSums(step, name)}.`, h("span", { class: "rule" }, rule)));
 
 // Counters of unfinished datagrams that were dropped.
 const GIVES_UP = new Set(["ip.fragtimeout", "ip.reclaimed"]);
@@ -179,8 +178,8 @@ function checksOf(step) {
   const all = CHECKS.filter(([name]) => isShown(name)),
     last = failed ? all.findIndex(([name]) => name === failed) : all.length;
   return h("ol", { class: "checks" }, all.map(([name, what], i) => {
-    const isCard = i === last && isLeftToCard(step);
-    const [kind, mark, told] = i < last ? ["pass", "✓", "passed: "] : isCard ? ["card", "!", "left to the card: "]
+    const apart = i === last && apartOf(step);
+    const [kind, mark, told] = i < last ? ["pass", "✓", "passed: "] : apart ? ["card", "!", `${apart.head.toLowerCase()}: `]
       : i === last ? ["fail", "✗", "failed: "]
       : ["not", "·", "not reached: "];
     return h("li", { class: kind }, h("span", { "aria-hidden": "true" }, mark), h("span", { class: "unseen" }, told),

@@ -68,7 +68,7 @@ const PLAYS = {
 // ---- display
 
 const badgesOf = step => step.changed.map(({ host, name, by, isLost }) =>
-  h("span", { class: !DROPS.has(name) && !isLost ? "badge" : isLeftToCard(step) ? "badge card" : "badge drop" },
+  h("span", { class: !DROPS.has(name) && !isLost ? "badge" : apartOf(step) ? "badge card" : "badge drop" },
     `${host ? `${host} ` : ""}+${by} ${name}`));
 
 // Whether the expected reply of a line was met.
@@ -135,7 +135,7 @@ function refreshRows() {
 // The text of a line for screen readers: its place in the script, what happened, and its note.
 function spoken(step) {
   const refusal = step.isOk ? "" : ` Refused: ${step.error || step.why || step.reply}.`;
-  const how = isLeftToCard(step) ? "Left to the card" : "Dropped";
+  const how = apartOf(step)?.head || "Dropped";
   const drops = step.drops.map(it => ` ${how}: ${causeIn(step, it.name)}${bothSums(step, it.name)}.`).join("");
   return `line ${page.notes.places[step.number - 1] + 1}: ${step.verb} ${step.tells}.${refusal}${drops} `
     + `${page.noteOf(step) || ""}`;

@@ -140,6 +140,7 @@ TOOLS = {
     "cvc4": Tool(lambda: command("cvc4")() and command("why3")(), "cvc4 why3"),
     "arm-linux-gnueabihf": Tool(command("arm-linux-gnueabihf-gcc"), "gcc-arm-linux-gnueabihf libc6-dev-armhf-cross"),
     "aarch64-linux-gnu": Tool(command("aarch64-linux-gnu-gcc"), "gcc-aarch64-linux-gnu libc6-dev-arm64-cross"),
+    "riscv64-linux-gnu": Tool(command("riscv64-linux-gnu-gcc"), "gcc-riscv64-linux-gnu libc6-dev-riscv64-cross"),
     "s390x-linux-gnu": Tool(command("s390x-linux-gnu-gcc"), "gcc-s390x-linux-gnu libc6-dev-s390x-cross"),
     "qemu-user": Tool(command("qemu-arm"), "qemu-user"),
     "debootstrap": Tool(command("debootstrap"), "debootstrap"),

@@ -1,4 +1,5 @@
-/* coap.c, and the contracts of what reads a message, compares paths and copies blocks: any bytes, any lengths. */
+/* coap.c, and the contracts of what reads a message and compares paths: any bytes, any lengths. */
+#include "eva/copy_contracts.h"
 #include "examples/coap.c"
 
 /*@ requires \valid(it) && it->path_len <= PATH + 1 && \valid_read(bytes + (0 .. len - 1)) && len <= 65804;
@@ -31,15 +32,6 @@ static int extend(const uint8_t *bytes, uint32_t len, uint32_t *at, uint32_t *va
     ensures \result == 1 ==> HEAD + it->token <= len;
     ensures \result == 1 ==> it->payload == bytes + (len - it->payload_len) && it->payload_len <= len - HEAD; */
 static int parse(struct request *it, const uint8_t *bytes, uint32_t len);
-
-/*@ requires \valid(to + (0 .. most - 1)) && \valid_read(bytes + (0 .. len - 1));
-    requires \separated(to + (0 .. most - 1), bytes + (0 .. len - 1));
-    assigns to[0 .. most - 1] \from bytes[0 .. len - 1], len, from, most;
-    assigns \result \from len, from, most;
-    ensures \result <= most;
-    ensures \result == \min(most, \max(0, len - from));
-    ensures \forall integer k; 0 <= k < \result ==> to[k] == bytes[from + k]; */
-static uint32_t copy_block(uint8_t *to, uint32_t most, const uint8_t *bytes, uint32_t len, uint32_t from);
 
 /*@ requires \valid_read(it) && valid_read_string(path) && it->path_len <= PATH + 1;
     assigns \result \from *it, path[0 ..];

@@ -99,7 +99,7 @@ static void ask(struct bsdudp *s)
     ANY(a);
     ANY(b);
     ANY(error);
-    switch (Frama_C_interval(0, 19)) {
+    switch (Frama_C_interval(0, 20)) {
     case 0: bsdudp_getsockname(s, a, &name); break;
     case 1: bsdudp_next(s, a, &next); break;
     case 2: bsdudp_readable(s, &value); break;
@@ -119,6 +119,7 @@ static void ask(struct bsdudp *s)
     case 16: bsdudp_error_name(error); break;
     case 17: bsdudp_getsockopt(s, a, error); break;
     case 18: bsdudp_version(); break;
+    case 19: bsdudp_ether_expired(s, &value); break;
     default: bsdudp_strerror(error);
     }
 }

@@ -1,4 +1,5 @@
-/* The contracts of the functions by which tftp.c reads a request and moves bytes of files: any bytes, any lengths. */
+/* The contracts of the functions by which tftp.c reads a request and writes a file: any bytes, any lengths. */
+#include "eva/copy_contracts.h"
 #include "tftp.h"
 
 #include <string.h>
@@ -10,14 +11,11 @@
     predicate is_text{L}(uint8_t *bytes, integer len, integer at, integer end) =
         at <= end < len && bytes[end] == 0 && \forall integer k; at <= k < end ==> bytes[k] != 0; */
 
-/*@ requires \valid(to + (0 .. most - 1)) && \valid_read(file + (0 .. len - 1));
-    requires \separated(to + (0 .. most - 1), file + (0 .. len - 1));
-    assigns to[0 .. most - 1] \from file[0 .. len - 1], len, at, most;
-    assigns \result \from len, at, most;
-    ensures \result <= most;
-    ensures \result == \min(most, \max(0, len - at));
-    ensures \forall integer k; 0 <= k < \result ==> to[k] == file[at + k]; */
-static uint32_t read_file(uint8_t *to, uint32_t most, const uint8_t *file, uint32_t len, uint32_t at);
+/*@ requires \valid_read(server) && \valid_read(server->buffer + (0 .. len - 1));
+    assigns \result \from server->buffer, server->buffer[0 .. 1], len;
+    ensures 0 <= \result <= 65535;
+    ensures \result == (len < 2 ? 0 : 256 * server->buffer[0] + server->buffer[1]); */
+static int opcode_of(const struct tftp *server, uint32_t len);
 
 /*@ requires \valid(file + (0 .. most - 1)) && \valid_read(bytes + (0 .. len - 1)) && at <= most;
     requires \separated(file + (0 .. most - 1), bytes + (0 .. len - 1));

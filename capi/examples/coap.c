@@ -1,5 +1,6 @@
 /* A small CoAP server: see coap.h. Section numbers are those of RFC 7252. */
 #include "coap.h"
+#include "copy.h"
 
 #include <string.h>
 
@@ -116,19 +117,6 @@ static uint32_t put_option(uint8_t *bytes, uint32_t at, uint32_t delta, uint32_t
     while (len-- > 0)
         bytes[at++] = (uint8_t)(value >> 8 * len);
     return at;
-}
-
-/* Copies what there is of a content from `from` on, at most `most` bytes. Returns their number. */
-static uint32_t copy_block(uint8_t *to, uint32_t most, const uint8_t *bytes, uint32_t len, uint32_t from)
-{
-    uint32_t i;
-    /*@ loop invariant i <= most && from == \at(from, Pre) + i && (i == 0 || from <= len);
-        loop invariant \forall integer k; 0 <= k < i ==> to[k] == bytes[\at(from, Pre) + k];
-        loop assigns i, from, to[0 .. most - 1];
-        loop variant most - i; */
-    for (i = 0; i < most && from < len; i++)
-        to[i] = bytes[from++];
-    return i;
 }
 
 /* Appends the options and the payload of a response to GET: one block, if Block2 requests it, or if all of it is more

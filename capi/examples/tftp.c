@@ -1,5 +1,6 @@
 /* A small TFTP server: see tftp.h. */
 #include "tftp.h"
+#include "copy.h"
 
 #include <string.h>
 
@@ -18,7 +19,7 @@ static void refuse(struct tftp *server, int opcode, uint32_t fd, const struct bs
 
 static int opcode_of(const struct tftp *server, uint32_t len)
 {
-    return len < 2 ? 0 : server->buffer[0] << 8 | server->buffer[1];
+    return len < 2 ? 0 : (int)(256u * server->buffer[0] + server->buffer[1]);
 }
 
 static void end(struct tftp *server, struct tftp_transfer *it)
@@ -40,19 +41,6 @@ static uint32_t put_option(uint8_t *buffer, uint32_t at, const char *name, uint3
         buffer[at++] = (uint8_t)('0' + value / scale % 10);
     buffer[at++] = 0;
     return at;
-}
-
-/* Copies what a file of `len` bytes has from `at` on, at most `most` bytes. Returns their number. */
-static uint32_t read_file(uint8_t *to, uint32_t most, const uint8_t *file, uint32_t len, uint32_t at)
-{
-    uint32_t i;
-    /*@ loop invariant i <= most && at == \at(at, Pre) + i && (i == 0 || at <= len);
-        loop invariant \forall integer k; 0 <= k < i ==> to[k] == file[\at(at, Pre) + k];
-        loop assigns i, at, to[0 .. most - 1];
-        loop variant most - i; */
-    for (i = 0; i < most && at < len; i++)
-        to[i] = file[at++];
-    return i;
 }
 
 /* Writes bytes to a file that can hold `most`, from `at` on, until it's full. Returns where they end. */
@@ -89,7 +77,7 @@ static void send(struct tftp *server, struct tftp_transfer *it)
         len = it->options & BLKSIZE ? put_option(buffer, 2, "blksize", it->size) : 2;
         len = it->options & TSIZE ? put_option(buffer, len, "tsize", it->is_write ? it->total : file->len) : len;
     } else if (!it->is_write) {
-        len += read_file(buffer + HEAD, it->size, file->bytes, file->len, begin_of(it));
+        len += copy_block(buffer + HEAD, it->size, file->bytes, file->len, begin_of(it));
     }
     it->is_once = it->is_done || (it->is_write && buffer[1] == OACK);
     it->ticks = it->is_once ? TFTP_LINGER : (uint8_t)(2 << (it->tries < 2 ? it->tries : 2));

@@ -157,7 +157,7 @@ struct bsdudp_tallies {
     uint64_t too_long;        /* packets that are too long for a frame: always 0 for a host of this library */
     uint64_t echoes;          /* echo requests that got a reply */
     uint64_t unreachable;     /* datagrams for which the host sent "port unreachable" or "protocol unreachable" */
-    uint64_t limited;         /* datagrams for which it did not: it sends at most 10 between two ticks */
+    uint64_t limited;         /* datagrams for which it sent no error: it sends at most 10 between two ticks */
     uint64_t icmp_dropped;    /* ICMP replies dropped for another one, or because no reply gave the hardware address */
 };
 
@@ -322,8 +322,9 @@ int bsdudp_tx(struct bsdudp *stack, void *buffer, size_t len);
    options or a wrong checksum, or if `len` is below the header's total length or above BSDUDP_PACKET. */
 int bsdudp_mark(void *packet, size_t len, uint8_t ttl, uint8_t tos);
 
-/* Advances the stack's clock by half a second. An unfinished datagram is dropped after 60 ticks, and the neighbours of
-   a host grow older. Source: the book, chapter 10 (ip_slowtimo); RFC 791, section 3.2.
+/* Advances the stack's clock by half a second. An unfinished datagram is dropped after 60 ticks. If its first fragment
+   arrived, a host then sends "time exceeded" to its source. The neighbours of a host grow older. Source: the book,
+   chapter 10 (ip_slowtimo); RFC 791, section 3.2; RFC 1122, section 3.3.2.
 
    Returns 0.
 
@@ -475,6 +476,17 @@ int bsdudp_ether_tallies(struct bsdudp *stack, struct bsdudp_tallies *tallies);
    -BSDUDP_ENXIO if the handle holds no stack.
    -BSDUDP_EOPNOTSUPP if it holds a bare stack. */
 int bsdudp_ether_noproto(struct bsdudp *stack, uint64_t *value);
+
+/* Reads into `*value` for how many unfinished datagrams the host sent "time exceeded" (RFC 1122, 3.3.2): their first
+   fragment had arrived, but another one was still missing after 60 ticks. struct bsdudp_tallies keeps its members, so
+   this counter has its own call.
+
+   Returns 0.
+
+   Errors, with `*value` unchanged:
+   -BSDUDP_ENXIO if the handle holds no stack.
+   -BSDUDP_EOPNOTSUPP if it holds a bare stack. */
+int bsdudp_ether_expired(struct bsdudp *stack, uint64_t *value);
 
 /* Reads the neighbour at index `i` of the host's table into `*neighbour`. Indices begin at 0, and there are at most 32
    neighbours. The last one is the newest entry.

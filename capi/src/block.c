@@ -5,6 +5,6 @@
 void *bsdudp_memory_of(size_t *block);
 void *bsdudp_memory_of(size_t *block)
 {
-    unsigned char *at = (unsigned char *)(block + 1);
-    return at + (-(uintptr_t)at & (BSDUDP_ALIGNMENT - 1));
+    unsigned char *at = (unsigned char *)block + sizeof *block;
+    return at + (BSDUDP_ALIGNMENT - (uintptr_t)at % BSDUDP_ALIGNMENT) % BSDUDP_ALIGNMENT;
 }

@@ -68,8 +68,7 @@ int bsdudp_tx(struct bsdudp *s, void *buffer, size_t len)
 
 int bsdudp_tick(struct bsdudp *s)
 {
-    int answer = bsdudp_core_tick(&s->core);
-    return s->tick_link != NULL ? s->tick_link(s) : answer;
+    return s->tick_link != NULL ? s->tick_link(s) : bsdudp_core_tick(&s->core);
 }
 
 int bsdudp_socket(struct bsdudp *s) { return bsdudp_core_socket(&s->core); }

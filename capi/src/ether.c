@@ -19,22 +19,26 @@ struct core_neighbour {
     uint16_t mac_high, ticks;
     uint8_t tries, known;
 };
+struct core_tallies {
+    struct bsdudp_tallies tallies;
+    uint64_t expired;
+};
 int bsdudp_core_boot(struct bsdudp_core *, const struct bsdudp_config *);
 int bsdudp_core_end(struct bsdudp_core *);
 int bsdudp_core_output_len(struct bsdudp_core *);
 int bsdudp_core_ether_boot(struct bsdudp_core *link, const struct bsdudp_config *, const struct core_link *);
 int bsdudp_core_ether_end(struct bsdudp_core *link);
-int bsdudp_core_ether_tick(struct bsdudp_core *link);
+int bsdudp_core_ether_tick(struct bsdudp_core *, struct bsdudp_core *link);
 int bsdudp_core_ether_receive(struct bsdudp_core *, struct bsdudp_core *link, const uint8_t *, uint64_t);
 int bsdudp_core_ether_receive_fate(struct bsdudp_core *, struct bsdudp_core *link, const uint8_t *, uint64_t,
                                    struct bsdudp_fate *);
 int bsdudp_core_ether_transmit(struct bsdudp_core *, struct bsdudp_core *link, uint8_t *, uint64_t);
 int bsdudp_core_ether_last_error(struct bsdudp_core *, struct bsdudp_core *link, uint32_t);
 int bsdudp_core_ether_address(struct bsdudp_core *link);
-int bsdudp_core_ether_tallies(struct bsdudp_core *link, struct bsdudp_tallies *);
+int bsdudp_core_ether_tallies(struct bsdudp_core *link, struct core_tallies *);
 int bsdudp_core_ether_neighbour(struct bsdudp_core *link, uint32_t, struct core_neighbour *);
 
-static int tick_link(struct bsdudp *stack) { return bsdudp_core_ether_tick(&stack->link); }
+static int tick_link(struct bsdudp *stack) { return bsdudp_core_ether_tick(&stack->core, &stack->link); }
 static int end_link(struct bsdudp *stack) { return bsdudp_core_ether_end(&stack->link); }
 
 /* An error in the link comes before the errors of the stack: the first call has no memory, so a valid link gives
@@ -103,7 +107,22 @@ int bsdudp_ether_address(struct bsdudp *s)
 
 int bsdudp_ether_tallies(struct bsdudp *s, struct bsdudp_tallies *tallies)
 {
-    return answer_of(s, bsdudp_core_ether_tallies(&s->link, tallies));
+    struct core_tallies told;
+    const int answer = bsdudp_core_ether_tallies(&s->link, &told);
+    if (answer < 0)
+        return answer_of(s, answer);
+    *tallies = told.tallies;
+    return 0;
+}
+
+int bsdudp_ether_expired(struct bsdudp *s, uint64_t *value)
+{
+    struct core_tallies told;
+    const int answer = bsdudp_core_ether_tallies(&s->link, &told);
+    if (answer < 0)
+        return answer_of(s, answer);
+    *value = told.expired;
+    return 0;
 }
 
 int bsdudp_ether_neighbour(struct bsdudp *s, uint32_t i, struct bsdudp_neighbour *neighbour)

@@ -134,6 +134,22 @@ static int drained(void)
     return count;
 }
 
+/* How many frames the host sends for a first fragment whose datagram expires: one with the fragment's first bytes. */
+static int never_completed(void)
+{
+    int k, count;
+    WANT(sent_to_nobody(), 0); /* the port unreachable makes way */
+    drained();
+    frame[14 + 6] |= 0x20;     /* more fragments */
+    frame[14 + 10] -= 0x20;    /* the checksum */
+    WANT(bsdudp_ether_receive(&host, frame, 14 + 28), 0);
+    for (k = 0; k < 60; k++)
+        WANT(drained() == 0 && bsdudp_tick(&host) == 0, 1);
+    count = bsdudp_ether_transmit(&host, buffer, sizeof buffer) == 14 + 20 + 8 + 28 && drained() == 0;
+    WANT(buffer[14 + 20] == 11 && buffer[14 + 21] == 1 && memcmp(buffer + 14 + 28, frame + 14, 28) == 0, 1);
+    return count;
+}
+
 /* The calls of a host return this for a handle without a stack, or for a bare one. */
 static int answers(struct bsdudp *s, int answer)
 {
@@ -143,6 +159,7 @@ static int answers(struct bsdudp *s, int answer)
     tallies.ignored = 99;
     neighbour.ip = 99;
     WANT(bsdudp_ether_noproto(s, &value) == answer && value == 99, 1);
+    WANT(bsdudp_ether_expired(s, &value) == answer && value == 99, 1);
     WANT(bsdudp_ether_address(s), answer);
     WANT(bsdudp_ether_last_error(s, BSDUDP_FIRST_FD), answer);
     WANT(bsdudp_ether_receive(s, frame, 14), answer);
@@ -188,8 +205,8 @@ static int refusals(void)
 
 /* A setting of the link that no host can have: boot refuses it, and names the member. */
 struct wrong {
-    struct bsdudp_link link;
-    uint32_t bcast;
+    uint8_t first, last; /* bytes of the MAC address */
+    uint32_t mask, gateway, bcast;
     uint16_t mtu;
     const char *text;
 };
@@ -197,22 +214,22 @@ struct wrong {
 static int texts(void)
 {
     static const struct wrong wrong[] = {
-        {{{2, 0, 0, 0, 0, 1}, 0xffffff00, 0, 0}, 0x0a0000ff, 1501, "mtu must be at most 1500"},
-        {{{3, 0, 0, 0, 0, 1}, 0xffffff00, 0, 0}, 0x0a0000ff, 1500, "mac must not be a group"},
-        {{{0, 0, 0, 0, 0, 0}, 0xffffff00, 0, 0}, 0x0a0000ff, 1500, "mac must not be 0"},
-        {{{2, 0, 0, 0, 0, 1}, 0xff00ff00, 0, 0}, 0x0a0000ff, 1500, "mask must be ones"},
-        {{{2, 0, 0, 0, 0, 1}, 0x00ffffff, 0, 0}, 0x0a0000ff, 1500, "mask must be ones"},
-        {{{2, 0, 0, 0, 0, 1}, 0xffff0000, 0, 0}, 0x0a0000ff, 1500, "bcast must be 0 or the last"},
-        {{{2, 0, 0, 0, 0, 1}, 0xffffff00, 0, 0}, 0x0a00ffff, 1500, "bcast must be 0 or the last"},
-        {{{2, 0, 0, 0, 0, 1}, 0xffffff00, 0x0a000102, 0}, 0x0a0000ff, 1500, "gateway must be a neighbour"},
-        {{{2, 0, 0, 0, 0, 1}, 0xffffff00, 0x0a0000ff, 0}, 0, 1500, "gateway must be a neighbour"},
-        {{{2, 0, 0, 0, 0, 1}, 0xffffff00, 0, 0}, 0, 67, "mtu must be 68"},
-        {{{2, 0, 0, 0, 0, 1}, 0xffffffff, 0, 0}, 0, 1500, "bcast must differ from addr"},
-        {{{2, 0, 0, 0, 0, 1}, 0, 0, 0}, 0, 1500, "bcast must be 1.0.0.0"},
+        {2, 1, 0xffffff00, 0, 0x0a0000ff, 1501, "mtu must be at most 1500"},
+        {3, 1, 0xffffff00, 0, 0x0a0000ff, 1500, "mac must not be a group"},
+        {0, 0, 0xffffff00, 0, 0x0a0000ff, 1500, "mac must not be 0"},
+        {2, 1, 0xff00ff00, 0, 0x0a0000ff, 1500, "mask must be ones"},
+        {2, 1, 0x00ffffff, 0, 0x0a0000ff, 1500, "mask must be ones"},
+        {2, 1, 0xffff0000, 0, 0x0a0000ff, 1500, "bcast must be 0 or the last"},
+        {2, 1, 0xffffff00, 0, 0x0a00ffff, 1500, "bcast must be 0 or the last"},
+        {2, 1, 0xffffff00, 0x0a000102, 0x0a0000ff, 1500, "gateway must be a neighbour"},
+        {2, 1, 0xffffff00, 0x0a0000ff, 0, 1500, "gateway must be a neighbour"},
+        {2, 1, 0xffffff00, 0, 0, 67, "mtu must be 68"},
+        {2, 1, 0xffffffff, 0, 0, 1500, "bcast must differ from addr"},
+        {2, 1, 0, 0, 0, 1500, "bcast must be 1.0.0.0"},
     };
     static const uint32_t masks[] = {0xffff0000, 0xffffff00, 0xfffffffc};
     const size_t len = sizeof memory - 2 * GUARD;
-    struct bsdudp_link l = own_link;
+    struct bsdudp_link l;
     struct bsdudp_config c;
     const char *text;
     size_t i;
@@ -220,10 +237,16 @@ static int texts(void)
         c = config();
         c.bcast = wrong[i].bcast;
         c.mtu = wrong[i].mtu;
-        text = bsdudp_boot_strerror(boot(&c, &wrong[i].link, len), &c, &wrong[i].link);
-        WANT(boot(&c, &wrong[i].link, len), -BSDUDP_EINVAL);
+        memset(&l, 0, sizeof l);
+        l.mac[0] = wrong[i].first;
+        l.mac[5] = wrong[i].last;
+        l.mask = wrong[i].mask;
+        l.gateway = wrong[i].gateway;
+        text = bsdudp_boot_strerror(boot(&c, &l, len), &c, &l);
+        WANT(boot(&c, &l, len), -BSDUDP_EINVAL);
         WANT(strncmp(text, wrong[i].text, strlen(wrong[i].text)), 0);
     }
+    l = own_link;
     l.gateway = 0;
     for (i = 0; i < sizeof masks / sizeof masks[0]; i++) { /* 0 is the last address of the network */
         struct bsdudp_addr any = {0, 7}, last = {0, 8};
@@ -385,6 +408,10 @@ static int tallied(void)
     WANT(it.limited, 12);
     WANT(it.martians, 13);
     WANT(it.icmp_dropped, 7);
+    WANT(bsdudp_ether_expired(&host, &value) == 0 && value == 0, 1);
+    for (k = 0; k < 14; k++)
+        WANT(never_completed(), 1);
+    WANT(bsdudp_ether_expired(&host, &value) == 0 && value == 14, 1);
     return 0;
 }
 

@@ -17,6 +17,7 @@ OWN_IP, OWN_MAC, ALL, NOBODY = "10.0.0.1", "02:00:00:00:00:01", "ff:ff:ff:ff:ff:
 TABLE, HELD, TRIES, TICKS_APART, KEPT = 32, 8, 5, 3, 2400
 POLLS = 2  # RFC 1122, section 2.3.2.1
 PROBES, PROBES_APART, ANNOUNCEMENTS_APART, UNREACHABLE_A_TICK = 3, 3, 5, 10  # RFC 5227, in ticks; RFC 1812
+UNFINISHED = 60  # the book, chapter 10, in ticks
 DEFENCES_APART = 2 * 10 + 1  # RFC 5227: ten seconds or more, so 21 ticks, because the first one may follow at once
 ECHO, CLOSED = 7, 9
 captured = []
@@ -383,6 +384,60 @@ def unreachable():
     check(answered == UNREACHABLE_A_TICK and it.tallies.limited == 2, f"{answered} were sent in one tick")
 
 
+def expired():
+    """Time Exceeded for an unfinished datagram whose first fragment arrived (RFC 1122, section 3.3.2), and no other."""
+    it, _ = host()
+    for n in (2, 3):
+        knows(it, n)
+    spent = set()
+
+    def waits(*frames):
+        """What the host sends after so many ticks that these fragments expire."""
+        for frame in frames:
+            it.receive(frame)
+        it.tick(UNFINISHED - 1)
+        check(given(it) == [], "an error before the datagram expired")
+        it.tick()
+        return given(it)
+
+    def is_error(frames, n, first):
+        answer = IP(src=OWN_IP, dst=ip_of(n), id=own_number(frames, spent), ttl=64) / ICMP(type=11, code=1)
+        return frames == [bytes(Ether(dst=mac_of(n), src=OWN_MAC) / answer / bytes(first[IP])[:28])]
+
+    def first(n, payload, **words):
+        return from_near(n, payload, flags="MF", **words)
+
+    half = UDP(sport=5, dport=ECHO, len=108, chksum=0) / bytes(40)
+    rest = from_near(2, bytes(8), frag=9, flags="MF", proto=17, id=1)
+    for length in (0, 8, 40):
+        frame = first(2, UDP(sport=5, dport=ECHO, len=108, chksum=0) / bytes(length), id=1)
+        check(is_error(waits(frame), 2, frame), f"time exceeded for {length} bytes isn't scapy's")
+    frame = first(2, half, id=1)
+    check(is_error(waits(frame, rest), 2, frame), "no time exceeded for a first fragment before another")
+    check(is_error(waits(rest, frame), 2, frame), "no time exceeded for a first fragment after another")
+    frame = first(3, ICMP(type=8, chksum=0) / bytes(16), id=2)
+    check(is_error(waits(frame), 3, frame), "no time exceeded for a ping")
+    frame = first(3, bytes(16), proto=253, id=3)
+    check(is_error(waits(frame), 3, frame), "no time exceeded for another protocol")
+    check(it.tallies.expired == 7 and it.tallies.unreachable == 0, "the errors aren't counted")
+    everyone = Ether(dst=ALL, src=mac_of(2)) / IP(src=ip_of(2), dst=OWN_IP, flags="MF", id=4) / half
+    silent = [
+        rest,
+        from_near(2, bytes(8), frag=9, proto=17, id=1),
+        everyone,
+        Ether(dst=ALL, src=mac_of(2)) / IP(src=ip_of(2), dst="10.0.255.255", flags="MF", id=5) / half,
+        first(2, ICMP(type=3, code=3, chksum=0) / bytes(32), id=6),
+        first(2, ICMP(type=0, chksum=0) / bytes(32), id=7),
+        Ether(dst=OWN_MAC, src=mac_of(2)) / IP(src=OWN_IP, dst=OWN_IP, flags="MF", id=8) / half,
+    ]
+    for frame in silent:
+        check(waits(frame) == [], f"this got an error: {frame.summary()}")
+    check(waits(first(2, half, id=9), from_near(2, bytes(60), frag=6, proto=17, id=9)) == [], "a whole one got an error")
+    two = [first(n, half, id=10) for n in (2, 3)]
+    check(is_error(waits(*two), 2, two[0]), "not the oldest of two that expire together")
+    check(it.tallies.expired == 8 and it.tallies.icmp_dropped == 1, "the second of two isn't counted")
+
+
 def reported():
     """ICMP errors about a datagram that a connected socket sent. The meaning of each code is in volume 2, chapter 11
     (`icmp_input`, `inetctlerrmap`)."""
@@ -534,7 +589,7 @@ def lossy():
 
 def main(capture):
     arps = (arp, claims, defends, polls, martians, held, ways)
-    for tried in (*arps, groups, ping, fragmented, unreachable, reported, truncations, hundred, flood, lossy):
+    for tried in (*arps, groups, ping, fragmented, unreachable, expired, reported, truncations, hundred, flood, lossy):
         try:
             tried()
         except AssertionError as fault:

@@ -29,6 +29,10 @@ int __real_bsdudp_ether_boot_in(struct bsdudp *stack, const struct bsdudp_config
                                 const struct bsdudp_link *link, void *memory, size_t len);
 int __wrap_bsdudp_ether_boot_in(struct bsdudp *stack, const struct bsdudp_config *config,
                                 const struct bsdudp_link *link, void *memory, size_t len);
+/* Of capi/src/memory.c. */
+void *bsdudp_block(uint64_t size);
+void bsdudp_lend(void *memory, size_t len);
+int bsdudp_lent(const void *memory, int answer);
 #ifdef __cplusplus
 }
 #endif
@@ -243,8 +247,23 @@ static int booted_twice(void)
     return 0;
 }
 
+/* Each block of boot is aligned, and the blocks have the whole memory. */
+static int blocks(void)
+{
+    static unsigned char memory[64] __attribute__((aligned(BSDUDP_ALIGNMENT)));
+    bsdudp_lend(memory, sizeof memory + 15);
+    WANT((unsigned char *)bsdudp_block(5) - memory, 0);
+    WANT((unsigned char *)bsdudp_block(16) - memory, 16);
+    WANT((unsigned char *)bsdudp_block(17) - memory, 32);
+    WANT(bsdudp_block(1) == NULL, 1);
+    bsdudp_lend(memory + 8, sizeof memory - 8);
+    WANT(bsdudp_block(1) == NULL, 1);
+    WANT(bsdudp_lent(memory + 8, -BSDUDP_ENOMEM), -BSDUDP_EINVAL);
+    return 0;
+}
+
 int main(void)
 {
-    return grows(1, 0, BLOCK) || grows(64, 16, BLOCK) || grows(65535, 4096, 5000 * BLOCK) || from_malloc() ||
+    return blocks() || grows(1, 0, BLOCK) || grows(64, 16, BLOCK) || grows(65535, 4096, 5000 * BLOCK) || from_malloc() ||
            host_from_malloc() || rehost_fails() || booted_twice();
 }

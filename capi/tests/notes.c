@@ -163,6 +163,11 @@ static int without(void)
     WANT(arrives(OWN, 7, 32, 0, 6, 2), 0);
     WANT(receives(0) == 1 && is_none() == 0, 1);
     WANT(receives(0) == 2 && is_note(OWN, 32, 0, 6, 0) == 0, 1);
+    for (k = 0; k < ROOM; k++)
+        WANT(arrives(OWN, 7, 40 + (unsigned)k, 0, 7, 1), 0);
+    for (k = 0; k < ROOM - 1; k++)
+        WANT(bsdudp_recvfrom(&stack, 3, bytes, 9, NULL), 1);
+    WANT(receives(0) == 1 && is_note(OWN, 39 + ROOM, 0, 7, 0) == 0, 1);
     return 0;
 }
 

@@ -1,5 +1,6 @@
-/* capi/examples/ring.h: a signal handler puts numbered frames into the ring, as an interrupt does, while the main
-   program takes them. No frame is changed, doubled or out of order, and each one is taken or counted as lost. */
+/* capi/examples/ring.h: it holds RING_FRAMES frames. Then a signal handler puts numbered frames into the ring, as an
+   interrupt does, while the main program takes them. No frame is changed, doubled or out of order, and each one is taken
+   or counted as lost. */
 #include "ring.h"
 
 #include <signal.h>
@@ -23,12 +24,29 @@ static void interrupt(int number)
     }
 }
 
+/* Returns whether a ring keeps RING_FRAMES frames, and loses those after them and those that are too long. */
+static int is_full_in_time(void)
+{
+    static struct ring it;
+    static uint8_t frame[BSDUDP_ETHER_ROOM + 1];
+    uint32_t k;
+    ring_put(&it, frame, sizeof frame);
+    for (k = 0; k < RING_FRAMES + 2; k++)
+        ring_put(&it, frame, BSDUDP_ETHER_ROOM - k);
+    for (k = 0; k < RING_FRAMES; k++)
+        if (ring_take(&it, frame) != BSDUDP_ETHER_ROOM - k)
+            return 0;
+    return ring_take(&it, frame) == 0 && it.lost == 3;
+}
+
 int main(void)
 {
     const struct itimerval often = {{0, 200}, {0, 200}};
     uint8_t frame[BSDUDP_ETHER_ROOM];
     uint32_t next = 0, count = 0, number;
     size_t len, i;
+    if (!is_full_in_time())
+        return fprintf(stderr, "a ring doesn't hold %d frames\n", RING_FRAMES), 1;
     signal(SIGALRM, interrupt);
     setitimer(ITIMER_REAL, &often, NULL);
     while (made < FRAMES || ring.put != ring.taken) {

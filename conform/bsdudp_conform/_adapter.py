@@ -181,7 +181,7 @@ class Adapter:
         except subprocess.TimeoutExpired:
             return "it closed its standard output or input"
         if status < 0:
-            return f"it ended by signal {-status} ({signal.Signals(-status).name})"
+            return f"it was killed by signal {-status} ({signal.Signals(-status).name})"
         return f"it ended with status {status}"
 
 
@@ -207,7 +207,8 @@ def read_answer(case: Case, lines: List[str]) -> Answer:
             try:
                 events.append(read_event(case, word, rest.split()))
             except (ValueError, IndexError):
-                raise Fault(f"{quoted(line)} isn't a line of an adapter") from None
+                forms = "`got STEP ADDR PORT HEX`, `out STEP HEX` or `refused STEP`"
+                raise Fault(f"expected {forms}, got {quoted(line)}") from None
     return Answer(tuple(events), tuple(notes), crash)
 
 

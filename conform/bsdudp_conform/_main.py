@@ -31,7 +31,7 @@ def parser() -> argparse.ArgumentParser:
     wire = commands.add_parser("wire", help="judge a device on a wire by its UDP echo service", epilog=STATUS)
     wire.add_argument("interface", metavar="IFACE", help="the interface, on which CAP_NET_RAW is needed")
     wire.add_argument(
-        "--target", default="10.0.0.1", metavar="ADDR", help="the device's address, on a network of 24 bits"
+        "--target", default="10.0.0.1", metavar="ADDR", help="the device's address, on a /24 network"
     )
     for it in (run, wire):
         add_choices(it)
@@ -131,7 +131,7 @@ def span(text: str) -> range:
     """The seeds of A-B. Raises ValueError for another form."""
     found = re.fullmatch(r"(\d+)-(\d+)", text)
     if not found or int(found[1]) > int(found[2]):
-        raise ValueError(f"--seeds must be A-B, not {text}")
+        raise ValueError(f"--seeds must be A-B, A at most B, not {text}")
     return range(int(found[1]), int(found[2]) + 1)
 
 
@@ -178,7 +178,7 @@ def command(argv: Optional[Sequence[str]]) -> int:
         return _lab.main(words)
     if words.what == "wire":
         if not is_device(words.target):
-            top.error(f"--target must be the address of a device on a network of 24 bits, not {words.target}")
+            top.error(f"--target must be a host address on a /24 network, not {words.target}")
         os.environ[TARGET] = words.target
     elif words.what == "run" and not words.list and not commands_of(words):
         top.error(
@@ -224,7 +224,7 @@ def run(words: argparse.Namespace) -> int:
     if words.list or not chosen:
         for it in chosen:
             print(f"{it.name:24} {it.title}")
-        none = f"no case matches {' '.join(words.only)}: bsdudp-conform run --list has all"
+        none = f"no case matches {' '.join(words.only)}: bsdudp-conform run --list prints all"
         return OK if chosen else fault_line(none, USAGE)
     if words.report:  # now, because a folder that can't be made would lose the run's captures
         pathlib.Path(words.report).mkdir(parents=True, exist_ok=True)

@@ -157,7 +157,7 @@ static int boot_link(const struct bsdudp *stack, const struct bsdudp_config *con
 static int tick_link(struct bsdudp *stack)
 {
     BEGIN(ether_tick, stack);
-    return answer_of(core_ether_tick(&it, LINK));
+    return answer_of(core_ether_tick(&it, MEMORY, LINK));
 }
 
 static int end_link(struct bsdudp *stack)
@@ -280,6 +280,17 @@ int bsdudp_ether_tallies(struct bsdudp *stack, struct bsdudp_tallies *tallies)
     return 0;
 }
 
+int bsdudp_ether_expired(struct bsdudp *stack, uint64_t *value)
+{
+    enum { EXPIRED = 13 };
+    BEGIN_WITH(ether_tallies, stack, LONG_ARGUMENT);
+    if (without_link(stack) < 0)
+        return without_link(stack);
+    core_ether_tallies(&it, LINK, argument);
+    *value = get_u64(plain + 8 * EXPIRED);
+    return 0;
+}
+
 int bsdudp_ether_neighbour(struct bsdudp *stack, uint32_t i, struct bsdudp_neighbour *neighbour)
 {
     int answer, at;
@@ -355,10 +366,8 @@ int bsdudp_mark(void *packet, size_t len, uint8_t ttl, uint8_t tos)
 /* The link's calls go through a pointer that its boot sets, so a program that boots no host is linked without them. */
 int bsdudp_tick(struct bsdudp *stack)
 {
-    int answer;
     BEGIN(tick, stack);
-    answer = answer_of(core_tick(&it, handle_of(&it)));
-    return stack->tick_link != NULL ? stack->tick_link(stack) : answer;
+    return stack->tick_link != NULL ? stack->tick_link(stack) : answer_of(core_tick(&it, handle_of(&it)));
 }
 
 int bsdudp_socket(struct bsdudp *stack)

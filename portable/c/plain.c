@@ -38,8 +38,9 @@ static uint64_t sum_words(const uint8_t **bytes, uint32_t *n)
 static uint32_t add_carrying(uint32_t a, uint32_t b, uint32_t *carry)
 {
     uint32_t sum;
-    const uint32_t first = __builtin_add_overflow(a, b, &sum);
-    *carry = first | __builtin_add_overflow(sum, *carry, &sum);
+    const uint32_t first = __builtin_add_overflow(a, b, &sum), second = __builtin_add_overflow(sum, *carry, &sum);
+    //@ assert first == 0 || second == 0;
+    *carry = first | second;
     return sum;
 }
 
@@ -57,6 +58,10 @@ static uint32_t add_words(uint32_t *sum, const uint8_t *bytes, uint32_t carry)
 static uint64_t sum_words(const uint8_t **bytes, uint32_t *n)
 {
     uint32_t low = 0, high = 0;
+    /*@ loop invariant *n <= \at(*n, Pre) && *bytes == \at(*bytes, Pre) + (\at(*n, Pre) - *n);
+        loop invariant high <= \at(*n, Pre) - *n;
+        loop assigns low, high, *n, *bytes;
+        loop variant *n; */
     for (; *n >= 32; *n -= 32, *bytes += 32)
         high += add_words(&low, *bytes + 16, add_words(&low, *bytes, 0));
     if (*n >= 16) {
@@ -64,7 +69,7 @@ static uint64_t sum_words(const uint8_t **bytes, uint32_t *n)
         *n -= 16;
         *bytes += 16;
     }
-    return (uint64_t)high << 32 | low;
+    return (uint64_t)high * 4294967296 + low;
 }
 #endif
 
@@ -76,11 +81,19 @@ uint64_t bsdudp_plain_sum(const uint8_t *bytes, uint64_t len)
     uint64_t sum = 0;
     if ((uintptr_t)bytes % 4 == 0) {
         sum = sum_words(&bytes, &n);
+        /*@ loop invariant n <= len && bytes == \at(bytes, Pre) + (len - n);
+            loop invariant sum <= 4294967296 * (len + len - n) + 4294967295;
+            loop assigns n, bytes, sum;
+            loop variant n; */
         for (; n >= 4; n -= 4, bytes += 4)
             sum += word_at(bytes);
     }
+    /*@ loop invariant n <= len && bytes == \at(bytes, Pre) + (len - n);
+        loop invariant sum <= 4294967296 * (len + len - n) + 4294967295;
+        loop assigns n, bytes, sum;
+        loop variant n; */
     for (; n >= 2; n -= 2, bytes += 2)
-        sum += (uint32_t)bytes[0] | (uint32_t)bytes[1] << 8;
+        sum += bytes[0] + 256u * bytes[1];
     return n == 0 ? sum : sum + bytes[0];
 }
 

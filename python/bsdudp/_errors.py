@@ -14,8 +14,8 @@ TOO_LONG = -40
 MAX_DATAGRAM = 9_216
 HEADERS = 28  # of IP and UDP
 
-BOUND_ALREADY = "the socket has a local address or port already: bind comes once, and before connect and sendto"
-NOT_OF_HOST = 'the address is not one of this host: "" stands for all of them'
+BOUND_ALREADY = "the socket already has a local address or port: call bind once, before connect and sendto"
+NOT_OF_HOST = 'the address must belong to this host, or be "" for all its addresses'
 SAME_FOUR = "another socket has the same two addresses and ports"
 NO_PACKETS = "a host on an Ethernet has frames instead of packets: use receive and transmit"
 
@@ -28,9 +28,9 @@ CAUSES: Dict[Tuple[str, int], str] = {
     ("bind_random", -48): "other sockets have this address and each port of the range",
     ("bind_random", -49): NOT_OF_HOST,
     ("connect", -48): SAME_FOUR,
-    ("connect", -49): "the port to connect to is 0",
+    ("connect", -49): "the port to connect to must not be 0",
     ("sendto", -48): SAME_FOUR,
-    ("sendto", -49): "the port to send to is 0",
+    ("sendto", -49): "the port to send to must not be 0",
     ("ether_address", -48): "another host on the network uses the address",
     ("ether_last_error", -61): "no socket has the port at the peer",
     ("ether_last_error", -65): "no route leads to the peer",

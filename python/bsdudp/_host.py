@@ -47,10 +47,12 @@ class Tallies(NamedTuple):
     unreachable: int
     """Datagrams for which the host sent "port unreachable" or "protocol unreachable" to the sender."""
     limited: int
-    """Datagrams for which it did not: it sends at most 10 between two ticks."""
+    """Datagrams for which it sent no error: it sends at most 10 between two ticks."""
     icmp_dropped: int
     """ICMP replies dropped because another reply was still queued, or for a newer one while waiting for a hardware
     address, or because no reply gave that address."""
+    expired: int
+    """Unfinished datagrams for which the host sent "time exceeded" to the sender."""
 
 
 class Neighbour(NamedTuple):
@@ -75,7 +77,8 @@ class Neighbour(NamedTuple):
 
 class Host(Stack):
     """A simulated host on an Ethernet: a `Stack` that receives and sends frames (RFC 894), with ARP (RFC 826), replies
-    to ping, and "destination unreachable" for closed ports and unknown protocols (RFC 792).
+    to ping, "destination unreachable" for closed ports and unknown protocols, and "time exceeded" for unfinished
+    datagrams (RFC 792).
 
     mac      its hardware address, such as "02:00:00:00:00:01" or six bytes; not a group address
     mask     the network mask; the default is "255.255.255.0"
@@ -193,16 +196,18 @@ class Host(Stack):
         Raises an OSError with `errno` EBADF if the socket is not open, and a ValueError if it is a socket of another
         stack."""
         if socket._stack is not self:
-            raise ValueError("the socket must be one of this host")
+            raise ValueError("the socket must belong to this host")
         answer = socket._ask("ether_last_error")
         return refused(-answer, "ether_last_error") if answer else None
 
     @property
     def tallies(self) -> Tallies:
         """A snapshot of the counters of its link since boot."""
-        told = TalliesOfC()
-        self._ask("ether_tallies", ctypes.byref(told))
-        return Tallies(*(getattr(told, name) for name in Tallies._fields))
+        told, expired = TalliesOfC(), ctypes.c_uint64()
+        with self._turn:
+            self._call("ether_tallies", ctypes.byref(told))
+            self._call("ether_expired", ctypes.byref(expired))
+        return Tallies._make([*(getattr(told, name) for name in Tallies._fields[:-1]), expired.value])
 
     @property
     def neighbours(self) -> List[Neighbour]:

@@ -222,6 +222,7 @@ CALLS: Dict[str, List[Any]] = {
     "ether_last_error": [_u32],
     "ether_address": [],
     "ether_tallies": [ctypes.POINTER(TalliesOfC)],
+    "ether_expired": [ctypes.POINTER(ctypes.c_uint64)],
     "ether_neighbour": [_u32, ctypes.POINTER(NeighbourOfC)],
     "note_socket": [ctypes.POINTER(NotesOfC), _u32, ctypes.POINTER(Note), _u32],
     "note_fate": [
@@ -242,8 +243,8 @@ def _open() -> ctypes.CDLL:
     except OSError as fault:
         raise ImportError(
             f"{found} can't be loaded ({fault}). In a checkout, `make python TRIAL=1` makes this package with its"
-            " library in a minute or two, without a proof. Or install the wheel, which has it; or install the library by"
-            f" `capi/install PREFIX`, and name it by {ENVIRONMENT}=PREFIX/lib/{NAME}"
+            " library in a minute or two, without a proof. Or install the wheel, which has it; or install the library with"
+            f" `capi/install PREFIX`, and set {ENVIRONMENT}=PREFIX/lib/{NAME}"
         ) from None
 
 

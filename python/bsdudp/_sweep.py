@@ -31,8 +31,8 @@ MOST_PROCESSES = 1024
 BAR = 30  # the width of the bar, in characters
 PAUSE = 0.1  # between two pictures of the bar, in seconds
 WHERE = (
-    'client is None (this process), "cores", a number of processes, a distributed.Client or the address of a Dask'
-    ' scheduler, as "tcp://10.0.0.9:8786"'
+    'client must be None (this process), "cores", a number of processes, a distributed.Client or the address of a Dask'
+    ' scheduler, such as "tcp://10.0.0.9:8786"'
 )
 
 
@@ -103,7 +103,7 @@ def _on_cores(
                     continue
                 progress.one()
     if len(results) < len(seeds):
-        raise RuntimeError(f"workers ended {TRIES} times: {len(seeds) - len(results)} seeds have no result")
+        raise RuntimeError(f"workers died {TRIES} times: {len(seeds) - len(results)} seeds have no result")
     return [results[at] for at in range(len(seeds))]
 
 

@@ -14,10 +14,10 @@ class Uncopied:
         raise TypeError(f"a {type(self).__name__} can't be {how}: {instead}")
 
     def __copy__(self) -> NoReturn:
-        self._uncopied("copied by the module copy", "a Stack and a Wire have a method copy() of their own")
+        self._uncopied("copied by the module copy", "call Stack.copy() or Wire.copy()")
 
     def __deepcopy__(self, memo: object) -> NoReturn:
         self.__copy__()
 
     def __reduce_ex__(self, protocol: SupportsIndex) -> NoReturn:
-        self._uncopied("pickled", "make another one by Stack(..), in the process that uses it")
+        self._uncopied("pickled", "create a Stack(..) in the process that uses it")

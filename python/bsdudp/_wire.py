@@ -182,7 +182,7 @@ class Wire(Uncopied):
 
     def _same(self, name: str, values: List[Value]) -> Value:
         if any(value != values[0] for value in values):
-            raise ValueError(f"{name} is not the same for all stacks: see sender(stack).{name}")
+            raise ValueError(f"{name} is not the same for all stacks: use sender(stack).{name}")
         return values[0]
 
     @property
@@ -258,7 +258,7 @@ class Wire(Uncopied):
 
     def _at(self, packets: List[InFlight], place: SupportsIndex) -> int:
         if not packets:
-            raise ValueError("no packet is in flight: carry() puts what stacks sent on the wire")
+            raise ValueError("no packet is in flight: carry() puts sent packets on the wire")
         return in_range("a place", place, 0, len(packets) - 1)
 
     def drop(self, place: SupportsIndex) -> None:

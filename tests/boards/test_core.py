@@ -1,7 +1,8 @@
 """The C library for other processors. portable/core rewrites the LLVM module and compiles it. Each call, the memory of
-a stack, and two stacks on a wire are tested on 32-bit x86 (also with the address sanitizer in the core), on 32-bit ARM
-and aarch64 in qemu, and on x86-64. All examples and random scripts are played on these except aarch64, on RISC-V, and
-on a Cortex-M3: their replies must equal those of the built program. Faults planted in the rewriting must be seen."""
+a stack, and two stacks on a wire are tested on 32-bit x86 (also with the address sanitizer in the core), on 32-bit ARM,
+aarch64 and riscv64 in qemu, and on x86-64. All examples and random scripts are played on these except aarch64 and
+riscv64, on RISC-V with 32 bits, and on a Cortex-M3: their replies must equal those of the built program. Faults planted
+in the rewriting must be seen."""
 import pathlib
 import shutil
 import subprocess
@@ -16,7 +17,7 @@ from tools import llvm
 
 MODULE = ("rt", "wasm-opt", "cc")
 pytestmark = [pytest.mark.slow, pytest.mark.needs(*MODULE)]
-TARGETS = "cortex-m0 cortex-m3 cortex-m4 cortex-m7 cortex-m33 rv32imac i686 armv7 x86_64 aarch64".split()
+TARGETS = "cortex-m0 cortex-m3 cortex-m4 cortex-m7 cortex-m33 rv32imac i686 armv7 x86_64 aarch64 riscv64".split()
 FILES = ["bsdudp-config.cmake", "bsdudp.h", "bsdudp_notes.h", "libbsdudp.a"]
 CMAKE = """cmake_minimum_required(VERSION 3.13)
 project(board C)
@@ -51,6 +52,10 @@ HOSTS = {
     "aarch64": Host(
         "aarch64", ["aarch64-linux-gnu-gcc"], ["qemu-aarch64", "-L", "/usr/aarch64-linux-gnu"],
         needs=("aarch64-linux-gnu", "qemu-user"),
+    ),
+    "riscv64": Host(
+        "riscv64", ["riscv64-linux-gnu-gcc"], ["qemu-riscv64", "-L", "/usr/riscv64-linux-gnu"],
+        needs=("riscv64-linux-gnu", "qemu-user"),
     ),
 }  # fmt: skip
 WRAPPED = ["-Wl,--wrap=malloc,--wrap=free,--wrap=bsdudp_ether_boot_in"]  # memory.c has its own
@@ -111,7 +116,7 @@ def test_random_calls(host, builds, runs, bsdudp):
     runs(*builds(host, "random", "-O1", "tests/random.c"), bsdudp, "1")
 
 
-@hosts("aarch64")
+@hosts("aarch64", "riscv64")
 def test_scripts(host, builds, plays):
     plays(builds(host, "driver", "-O1", *DRIVER), RANDOM)
 
@@ -229,9 +234,9 @@ BY_SERIAL, ALONE = [*MACHINE, "stdio"], [*MACHINE, "null"]
 # The most of the columns of bench/board's table, for each level: the library, the echo's text, data, bss and call
 # stack, and the instructions of three lengths.
 COSTS = {
-    "--small": [41_600, 17_900, 16, 52_500, 830, 2_480, 7_630, 22_100],
-    "-Os": [47_600, 22_700, 16, 52_500, 1_040, 1_785, 6_980, 21_500],
-    "-O2": [75_500, 42_800, 16, 52_500, 900, 1_545, 6_550, 19_400],
+    "--small": [41_900, 17_500, 16, 52_500, 830, 2_480, 7_630, 22_100],
+    "-Os": [48_000, 22_600, 16, 52_500, 900, 1_830, 6_980, 21_500],
+    "-O2": [76_400, 42_500, 16, 52_500, 830, 1_590, 6_550, 19_400],
 }
 DATA = 2
 on_board = pytest.mark.needs("arm-none-eabi", "qemu-arm")

@@ -24,7 +24,7 @@ def test_bsdplay(bsdplay):
         assert len(listed) >= 6 and listed <= completed(bsdplay, *words, "--")
     assert completed(bsdplay, "--see") == {"--seed", "--seeds"}
     assert completed(bsdplay, "--color", "a") == {"auto", "always"}
-    assert completed(bsdplay, "why", "--fail-on", "") == {"packet", "offload", "unfinished"}
+    assert completed(bsdplay, "why", "--fail-on", "") == {"packet", "stack", "offload", "cut", "unfinished"}
     for option in ("--addr", "--bcast", "--flow", "--mac", "--port", "--records"):
         assert completed(bsdplay, "why", option, "READ") == set()
     assert "why" in completed(bsdplay, "w") and "README.md" in completed(bsdplay, "READ")

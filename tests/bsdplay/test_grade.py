@@ -187,7 +187,8 @@ def test_a_hand_in_has_its_verdict_in_the_table(name, table):
 def test_a_hand_in_has_its_verdict_in_a_line(name, lines):
     verdict, right_ones, wrong, missing = VERDICTS[name]
     counts = "" if right_ones is None else f", {right_ones} right, {wrong} wrong, {missing} missing"
-    assert f"{name}: {verdict}{counts}" in lines, f"no line says {name}: {verdict}{counts}"
+    wanted = name.replace("\n", r"\x0a") + f": {verdict}{counts}"
+    assert wanted in lines, f"no line says {wanted}"
 
 
 # ---- files that aren't keys, and hand-ins without a key ------------------------------------------------------------

@@ -148,12 +148,15 @@ def block(size):
     return struct.pack("<II", 0xBAD, size) + bytes(size - 12) + struct.pack("<I", size)
 
 
-@pytest.mark.parametrize("size, fault", [(2**20, b""), (2**20 + 4, b"longer than 1048576 bytes at byte 32")])
-def test_a_block_has_up_to_a_mebibyte(size, fault, bsdplay):
-    """The block follows a section's header of 28 bytes, and its length follows its type of 4."""
+@pytest.mark.parametrize(
+    "size, status, message", [(2**20, 3, b"no record has IPv4"), (2**20 + 4, 1, b"longer than 1048576 bytes at byte 32")]
+)
+def test_a_block_has_up_to_a_mebibyte(size, status, message, bsdplay):
+    """The block follows a section's header of 28 bytes, and its length follows its type of 4. Without a packet for the
+    host, the status is 3."""
     section = struct.pack("<IIIHHqI", 0x0A0D0D0A, 28, 0x1A2B3C4D, 1, 0, -1, 28)
     ended = run(bsdplay, "why", "-", "--addr", HERE, script=section + block(size))
-    assert (ended.returncode, fault in ended.stderr) == (1 if fault else 0, True), ended
+    assert (ended.returncode, message in ended.stderr) == (status, True), ended
 
 
 def test_a_written_capture_names_the_longest_packet(bsdplay, tmp_path):

@@ -175,6 +175,21 @@ def test_bytes_that_change_a_terminal_are_printed_by_number(name, quiet, bsdplay
     assert (b'3  sendto 3 10.0.0.2 7 "' + shown + b'" => ' in said) != quiet
 
 
+NAME = "a\x1b[2J\x9bb.txt"
+
+
+@pytest.mark.parametrize("words", [[], ["why"], ["--from-pcap"], ["--blank"], ["--seeds", "1-2"], ["--pcap", NAME]])
+@pytest.mark.parametrize("text", [None, b"socket => ok 3\n", b"socket => ?\n", b"\x0a\x0d\x0d\x0a" + bytes(30)],
+                         ids=["no file", "a script", "open", "a capture"])  # fmt: skip
+def test_a_files_name_changes_no_terminal(words, text, bsdplay, tmp_path):
+    """A hand-in's name is its student's choice."""
+    file = tmp_path / NAME
+    if text is not None:
+        file.write_bytes(text)
+    ended = run(bsdplay, *(tmp_path / NAME if it == NAME else it for it in words), file)
+    assert b"\x1b" not in ended.stdout + ended.stderr and b"\xc2\x9b" not in ended.stdout + ended.stderr, ended
+
+
 def test_its_own_colours_stay(bsdplay):
     said = run(bsdplay, "--color", "always", script=b"socket\n\x1b[2Jx\n").stdout
     assert said == b"1  socket => \x1b[32mok 3\x1b[0m\n\x1b[31m-:2: `\\x1b[2Jx` is no command\x1b[0m\n"

@@ -93,7 +93,8 @@ def verdict(row):
 def test_a_frame_by_itself(name, bsdplay, tmp_path):
     sent, wanted, _ = FRAMES[name]
     ended = why(bsdplay, tmp_path, [sent], "--mac", "02:00:00:00:00:01", "--json")
-    assert (ended.returncode, ended.stderr) == (0, b"")
+    assert ended.returncode == (3 if wanted is None else 0)
+    assert ended.stderr.endswith(b": no packet is for 10.0.0.1: no record has IPv4\n" if wanted is None else b"")
     found, link, summary = rows(ended)
     assert verdict(found.get(1)) == wanted
     assert (link["mac"], link["judge"]) == ("02:00:00:00:00:01", "ethernet host")

@@ -87,6 +87,49 @@ def test_only_what_was_left_to_the_card_is_filled_in(bsdplay, tmp_path):
     assert not any(it["filled"] for it in rows.values())
 
 
+def test_what_the_capture_cut_is_not_filled_in(bsdplay, tmp_path):
+    """The checksum covers bytes that the capture doesn't have."""
+    file = tmp_path / "it.pcap"
+    file.write_bytes(cut([left_to_card(datagram(bytes(100)))], 60))
+    ended = run(bsdplay, "why", "--json", "--offload", "--fail-on", "offload,packet,stack", file)
+    row = json.loads(ended.stdout.splitlines()[0])
+    assert (ended.returncode, row["fault"], row["filled"]) == (0, "capture", False)
+    assert run(bsdplay, "why", "--fail-on", "cut", file).returncode == 1
+
+
+def cut(packets, kept):
+    """Returns a capture of packets that kept so many bytes of each."""
+    return header() + b"".join(record("<", 0, at, it[:kept], original=len(it)) for at, it in enumerate(packets))
+
+
+# ---- what this stack lacks -------------------------------------------------------------------------------------------
+
+# TCP, a ping, GRE, IPv6 in IPv4, and IP options.
+LACKING = [*(ip(bytes(20), protocol=it) for it in (6, 1, 47, 41)),
+           ip(datagram(b"hello")[20:], options=b"\x01\x01\x01\x01")]  # fmt: skip
+
+
+def test_what_this_stack_lacks_is_no_fault_of_the_packet(bsdplay, tmp_path):
+    packets = [datagram(b"hi"), *LACKING]
+    ended = why(bsdplay, tmp_path, packets, "--json", "--fail-on", "packet,offload,cut,unfinished")
+    rows = [json.loads(it) for it in ended.stdout.splitlines()]
+    assert (ended.returncode, [it["verdict"] for it in rows[:6]]) == (0, ["delivered", *["dropped"] * 5])
+    assert rows[-2] == {"apart": {"stack": 5, "copies": 0, "repeats": 0}}
+    assert why(bsdplay, tmp_path, packets, "--fail-on", "stack").returncode == 1
+    text = why(bsdplay, tmp_path, packets).stdout.decode()
+    assert "    5 of the dropped need what this stack lacks: no fault of the packets (first: record 2)\n" in text, text
+
+
+@pytest.mark.parametrize("what, status", [("packet", 0), ("stack", 1)])
+def test_a_datagram_that_is_too_long_for_a_queue(what, status, bsdplay, tmp_path):
+    """A host with a longer receive queue takes it."""
+    whole = datagram(bytes(41_585), ident=3)
+    parts = [fragment(whole, first, 184) for first in range(0, len(whole) // 8, 185)]
+    rows, _ = objects(bsdplay, tmp_path, parts)
+    assert [it["cause"] for it in rows.values() if it["verdict"] == "dropped"] == ["receive queue full"]
+    assert why(bsdplay, tmp_path, parts, "--fail-on", what).returncode == status
+
+
 # ---- ICMP errors -----------------------------------------------------------------------------------------------------
 
 
@@ -124,6 +167,9 @@ def test_a_refused_datagram_may_be_left_to_the_card(bsdplay, tmp_path):
     assert (summary["refused"], summary["offload"], summary["dropped"]) == (1, 0, 0)
     text = why(bsdplay, tmp_path, [sent, unreachable(sent)]).stdout.decode()
     assert "=> left to the card: wrong datagram checksum" in text and "=> refused by the host (record 2)\n" in text, text
+    words = ("--addr", HERE, "--fail-on")
+    assert why(bsdplay, tmp_path, [sent, unreachable(sent)], *words, "offload").returncode == 1
+    assert why(bsdplay, tmp_path, [sent, unreachable(sent)], *words, "packet,stack,cut").returncode == 0
 
 
 @pytest.mark.parametrize("error", [
@@ -183,9 +229,31 @@ def framed(kind, carried):
     return ADDRESSES + struct.pack("!H", kind) + carried
 
 
+# Frames, what is said on standard error, and of a capture that isn't read twice.
+UNHEARD = [
+    ([framed(0x0800, datagram(b"hi"))] * 3, b"no packet is for 1.2.3.4: 3 of 3 datagrams go to 10.0.0.1",
+     b"no packet is for 1.2.3.4: 3 for other machines"),
+    ([framed(0x86DD, bytes(40))], *[b"no packet is for 1.2.3.4: no record has IPv4"] * 2),
+    ([framed(0x0800, TCP)] * 2, *[b"no packet is for 1.2.3.4: 2 for other machines"] * 2),
+]  # fmt: skip
+
+
+@pytest.mark.parametrize("frames, told, told_of_a_stream", UNHEARD, ids=["another address", "IPv6", "TCP"])
+def test_a_status_says_that_no_packet_is_for_the_host(frames, told, told_of_a_stream, bsdplay, tmp_path):
+    words = ("--addr", "1.2.3.4", "--fail-on", "packet")
+    for more in (words, (*words, "--json"), (*words[:2], "--all")):
+        ended = why(bsdplay, tmp_path, frames, *more, link=ETHERNET)
+        assert (ended.returncode, told in ended.stderr) == (3, True), ended
+    ended = run(bsdplay, "why", *words, "-", script=capture(frames, ETHERNET))
+    assert (ended.returncode, told_of_a_stream in ended.stderr) == (3, True), ended
+    heard = [*frames, framed(0x0800, datagram(b"x", between=(PEER, "1.2.3.4")))]
+    ended = why(bsdplay, tmp_path, heard, *words, link=ETHERNET)
+    assert (ended.returncode, ended.stderr) == (0, b"")
+
+
 def test_a_capture_without_udp_is_a_result(bsdplay, tmp_path):
     ended = why(bsdplay, tmp_path, [TCP] * 4)
-    assert (ended.returncode, ended.stderr) == (0, b"")
+    assert (ended.returncode, ended.stderr) == (3, b"")
     assert ended.stdout.splitlines()[0] == b"4 records: 4 TCP."
     ended = why(bsdplay, tmp_path, [TCP] * 4, "--json")
     assert json.loads(ended.stdout)["summary"]["tcp"] == 4
@@ -197,7 +265,7 @@ def test_other_records_are_counted_by_kind(bsdplay, tmp_path):
               bytes(5)]  # fmt: skip
     ended = why(bsdplay, tmp_path, frames, link=ETHERNET)
     told = "8 records: 1 TCP, 1 ICMP, 1 other IPv4, 1 IPv6, 1 ARP, 1 PPPoE, 1 other frames, 1 cut in the link header."
-    assert (ended.returncode, ended.stdout.decode().splitlines()[0]) == (0, told)
+    assert (ended.returncode, ended.stdout.decode().splitlines()[0]) == (3, told)
     ended = why(bsdplay, tmp_path, [framed(0x0800, datagram(b"hi")), *frames[:3]], link=ETHERNET)
     assert ended.stdout.decode().splitlines()[-1] == (
         "Records for other machines: 0. Without IPv4: 2 (1 IPv6, 1 ARP).")  # fmt: skip
@@ -246,7 +314,7 @@ def test_records_of_an_unknown_link_type_are_counted(bsdplay):
     """A pcapng file may have interfaces of several link types."""
     ended = run(bsdplay, "why", "-", script=interface(1, link=127))
     told = b"1 record: 1 of link type 127 (802.11 plus radiotap header).\n"
-    assert (ended.returncode, ended.stdout[: len(told)]) == (0, told), ended
+    assert (ended.returncode, ended.stdout[: len(told)]) == (3, told), ended
 
 
 # ---- time ------------------------------------------------------------------------------------------------------------

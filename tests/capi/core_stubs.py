@@ -17,7 +17,7 @@ CRATE = TOP / "crates/libbsdudp"
 STRUCTS = {"CAddr": "bsdudp_addr", "CConfig": "bsdudp_config", "CName": "bsdudp_name", "CNext": "bsdudp_next",
            "CFate": "bsdudp_fate",
            "CUnfinished": "bsdudp_unfinished", "CRange": "bsdudp_range", "CMbstat": "bsdudp_mbstat",
-           "CTallies": "bsdudp_tallies", "CLink": "core_link", "CNeighbour": "core_neighbour"}  # fmt: skip
+           "CTallies": "core_tallies", "CLink": "core_link", "CNeighbour": "core_neighbour"}  # fmt: skip
 NUMBERS = {"u8": "uint8_t", "u16": "uint16_t", "u32": "uint32_t", "u64": "uint64_t", "bool": "bool"}
 HANDLES = {"Handle": "bsdudp_core", "LinkHandle": "bsdudp_core"}
 HEAD = """#include "src/memory.c"
@@ -204,5 +204,5 @@ def exports() -> list[Export]:
 
 def stubs() -> str:
     """Returns the C file."""
-    own = "".join(f"struct {it} {{\n{C_STRUCTS[it]}}};\n" for it in ("core_link", "core_neighbour"))
+    own = "".join(f"struct {it} {{\n{C_STRUCTS[it]}}};\n" for it in ("core_link", "core_neighbour", "core_tallies"))
     return HEAD + own + "\n" + "\n".join(it.written() for it in exports())

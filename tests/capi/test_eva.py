@@ -1,5 +1,5 @@
 """Frama-C on the C that the prover doesn't make: capi/src, the examples that read bytes of a network, the board's
-driver, and two functions of portable/c/plain.c.
+driver, and portable/c/plain.c.
 
 Eva analyses a program of capi/eva, which makes any calls with any arguments in any order. It has no alarm: no access
 outside an object, no uninitialized value, no overflow of a signed number. The core's exports are stubs that core_stubs.py
@@ -29,7 +29,7 @@ from tests.cases import TOP
 CALLS = ["src/bsdudp.c", "src/composed.c", "src/ether.c", "src/block.c"]
 SHELL = [*CALLS, "src/rehost.c"]
 # Functions whose contracts WP proves.
-OF_TFTP = "read_file,write_file,next_text,is_word,number_of"
+OF_TFTP = "copy_block,opcode_of,write_file,next_text,is_word,number_of"
 OF_COAP = "parse,copy_block,is_path"
 BOARD = "gcc_x86_32"
 SPLIT = ["-eva-split-return", "full", "-eva-auto-loop-unroll", "128"]
@@ -80,11 +80,14 @@ class Proof(NamedTuple):
 PROOFS = {
     "memory": Proof("src/memory.c", "bsdudp_block", "memory_contracts.h",
                     ["-wp-model", "Typed+cast", "-cpp-extra-args=-DBSDUDP_THREADS=0"]),
+    "block": Proof("src/block.c", "bsdudp_memory_of", "block_contracts.h",
+                   ["-wp-model", "Typed+cast", "-wp-no-filter"]),
     "dhcp_read": Proof("examples/dhcp_message.c", "get16,get,sum,udp_sum,is_same,take_option,take_options,dhcp_read,"
                        "dhcp_len", "reader_contracts.h"),
-    "coap_parse": Proof("eva/coap_parse.c", f"add_segment,take_option,extend,{OF_COAP}", ""),  # which includes coap.c
+    "coap_parse": Proof("eva/coap_parse.c", "add_segment,take_option,extend,parse,is_path", ""),  # which includes coap.c
     "tftp_request": Proof("examples/tftp.c", OF_TFTP, "tftp_contracts.h"),
-    "plain": Proof("../portable/c/plain.c", "bsdudp_plain_fold,bsdudp_plain_before", "plain_contracts.h"),
+    "plain": Proof("../portable/c/plain.c", "bsdudp_plain_sum,sum_words,add_words,add_carrying,bsdudp_plain_fold,"
+                   "bsdudp_plain_before,bsdmove", "plain_contracts.h", ["-wp-model", "Typed+cast", "-wp-no-filter"]),
 }  # fmt: skip
 # Sources that a file of capi/eva includes; where is kept what passed.
 INCLUDED = ["src/boot.c", "examples/coap.c"]
@@ -158,11 +161,22 @@ def version() -> str:
     return "".join(subprocess.run(it, capture_output=True, text=True, check=False).stdout for it in commands)
 
 
+def read_by(files: set[pathlib.Path]) -> set[pathlib.Path]:
+    """Returns these files of the repository, and those that they include."""
+    capi, found, left = TOP / "capi", set(), files
+    while left:
+        found |= left
+        named = {(it.parent, one) for it in left for one in re.findall(r'#include "(.+)"', it.read_text(encoding="utf-8"))}
+        folders = (capi, capi / "include", capi / "examples")
+        tried = [(place / one).resolve() for parent, one in named for place in (parent, *folders)]
+        left = {it for it in tried if it.exists()} - found
+    return found
+
+
 def passes(name: str, how: object, code: list[str], core: str, find: Callable[[], list[str]]) -> None:
     """Asserts that nothing is found in these files, unless that is known of the same texts and options."""
     total = hashlib.sha256(f"{name} {how} {version()} {core}".encode())
-    headers = [it for folder in ("include", "examples", "eva") for it in (TOP / "capi" / folder).glob("*.h")]
-    for file in sorted({*headers, TOP / "capi/src/memory.c", *(TOP / "capi" / it for it in code)}):
+    for file in sorted(read_by({(TOP / "capi" / it).resolve() for it in code})):
         total.update(f"{file.name} ".encode() + file.read_bytes())
     mark = KEPT / f"{name}-{total.hexdigest()[:32]}"
     if not mark.exists():
@@ -176,14 +190,15 @@ def passes(name: str, how: object, code: list[str], core: str, find: Callable[[]
 def test_eva(name, machine, core):
     it = PARTS[name]
     find = functools.partial(found_by_eva, TOP / "capi", core, name, machine)
-    passes(f"eva-{name}-{machine}", it, [*it.sources, *it.others], core.read_text(encoding="utf-8"), find)
+    code = [*it.sources, *it.others, "src/memory.c", *([f"eva/{it.contracts}"] if it.contracts else [])]
+    passes(f"eva-{name}-{machine}", it, code, core.read_text(encoding="utf-8"), find)
 
 
 @WP
 @pytest.mark.parametrize("name", PROOFS)
 def test_wp(name, why3):
     it = PROOFS[name]
-    code = [it.source, *INCLUDED] if it.source.startswith("eva/") else [it.source]
+    code = [it.source, *([f"eva/{it.contracts}"] if it.contracts else [])]
     passes(f"wp-{name}", it, code, "", functools.partial(found_by_wp, TOP / "capi", why3, name))
 
 
@@ -225,26 +240,31 @@ PLANTED = {
     "a rest that is too long": ("memory", "src/memory.c", "left -= (size_t)((size + 15) / 16 * 16)",
                                 "left -= (size_t)size"),
     "a size that wraps": ("memory", "src/memory.c", "size > left || (size", "(size"),
+    "memory at the length of its block": ("block", "src/block.c", " + sizeof *block", ""),
+    "memory that isn't aligned": ("block", "src/block.c", "(uintptr_t)at % BSDUDP_ALIGNMENT", "(uintptr_t)at % 8"),
     "an option behind the message": ("dhcp_read", "examples/dhcp_message.c", "> len - i - 2", "> len - i - 1"),
     "a path without its end": ("coap_parse", "examples/coap.c", "at + 1 + len > PATH", "at + len > PATH"),
     "a length behind the message": ("coap_parse", "examples/coap.c", "|| length > len - at", ""),
     "a message without options": ("dhcp_read", "examples/dhcp_message.c", "len <= OPTIONS ||", "len < COOKIE ||"),
-    "an opcode of one byte": ("tftp", "examples/tftp.c", "return len < 2 ? 0", "return len < 1 ? 0"),
+    "an opcode of one byte": ("tftp_request", "examples/tftp.c", "return len < 2 ? 0", "return len < 1 ? 0"),
     "a block behind the buffer": ("tftp", "examples/tftp.c", "number < TFTP_BLOCK ? number : TFTP_BLOCK", "number"),
     "a transfer without a file": ("tftp", "examples/tftp.c", "if (new.file == NULL) {", "if (fault == NO_FILE) {"),
-    "a file that no one may write": ("tftp", "examples/tftp.c", "file->buffer == NULL || new", "new"),
     "a text behind the request": ("tftp_request", "examples/tftp.c", "return at < len ? at + 1 : len;",
                                   "return at + 1;"),
     "a word that is longer": ("tftp_request", "examples/tftp.c", "return word[i] == 0 && at < len && bytes[at] == 0;",
                               "return word[i] == 0 && at < len;"),
     "a number of ten digits": ("tftp_request", "examples/tftp.c", "value < NO_NUMBER / 10", "value < NO_NUMBER"),
-    "a byte behind the file": ("tftp_request", "examples/tftp.c", "i < most && at < len", "i < most && at <= len"),
+    "a byte behind the file": ("tftp_request", "examples/copy.h", "i < most && at < len", "i < most && at <= len"),
     "a frame behind the board's buffer": ("lan9118", "../portable/board/lan9118.c", "|| len > LAN9118_FRAME ? 0",
                                           "? 0"),
     "a byte behind a frame": ("lan9118", "../portable/board/lan9118.c", "k < 4 && at < len; k++)\n            word",
                               "k < 4; k++)\n            word"),
     "a carry that is lost": ("plain", "../portable/c/plain.c", "third = second % 65536 + second / 65536",
                              "third = second % 65536"),
+    "a carry that is lost within": ("plain", "../portable/c/plain.c", "*carry = first | second", "*carry = first"),
+    "a word that is added twice": ("plain", "../portable/c/plain.c", "word_at(bytes + 8)", "word_at(bytes + 4)"),
+    "a sum behind its bytes": ("plain", "../portable/c/plain.c", "*n >= 32; *n -= 32", "*n >= 16; *n -= 32"),
+    "a move down that overlaps": ("plain", "../portable/c/plain.c", "above >= len && below >= len", "above >= len"),
     "a port beside": ("plain", "../portable/c/plain.c", "k < 16 && from[k]", "k < 15 && from[k]"),
     "a token of nine bytes": ("coap_parse", "examples/coap.c", "token > 8 ||", "token > 9 ||"),
     "a message without a head": ("coap", "examples/coap.c", "if (len < HEAD || bytes[0]", "if (bytes[0]"),

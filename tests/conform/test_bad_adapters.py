@@ -28,18 +28,18 @@ for line in sys.stdin:
         print("end", flush=True)
 """
 BAD = {
-    "print('got here')": "isn't a line of an adapter",
-    "print('nonsense 0')": "isn't a line of an adapter",
-    "print('got 0 10.0.0.2 5000 00 0 0')": "isn't a line of an adapter",
-    "print('got 0 10.0.0.2 5000 zz')": "isn't a line of an adapter",
-    "print('got 7 10.0.0.2 5000 00')": "isn't a line of an adapter",
+    "print('got here')": "expected `got STEP ADDR PORT HEX`, ",
+    "print('nonsense 0')": "expected `got STEP ADDR PORT HEX`, ",
+    "print('got 0 10.0.0.2 5000 00 0 0')": "expected `got STEP ADDR PORT HEX`, ",
+    "print('got 0 10.0.0.2 5000 zz')": "expected `got STEP ADDR PORT HEX`, ",
+    "print('got 7 10.0.0.2 5000 00')": "expected `got STEP ADDR PORT HEX`, ",
     "sys.exit(4)": "it ended with status 4",
-    "os.kill(os.getpid(), 11)": "it ended by signal 11 (SIGSEGV)",
+    "os.kill(os.getpid(), 11)": "it was killed by signal 11 (SIGSEGV)",
     "time.sleep(600)": "it hangs: no `end` within 8 s",
     "os.close(1); time.sleep(600)": "it closed its standard output or input",
     "[print('note ' + 'x' * 100000) for _ in range(10 ** 6)]": "it floods: more than",
     "print('crash of the stack')": "the stack crashes: of the stack",
-    "print('end'); print('case other')": "'end' isn't a line of an adapter",
+    "print('end'); print('case other')": "`out STEP HEX` or `refused STEP`, got 'end'",
 }
 
 

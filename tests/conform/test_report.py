@@ -163,4 +163,4 @@ def test_stacks_of_one_name_are_kept_apart(conform, tmp_path):
 
 def test_an_unknown_rule_names_the_list(conform):
     status, said = conform(sys.executable, "-m", "bsdudp_conform", "run", "--only", "frag.kye", "--", "./none")
-    assert (status, said) == (2, "bsdudp-conform: no case matches frag.kye: bsdudp-conform run --list has all\n")
+    assert (status, said) == (2, "bsdudp-conform: no case matches frag.kye: bsdudp-conform run --list prints all\n")

@@ -96,6 +96,77 @@ static int cut(void)
     return bsdudp_close(&stack, coap.fd);
 }
 
+static void get_block(struct coap_content *content)
+{
+    static const uint8_t bytes[16] = "0123456789abcde";
+    content->bytes = bytes;
+    content->len = sizeof bytes;
+}
+
+/* A block that begins at the end of its content, or behind it, is refused with 4.00 (RFC 7959, 2.4). So is size 7. */
+static int blocks(void)
+{
+    static const struct coap_resource resource = {"/n", COAP_TEXT, get_block, NULL};
+    static const struct {
+        char block;
+        int code, len; /* with 4 bytes of head, 4 of options and the value of Block2, a marker and 16 of payload */
+    } rows[] = {{0x00, COAP_CODE(2, 5), 25}, {0x10, COAP_CODE(4, 0), 4}, {0x20, COAP_CODE(4, 0), 4},
+                {0x01, COAP_CODE(2, 5), 26}, {0x11, COAP_CODE(4, 0), 4}, {0x07, COAP_CODE(4, 0), 4}};
+    static uint8_t buffer[64];
+    static struct coap coap = {.host = &stack, .resources = &resource, .count = 1, .buffer_len = sizeof buffer};
+    unsigned k;
+    coap.buffer = buffer;
+    WANT(coap_start(&coap, OWN), 0);
+    for (k = 0; k < sizeof rows / sizeof rows[0]; k++) {
+        char request[] = "\x40\x01\0\0\xb1n\xc1"; /* its last byte is the value of Block2 */
+        request[3] = (char)k;
+        request[7] = rows[k].block;
+        WANT(reply_to(&coap, NULL, request, 8), rows[k].len);
+        WANT(reply[1], rows[k].code);
+    }
+    return bsdudp_close(&stack, coap.fd);
+}
+
+/* A client reads a file of `len` bytes to its end, which is a block with fewer than 512 bytes, and then has no transfer. */
+static int reads(struct tftp *tftp, uint32_t len)
+{
+    struct bsdudp_addr to = {OWN, TFTP_PORT};
+    const uint32_t fd = (uint32_t)bsdudp_socket(&stack);
+    uint32_t block, at = 0;
+    int came = 4 + 512;
+    tftp->files->len = len;
+    WANT(bsdudp_sendto(&stack, fd, &to, "\0\1a\0octet", 10), 10);
+    for (block = 1; came == 4 + 512; block++) {
+        const uint8_t ack[] = {0, 4, 0, (uint8_t)block};
+        tftp_serve(tftp);
+        came = bsdudp_recvfrom(&stack, fd, reply, sizeof reply, &to);
+        WANT(came >= 4 && reply[1] == 3 && reply[3] == block, 1);
+        WANT(memcmp(reply + 4, tftp->files->bytes + at, (size_t)came - 4), 0);
+        at += (uint32_t)came - 4;
+        WANT(bsdudp_sendto(&stack, fd, &to, ack, sizeof ack), 4);
+    }
+    WANT(at, len);
+    tftp_serve(tftp);
+    WANT(bsdudp_recvfrom(&stack, fd, reply, sizeof reply, NULL), NOTHING);
+    WANT(tftp->transfers[0].file == NULL, 1);
+    return bsdudp_close(&stack, fd);
+}
+
+static int whole_files(void)
+{
+    static uint8_t bytes[1025], buffer[TFTP_ROOM];
+    static struct tftp_file file = {"a", bytes, NULL, 0, 0, 0};
+    static struct tftp tftp = {.host = &stack, .files = &file, .count = 1, .buffer = buffer};
+    static const uint32_t lens[] = {0, 1, 511, 512, 513, 1024, 1025};
+    unsigned k;
+    for (k = 0; k < sizeof bytes; k++)
+        bytes[k] = (uint8_t)(k * 7 + k / 256);
+    WANT(tftp_start(&tftp, OWN), 0);
+    for (k = 0; k < sizeof lens / sizeof lens[0]; k++)
+        WANT(reads(&tftp, lens[k]), 0);
+    return bsdudp_close(&stack, tftp.fd);
+}
+
 /* A message without an opcode is illegal, whatever came before it. */
 static int short_messages(void)
 {
@@ -119,5 +190,5 @@ int main(void)
 {
     static const struct bsdudp_config config = {OWN, 0x0a0000ff, 64, 16, 1500, 1};
     WANT(bsdudp_boot_in(&stack, &config, memory, LEN), 0);
-    return paths() || cut() || short_messages();
+    return paths() || cut() || blocks() || whole_files() || short_messages();
 }

@@ -108,7 +108,7 @@ def imported(path: str, found: list[str]) -> list[str]:
 
 def test_what_to_read():
     """proved.md lists each file that says what a run of calls is, with its lines."""
-    rows = table("docs/proved.md", "What to read", "Files", "What they define")[1]
+    rows = table("docs/proved.md", "What to read", "Files", "Definitions")[1]
     pairs = [it for row in rows for it in re.findall(r"`([\w/]+\.antt)` (\d+)", row.cells[0])]
     said = {name if name.startswith("crates/") else f"crates/flat_model/specs/{name}": int(n) for name, n in pairs}
     found = imported("crates/flat_model/specs/Runs/Run.antt", ["crates/net_stack/specs/Runs.antt"])

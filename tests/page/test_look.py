@@ -435,17 +435,20 @@ def test_a_printed_question_has_no_buttons_and_an_exercise_lines_to_write_on(nam
 
 
 def test_a_capture_has_counts_per_cause_and_a_way_to_the_next_drop(at_width):
-    """A wrong UDP checksum is a drop. One that has only the sum of the pseudo header is left to the sender's card."""
+    """A wrong UDP checksum is a drop. One that has only the sum of the pseudo header is left to the sender's card. A
+    packet that the snap length cut isn't a drop either."""
     wrong, closed = datagram(b"question", (53, 53)), datagram(b"x", (1, 9))
     wrong = wrong[:30] + b"?" + wrong[31:]
     left, other = left_to_card(datagram(b"b")), left_to_card(datagram(b"c"))
     packets = [datagram(b"a"), left, wrong, other, b"\x65" + closed[1:], wrong]
     data = header() + b"".join(record("<", 100 + n, 0, it) for n, it in enumerate(packets))
+    data += record("<", 106, 0, datagram(bytes(100))[:60], original=128)
     browser = at_width(1280)
     letters = f"Uint8Array.from(atob('{base64.b64encode(data).decode()}'), letter => letter.charCodeAt(0))"
     browser.run(f"openFile(new File([{letters}], 'a.pcap'))")
     counts = browser.run("[...byId('drops').querySelectorAll('.cause')].map(it => it.textContent)")
-    assert counts == ["2 wrong datagram checksum", "1 wrong version", "2 checksum left to the card"]
+    apart = ["2 checksum left to the card", "1 cut by the capture"]
+    assert counts == ["2 wrong datagram checksum", "1 wrong version", *apart]
     numbers = "Number(/^Record (\\d+)/.exec(page.noteOf(page.steps[page.at]))[1])"
     browser.run("select(0)")
     assert [browser.run(f"byId('next-drop').click(); {numbers}") for _ in range(4)] == [3, 5, 6, 3]
@@ -455,6 +458,9 @@ def test_a_capture_has_counts_per_cause_and_a_way_to_the_next_drop(at_width):
     wrong = "#look .verdict.no, #look .checks .fail, [aria-current] .sign-bad"
     assert browser.run(f"document.querySelector('{wrong}') === null")
     assert browser.run("byId('said').textContent").count("Left to the card") == 1
+    assert browser.run(f"byId('drops').querySelectorAll('.card')[1].click(); {numbers}") == 7
+    assert "Cut by the capture" in browser.run("document.querySelector('#look .verdict.wait').textContent")
+    assert browser.run(f"document.querySelector('{wrong}') === null")
     for width in HEIGHTS:
         assert at_width(width).run("faultsOf(tryLayout)") == []
     browser.run("open('run', { name: 'exercise_02_why_dropped' })")

@@ -110,7 +110,7 @@ def test_what_others_report_is_returned_once():
         with pytest.raises(OSError) as refused:
             host.last_error(sock)
         assert refused.value.errno == errno.EBADF
-        with pytest.raises(ValueError, match="one of this host"):
+        with pytest.raises(ValueError, match="belong to this host"):
             host.last_error(bsdudp.Stack().socket())
 
 

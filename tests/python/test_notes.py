@@ -77,16 +77,19 @@ def test_as_linux(names):
 
 
 @pytest.mark.needs("netns", "tun", "ip")
-def test_no_room():
-    """Linux says so, too."""
-    wanted = of_linux([bsdudp.IP_PKTINFO], 0)
+@pytest.mark.parametrize("room", [0, host.CMSG_LEN(12), host.CMSG_SPACE(12)], ids=["none", "length", "space"])
+def test_room(room):
+    """As much as the data need, or nothing: Linux says so, too."""
+    wanted = of_linux([bsdudp.IP_PKTINFO], room)
     with bsdudp.Stack("10.0.0.1") as stack:
         it = stack.socket()
         it.bind(("", PORT))
         it.setsockopt(IPPROTO_IP, bsdudp.IP_PKTINFO, 1)
         for packet, row in zip(packets(), wanted):
             stack.rx(packet)
-            assert it.recvmsg(100) == row and row[2] == host.MSG_CTRUNC
+            came = it.recvmsg(100, room)
+            assert (came[0], without_index(came[1]), came[2:]) == (row[0], without_index(row[1]), row[2:])
+            assert row[2] == (0 if room else host.MSG_CTRUNC)
 
 
 def test_options():

@@ -194,7 +194,7 @@ def test_settings_for_one_stack(pair):
     wire.run()
     assert numbers_of(to) == [0, 1, 2] and it.waiting is None and wire.carried.lost == 1
     assert wire.sender(other).stack is other and wire.sender(one).loss == 0
-    with pytest.raises(ValueError, match="see sender"):
+    with pytest.raises(ValueError, match="use sender"):
         wire.loss
     with bsdudp.Stack("10.0.0.2") as stranger, pytest.raises(ValueError, match="is not on this wire"):
         wire.sender(stranger)
@@ -257,7 +257,8 @@ def test_by_hand(pair):
     wire.swap(0, 3)
     wire.duplicate(1)
     assert [int(way.packet[28:]) for way in wire.under_way] == [4, 2, 3, 0, 2]
-    assert [(way.sender, way.wait) for way in wire.under_way] == [(one, 0)] * 5
+    assert [(way.sender, way.wait) for way in wire.under_way] == [(one, 0)] * wire.in_flight
+    assert wire.in_flight == 5
     for call in (wire.drop, wire.duplicate, lambda at: wire.swap(0, at)):
         with pytest.raises(ValueError):
             call(5)

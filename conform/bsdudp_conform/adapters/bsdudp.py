@@ -116,7 +116,7 @@ class Bsdudp(Adapter):
 
         def handler(reply: str) -> None:
             if reply != wanted:
-                print(f"crash it answers {reply!r} to {line!r}")
+                print(f"crash it replied {reply!r} to {line!r}")
 
         self.program.later(line, handler)
 
@@ -144,13 +144,13 @@ class Bsdudp(Adapter):
         self.program.later("mbstat", left.append)
         self.program.flush()
         if left != self.free:
-            print(f"crash buffers are held after all was closed: {left[0]}, before: {self.free[0]}")
+            print(f"crash buffers are held after all sockets were closed: {left[0]}, before: {self.free[0]}")
 
 
 def main() -> None:
     parser = argparse.ArgumentParser(prog="python3 -m bsdudp_conform.adapters.bsdudp", description=__doc__)
-    parser.add_argument("command", metavar="PROGRAM", nargs="?", help="the program, as `bsdudp` (if nothing is said)")
-    parser.add_argument("words", metavar="WORD", nargs=argparse.REMAINDER, help="its words, as `run`")
+    parser.add_argument("command", metavar="PROGRAM", nargs="?", help="the program (default: `bsdudp`)")
+    parser.add_argument("words", metavar="WORD", nargs=argparse.REMAINDER, help="its arguments, such as `run`")
     said = parser.parse_args()
     if said.command:
         Bsdudp.command = [said.command, *said.words]

@@ -16,8 +16,8 @@ import time
 from typing import List, Optional
 
 parser = argparse.ArgumentParser(prog="python3 -m bsdudp_conform.adapters.onwire", description=__doc__)
-parser.add_argument("interface", metavar="INTERFACE", help="the interface of this machine to the wire")
-parser.add_argument("address", metavar="ADDRESS", nargs="?", help="the device's, as 10.0.0.1")
+parser.add_argument("interface", metavar="INTERFACE", help="this machine's interface to the wire")
+parser.add_argument("address", metavar="ADDRESS", nargs="?", help="the device's address, such as 10.0.0.1")
 said = parser.parse_args()
 if said.address:
     os.environ["BSDUDP_CONFORM_TARGET"] = said.address

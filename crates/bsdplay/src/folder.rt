@@ -2,6 +2,7 @@
 ghost use Rattle.play_pcap.specs.Files.{IsUnread};
 
 use crate::formats::{Unread, load_file};
+use crate::messages::Shown;
 use play_script::{CaptureFault, Folder};
 use std::alloc::Global;
 use std::str;
@@ -73,6 +74,7 @@ impl Folder for HostFolder<'_> {
             Ok(file) => Ok(file),
             Err(Unread::Whole(fault)) => Err(unread(fault)),
             Err(Unread::Bad(fault)) => {
+                let path = Shown(path);
                 let _reported = eprintln!(self.rt; "bsdplay: {path}: {fault}");
                 Err(CaptureFault::NotRead)
             }

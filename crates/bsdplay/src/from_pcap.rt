@@ -3,7 +3,7 @@ ghost use Rattle.std.specs.Prelude.{IfOk};
 ghost use Rattle.play_pcap.specs.Events.{IsOrdered};
 
 use crate::formats::{Unread, load_capture};
-use crate::messages::{fail, fail_on};
+use crate::messages::{Shown, fail, fail_on};
 use crate::{UNREAD, USAGE};
 use capture::{Fault, Why};
 use clap::ArgMatches;
@@ -28,6 +28,7 @@ pub(crate) fn report(
     put_outcome(&mut text, outcome);
     if let Ok(words) = str::from_utf8(text.as_slice()) {
         let words = words.strip_prefix("error ").unwrap_or(words);
+        let name = Shown(name);
         eprintln!(rt; "bsdplay: {name}: {words}")?;
     }
     match outcome {
@@ -44,6 +45,7 @@ pub(crate) fn report_fault(
     fault: Fault,
     command: &str,
 ) -> io::Result<u8> {
+    let name = Shown(name);
     if fault.why == Why::Gzip {
         eprintln!(rt;
             "bsdplay: {name}: {}: zcat FILE | bsdplay {command} - reads it",

@@ -1,7 +1,7 @@
 //! Hand-ins that are graded, by a key or by what they expect themselves.
 use crate::difference::put_difference;
 use crate::hand_in::{REFUSED, load, play_quietly, unmarked};
-use crate::messages::{fail, fail_on};
+use crate::messages::{Shown, fail, fail_on};
 use crate::sweep::first_fault;
 use crate::watched::{NO_MEMORY, is_lack};
 use crate::{UNREAD, USAGE};
@@ -38,7 +38,7 @@ fn word_of(verdict: &Verdict) -> &'static str {
 
 /// Prints a report as a line of text.
 fn print_line(out: &mut impl Write, report: &Report<'_>) -> io::Result<()> {
-    write!(out, "{}: {}", report.name, report.word)?;
+    write!(out, "{}: {}", Shown(report.name), report.word)?;
     if let Some(marks) = report.marks {
         write!(
             out,
@@ -159,18 +159,19 @@ fn put_key_fault(
     verdict: &Verdict,
     written: &[u8],
 ) -> io::Result<()> {
+    let shown = Shown(name);
     if let Err(fault) = verdict.played.outcome {
-        writeln!(out, "bsdplay: {name}: {fault}")
+        writeln!(out, "bsdplay: {shown}: {fault}")
     } else if !verdict.played.sound {
         out.write_all(first_fault(written, name.as_bytes()))?;
         writeln!(out)
     } else if let Some(first) = verdict.marks.first {
         writeln!(
             out,
-            "{name}:{first}: nothing is expected of this line, or it's a question without an answer"
+            "{shown}:{first}: nothing is expected of this line, or it's a question without an answer"
         )
     } else {
-        writeln!(out, "{name}: nothing is expected in it")
+        writeln!(out, "{shown}: nothing is expected in it")
     }
 }
 
@@ -365,6 +366,7 @@ pub(crate) fn grade(rt: &HostRuntime, found: &ArgMatches<'_>) -> io::Result<u8> 
     match load(rt, name) {
         Ok(file) => grade_by(rt, Some((name, unmarked(file.as_slice()))), found),
         Err(why) => {
+            let name = Shown(name);
             eprintln!(rt; "bsdplay: {name}: {why}: no hand-in is graded without its key")?;
             Ok(if why.as_bytes() == REFUSED.as_bytes() {
                 NO_MEMORY

@@ -3,6 +3,7 @@
 #![tactic(auto)]
 
 mod choice;
+mod copies;
 mod difference;
 mod ether;
 mod ether_text;
@@ -37,7 +38,7 @@ use grade::grade;
 use hand_in::unmarked;
 use help::lines;
 use hosts::{play_captured, play_uncaptured, status_of};
-use messages::{fail, fail_on};
+use messages::{Shown, fail, fail_on};
 use one::play_one;
 use options::{OPTIONS, with_options};
 use play_script::{Form, Played, RunFault, Style};
@@ -58,6 +59,9 @@ const USAGE: u8 = 2;
 
 /// The status if nothing is expected of a line, and `--strict` wants it, or if something is open in an exercise.
 const LACKS: u8 = 1;
+
+/// The status if no packet of a capture is for the host.
+const NOTHING: u8 = 3;
 
 /// The status if a script can't be opened, or something can't be printed.
 const UNREAD: u8 = 4;
@@ -87,6 +91,7 @@ fn command<'a>(alloc: Global, lines: &'a str) -> Result<Command<'a>, AllocError>
 /// Prints why a script ended early.
 pub(crate) fn report(rt: &HostRuntime, name: &str, played: &Played) -> io::Result<()> {
     if let Err(fault) = played.outcome {
+        let name = Shown(name);
         eprintln!(rt; "bsdplay: {name}: {fault}")?;
     }
     Ok(())
@@ -251,6 +256,7 @@ fn play_reader<R: Read + Drop>(
 
 /// Prints what to do with a capture that was given as a script.
 fn report_capture(rt: &HostRuntime, name: &str) -> io::Result<u8> {
+    let name = Shown(name);
     eprintln!(rt;
         "bsdplay: {name}: it's a capture: `bsdplay why {name}` says what happens to each packet, and \
         `bsdplay --from-pcap {name}` makes a script of it"
@@ -260,6 +266,7 @@ fn report_capture(rt: &HostRuntime, name: &str) -> io::Result<u8> {
 
 /// Says what is open in an exercise, and returns whether anything is.
 fn report_open(rt: &HostRuntime, name: &str, open: Open) -> io::Result<bool> {
+    let name = Shown(name);
     if let Some(first) = open.first {
         eprintln!(rt;
             "bsdplay: {name}:{first}: this reply is open: write what you expect instead of ?"

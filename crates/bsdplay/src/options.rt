@@ -188,7 +188,7 @@ pub(crate) static WHY_OPTIONS: [LongOption; 12] = [
     LongOption {
         id: "WHAT",
         long: "fail-on",
-        help: "Status 1 if there is such a case: packet, offload or unfinished, or several with commas",
+        help: "Status 1 if there is such a case: packet, stack, offload, cut, unfinished, or several with commas",
         action: ArgAction::Set,
     },
     LongOption {

@@ -1,6 +1,7 @@
 //! The records of a capture, each of which is given to a judge.
 ghost use Rattle.std.specs.Prelude.{◌≤◌, length, IfSome};
 
+use crate::copies::{Copies, Times};
 use crate::ether::{EtherEnd, LinkCounts, Linked, MacSeen};
 use crate::ether_text::{Frame, LINK_TEXT, put_frame_text, put_link_totals};
 use crate::kinds::Kinds;
@@ -125,6 +126,10 @@ pub(crate) struct Counts {
     pub(crate) kinds: Kinds,
     /// Whether something happened that `--fail-on` names.
     pub(crate) fails: bool,
+    /// Whether a record was for the host.
+    pub(crate) heard: bool,
+    /// IPv4 packets that weren't, also if they are played.
+    pub(crate) others: u64,
 }
 
 /// Why the records of a capture weren't all printed.
@@ -157,19 +162,34 @@ impl Machine {
 #[derive(Drop)]
 pub(crate) struct Play<'a> {
     pub(crate) choice: Choice,
-    ours: u32,
+    pub(crate) ours: u32,
     machine: &'a mut Machine,
     link_text: Buffer<LINK_TEXT>,
     refusals: Refusals,
     /// Whether the refusals were read ahead.
     ahead: bool,
     card: Card,
+    copies: Copies,
+    /// Packets that were dropped for what this stack lacks.
+    lacking: Times,
     pub(crate) counts: Counts,
 }
 
 /// Writes bytes to the output.
 fn put<W: Write>(out: &mut W, bytes: &[u8]) -> Result<(), End> {
     match out.write_all(bytes) {
+        Ok(()) => Ok(()),
+        Err(_) => Err(End::Unwritten),
+    }
+}
+
+/// Writes how many records are of a kind, and the first of them, if there are some.
+fn put_times<W: Write>(times: Times, what: &str, out: &mut W) -> Result<(), End> {
+    if times.count == 0 {
+        return Ok(());
+    }
+    let (count, first) = (times.count, times.first);
+    match writeln!(out, "    {count} {what} (first: record {first})") {
         Ok(()) => Ok(()),
         Err(_) => Err(End::Unwritten),
     }
@@ -215,12 +235,46 @@ fn is_wanted(choice: Choice, verdict: &Verdict) -> bool {
         && is_of_flow(choice, verdict)
 }
 
-/// Returns whether the packet itself is to blame for a drop.
+/// Returns whether this is to blame for one of the causes of a verdict.
+fn is_blamed(verdict: &Verdict, blame: Blame) -> bool {
+    let mut found = false;
+    for finding in verdict.findings {
+        if let Some(finding) = finding {
+            found = found || finding.blame == blame;
+        }
+    }
+    found
+}
+
+/// Returns whether this stack drops a packet for what other hosts have: protocols, IP options, longer receive queues
+/// and more buffers.
+fn is_of_stack(why: Why) -> bool {
+    matches!(
+        why,
+        Why::Options | Why::NoProtocol | Why::UdpFullSocket | Why::NoBufs
+    )
+}
+
+/// Returns whether a packet is dropped for what this stack lacks.
+fn is_lacking(verdict: &Verdict) -> bool {
+    let mut found = false;
+    for finding in verdict.findings {
+        if let Some(finding) = finding {
+            found = found || is_of_stack(finding.why);
+        }
+    }
+    found
+}
+
+/// Returns whether the packet itself is to blame for a drop. It isn't for what this stack lacks, nor for bytes that
+/// came before: it's a copy then.
 fn is_at_fault(verdict: &Verdict) -> bool {
     let mut found = false;
     for finding in verdict.findings {
         if let Some(finding) = finding {
-            found = found || finding.blame == Blame::Packet;
+            let is_copy = matches!(finding.why, Why::FragmentDropped);
+            let is_packet = finding.blame == Blame::Packet;
+            found = found || (is_packet && !is_copy && !is_of_stack(finding.why));
         }
     }
     found
@@ -267,6 +321,8 @@ impl<'a> Play<'a> {
                 None => Refusals::new(alloc),
             },
             card,
+            copies: Copies::new(alloc),
+            lacking: Times::never(),
             counts: Counts {
                 elsewhere: 0,
                 without: 0,
@@ -274,8 +330,51 @@ impl<'a> Play<'a> {
                 link: LinkCounts::new(),
                 kinds: Kinds::new(),
                 fails: false,
+                heard: false,
+                others: 0,
             },
         })
+    }
+
+    /// Notes that a datagram isn't completed. `are_copies`: only copies of its fragments came, so that's no case that
+    /// `--fail-on` names.
+    fn note_unfinished(&mut self, are_copies: bool) {
+        let fails = self.choice.fail_on.unfinished && !are_copies;
+        self.counts.fails = self.counts.fails || fails;
+    }
+
+    /// Prints the judge's text on a datagram that isn't completed, and that only copies came if that is so.
+    fn put_datagram<W: Write>(&self, are_copies: bool, out: &mut W) -> Result<(), End> {
+        let text = self.machine.judge.text();
+        if !are_copies {
+            return put(out, text);
+        }
+        if let Some(rest) = text.strip_prefix(b"    unfinished: ") {
+            put(out, b"    only copies: ")?;
+            return put(out, rest);
+        }
+        match text.strip_suffix(b"}\n") {
+            Some(front) => {
+                put(out, front)?;
+                put(out, b",\"copies\":true}\n")
+            }
+            None => put(out, text),
+        }
+    }
+
+    /// Prints that a fragment came again after its datagram was whole.
+    fn put_copy<W: Write>(&self, number: u64, whole: u64, out: &mut W) -> Result<(), End> {
+        let written = match self.choice.layout {
+            Layout::Lines => writeln!(
+                out,
+                "    a copy: its datagram was whole with record {whole}"
+            ),
+            Layout::Objects => writeln!(out, "{{\"copy\":{number},\"whole\":{whole}}}"),
+        };
+        match written {
+            Ok(()) => Ok(()),
+            Err(_) => Err(End::Unwritten),
+        }
     }
 
     /// Prints the datagrams that were dropped unfinished, if one of their records is selected.
@@ -286,13 +385,14 @@ impl<'a> Play<'a> {
                 Ok(None) => break,
                 Err(_) => return Err(End::Memory),
             }
-            self.counts.fails = self.counts.fails || self.choice.fail_on.unfinished;
+            let are_copies = self.copies.are_copies(self.machine.judge.records());
+            self.note_unfinished(are_copies);
             let mut wanted = false;
             for number in self.machine.judge.records() {
                 wanted = wanted || is_in(self.choice.range, *number);
             }
             if wanted {
-                put(out, self.machine.judge.text())?;
+                self.put_datagram(are_copies, out)?;
             }
         }
         Ok(())
@@ -312,12 +412,15 @@ impl<'a> Play<'a> {
     /// Notes whether a verdict is one that `--fail-on` names.
     fn note(&mut self, verdict: &Verdict) {
         let fail_on = self.choice.fail_on;
-        let is_packet = fail_on.packet
-            && matches!(verdict.outcome, Outcome::Dropped)
-            && is_at_fault(verdict);
-        let is_offload = fail_on.offload
-            && (verdict.filled || matches!(verdict.outcome, Outcome::Offload));
-        self.counts.fails = self.counts.fails || is_packet || is_offload;
+        let is_dropped = matches!(verdict.outcome, Outcome::Dropped);
+        let is_packet = fail_on.packet && is_dropped && is_at_fault(verdict);
+        let is_stack = fail_on.stack && is_dropped && is_lacking(verdict);
+        let is_offload = fail_on.offload && (verdict.filled || is_blamed(verdict, Blame::Card));
+        let is_cut = fail_on.cut && is_blamed(verdict, Blame::Capture);
+        self.counts.fails = self.counts.fails || is_packet || is_stack || is_offload || is_cut;
+        if is_dropped && is_lacking(verdict) {
+            self.lacking.add(verdict.number);
+        }
     }
 
     /// Prints what happened to a packet if it's selected, and the datagrams that were dropped for it. `reported`: a
@@ -329,8 +432,14 @@ impl<'a> Play<'a> {
         out: &mut W,
     ) -> Result<(), End> {
         self.note(verdict);
+        let Ok(earlier) = self.copies.note(verdict) else {
+            return Err(End::Memory);
+        };
         if is_wanted(self.choice, verdict) {
             put(out, self.machine.judge.text())?;
+            if let Some(whole) = earlier {
+                self.put_copy(verdict.number, whole, out)?;
+            }
             if reported && is_unclaimed(verdict) && matches!(self.choice.layout, Layout::Lines) {
                 put(out, REPORTED)?;
             }
@@ -348,7 +457,8 @@ impl<'a> Play<'a> {
     ) -> Result<(), End>
         requires { length arrival.now.packet.now ≤ 65535 }
     {
-        let judged = if self.choice.offload && self.card.fill(arrival.packet) {
+        let is_whole = arrival.original <= arrival.captured;
+        let judged = if self.choice.offload && is_whole && self.card.fill(arrival.packet) {
             self.machine.judge.receive(&Arrival {
                 packet: self.card.packet(),
                 filled: true,
@@ -429,6 +539,11 @@ impl<'a> Play<'a> {
             _ if is_ours => Linked::Packet { reported: false },
             _ => Linked::Elsewhere,
         };
+        if !matches!(linked, Linked::Elsewhere) {
+            self.counts.heard = true;
+        } else if packet.is_some() {
+            self.counts.others = self.counts.others.saturating_add(1);
+        }
         match linked {
             Linked::Elsewhere if self.choice.all => Linked::Packet { reported: false },
             _ => linked,
@@ -467,6 +582,10 @@ impl<'a> Play<'a> {
         self.counts.kinds.add(record, bytes);
         self.pass(time, out)?;
         let linked = self.link_of(record, bytes);
+        let is_ours = !matches!(linked, Linked::Elsewhere);
+        if self.copies.read(record.number, bytes, is_ours).is_err() {
+            return Err(End::Memory);
+        }
         let frame = Frame {
             number: record.number,
             time,
@@ -515,12 +634,16 @@ impl<'a> Play<'a> {
     fn put_unfinished<W: Write>(&mut self, out: &mut W) -> Result<(), End> {
         for i in 0..u32::MAX {
             match self.machine.judge.report_unfinished(i) {
-                Ok(true) => put(out, self.machine.judge.text())?,
+                Ok(true) => {}
                 Ok(false) => break,
                 Err(_) => return Err(End::Memory),
             }
-            self.counts.unfinished = self.counts.unfinished.saturating_add(1);
-            self.counts.fails = self.counts.fails || self.choice.fail_on.unfinished;
+            let are_copies = self.copies.are_copies(self.machine.judge.records());
+            self.note_unfinished(are_copies);
+            self.put_datagram(are_copies, out)?;
+            if !are_copies {
+                self.counts.unfinished = self.counts.unfinished.saturating_add(1);
+            }
         }
         Ok(())
     }
@@ -533,6 +656,42 @@ impl<'a> Play<'a> {
             unfinished: self.counts.unfinished,
         });
         put(out, self.machine.judge.text())
+    }
+
+    /// Prints an object that counts what isn't the packets' fault, if there is such a case.
+    fn put_apart_object<W: Write>(&self, out: &mut W) -> Result<(), End> {
+        let (copies, repeats) = (self.copies.again.count, self.copies.repeats.count);
+        let lacking = self.lacking.count;
+        if copies == 0 && repeats == 0 && lacking == 0 {
+            return Ok(());
+        }
+        let written = writeln!(
+            out,
+            "{{\"apart\":{{\"stack\":{lacking},\"copies\":{copies},\"repeats\":{repeats}}}}}"
+        );
+        match written {
+            Ok(()) => Ok(()),
+            Err(_) => Err(End::Unwritten),
+        }
+    }
+
+    /// Prints lines that count what isn't the packets' fault, if there are such cases.
+    fn put_apart<W: Write>(&self, out: &mut W) -> Result<(), End> {
+        put_times(
+            self.lacking,
+            "of the dropped need what this stack lacks: no fault of the packets",
+            out,
+        )?;
+        put_times(
+            self.copies.again,
+            "of those kept are copies: their datagram was whole before",
+            out,
+        )?;
+        put_times(
+            self.copies.repeats,
+            "repeat the record before: editcap -d removes such copies of a mirror port",
+            out,
+        )
     }
 
     /// Prints what the link of a host on an Ethernet did, if one judges.
@@ -556,11 +715,13 @@ impl<'a> Play<'a> {
         match self.choice.layout {
             Layout::Lines => {
                 self.put_totals(out)?;
+                self.put_apart(out)?;
                 self.put_unfinished(out)?;
                 self.put_link(out)
             }
             Layout::Objects => {
                 self.put_unfinished(out)?;
+                self.put_apart_object(out)?;
                 self.put_link(out)?;
                 self.put_totals(out)
             }

@@ -1,5 +1,6 @@
 //! One script of many machines, played for each seed of a range.
 use crate::hosts::play_uncaptured;
+use crate::messages::Shown;
 use crate::screen::Screen;
 use memchr::memchr;
 use play_script::{Form, Played, Style};
@@ -95,6 +96,7 @@ pub(crate) fn sweep(
             worst = status;
         }
         if progress && seed % STRIDE == 0 {
+            let name = Shown(name);
             eprintln!(rt; "bsdplay: {name}: seed {seed} of {}", seeds.last)?;
         }
         if seed >= seeds.last {

@@ -2,10 +2,10 @@
 use crate::ether::{EtherEnd, mac_of};
 use crate::from_pcap::{BAD, records_in, report, report_fault};
 use crate::link_names::name_of;
-use crate::messages::{fail, fail_on};
+use crate::messages::{Shown, fail, fail_on};
 use crate::options::{WHY_OPTIONS, with_options};
 use crate::records::{Ahead, Counts, End, Machine, Play, find_mac, read_ahead};
-use crate::{UNREAD, USAGE};
+use crate::{NOTHING, UNREAD, USAGE};
 use capture::pcap::Why as ClassicWhy;
 use capture::{Fault, Records, Why};
 use clap::{Arg, ArgAction, ArgMatches, Command};
@@ -13,7 +13,7 @@ use ether_host::{EtherFault, Mac};
 use net_stack::BootFault;
 use play_pcap::{CaptureFault, Range, read_whole};
 use play_script::Silent;
-use play_why::{Judge, Layout, Refusals, broadcast_of};
+use play_why::{Busiest, Judge, Layout, Refusals, broadcast_of};
 use script_loop::{Buffer, Source};
 use std::alloc::{AllocError, Global};
 use std::net::{Ipv4Addr, SocketAddrV4};
@@ -64,8 +64,12 @@ pub(crate) struct Flow {
 pub(crate) struct FailOn {
     /// A packet that was dropped and is to blame itself.
     pub(crate) packet: bool,
+    /// A packet that was dropped because this stack lacks what it needs.
+    pub(crate) stack: bool,
     /// A checksum that was left to the card.
     pub(crate) offload: bool,
+    /// A packet that the capture cut.
+    pub(crate) cut: bool,
     /// A datagram that isn't completed.
     pub(crate) unfinished: bool,
 }
@@ -99,7 +103,9 @@ fn flow_in(word: Option<&str>) -> Result<Option<Flow>, &'static str> {
 fn fail_on_in(word: Option<&str>) -> Result<FailOn, &'static str> {
     let mut fail_on = FailOn {
         packet: false,
+        stack: false,
         offload: false,
+        cut: false,
         unfinished: false,
     };
     let Some(word) = word else {
@@ -113,10 +119,12 @@ fn fail_on_in(word: Option<&str>) -> Result<FailOn, &'static str> {
         };
         match what {
             "packet" => fail_on.packet = true,
+            "stack" => fail_on.stack = true,
             "offload" => fail_on.offload = true,
+            "cut" => fail_on.cut = true,
             "unfinished" => fail_on.unfinished = true,
             _ => return Err(
-                "--fail-on takes packet, offload or unfinished, or several with commas",
+                "--fail-on takes packet, stack, offload, cut or unfinished, or several with commas",
             ),
         }
         match more {
@@ -177,6 +185,7 @@ fn choice_of(found: &ArgMatches<'_>) -> Result<Choice, &'static str> {
 /// Prints what is wrong with a capture, and returns the status.
 fn print_fault(rt: &HostRuntime, name: &str, fault: Fault) -> io::Result<u8> {
     if let Why::Classic(ClassicWhy::BadLinkType(number)) = fault.why {
+        let name = Shown(name);
         let what = name_of(number).unwrap_or("not one that bsdplay knows");
         eprintln!(rt;
             "bsdplay: {name}: {fault}: {what}; docs/captures.md lists the link types that are read"
@@ -213,12 +222,59 @@ fn print_others(rt: &HostRuntime, counts: Counts) -> io::Result<()> {
     Ok(())
 }
 
-/// Plays the records and prints what happened to them, and returns the status.
+/// Prints that no record was for the host, and why not, and returns the status.
+fn print_nothing(
+    rt: &HostRuntime,
+    name: &str,
+    ours: u32,
+    counts: Counts,
+    busiest: Option<Busiest>,
+) -> io::Result<u8> {
+    let (name, address) = (Shown(name), Ipv4Addr::from_bits(ours));
+    match busiest {
+        Some(busiest) if busiest.address != ours => {
+            let other = Ipv4Addr::from_bits(busiest.address);
+            eprintln!(rt;
+                "bsdplay: {name}: no packet is for {address}: {} of {} datagrams go to {other}",
+                busiest.count, busiest.all
+            )?;
+        }
+        _ if counts.others == 0 => {
+            eprintln!(rt; "bsdplay: {name}: no packet is for {address}: no record has IPv4")?;
+        }
+        _ => eprintln!(rt;
+            "bsdplay: {name}: no packet is for {address}: {} for other machines",
+            counts.others
+        )?,
+    }
+    Ok(NOTHING)
+}
+
+/// Returns the status after all records were judged.
+fn status_after(
+    rt: &HostRuntime,
+    name: &str,
+    ours: u32,
+    counts: Counts,
+    busiest: Option<Busiest>,
+) -> io::Result<u8> {
+    if counts.fails {
+        Ok(BAD)
+    } else if counts.heard {
+        Ok(0)
+    } else {
+        print_nothing(rt, name, ours, counts, busiest)
+    }
+}
+
+/// Plays the records and prints what happened to them, and returns the status. `busiest`: the address to which most
+/// datagrams go, if the capture was read ahead.
 fn play_all<S: Source>(
     rt: &HostRuntime,
     name: &str,
     records: &mut Records<S>,
     play: &mut Play<'_>,
+    busiest: Option<Busiest>,
 ) -> io::Result<u8> {
     let mut out = rt.stdout();
     let played = play.play_records(records, &mut out);
@@ -231,7 +287,7 @@ fn play_all<S: Source>(
             if matches!(play.choice.layout, Layout::Lines) {
                 print_others(rt, play.counts)?;
             }
-            Ok(if play.counts.fails { BAD } else { 0 })
+            status_after(rt, name, play.ours, play.counts, busiest)
         }
         Err(end) => print_end(rt, name, end),
     }
@@ -330,6 +386,7 @@ fn judge_records<S: Source>(
         ours,
         mac,
         refusals,
+        busiest,
     } = host;
     if print_judge(rt, choice).is_err() {
         return print_end(rt, name, End::Unwritten);
@@ -339,7 +396,7 @@ fn judge_records<S: Source>(
         Err(status) => return Ok(status),
     };
     let status = match Play::over(rt.alloc(), choice, ours, &mut machine, refusals) {
-        Ok(mut play) => play_all(rt, name, records, &mut play),
+        Ok(mut play) => play_all(rt, name, records, &mut play, busiest),
         Err(_) => print_end(rt, name, End::Memory),
     };
     machine.end();
@@ -354,6 +411,8 @@ struct Host {
     mac: Option<Mac>,
     /// The refusals in the capture, if it was read ahead.
     refusals: Option<Refusals>,
+    /// The address to which most datagrams go, if it was read ahead and one of them goes to a host.
+    busiest: Option<Busiest>,
 }
 
 /// Prints that no packet is judged, since no datagram goes to a host, and returns the status.
@@ -377,7 +436,7 @@ fn print_kinds(
             )?;
         }
     }
-    Ok(0)
+    Ok(NOTHING)
 }
 
 /// Reads a capture ahead. Without an address in `choice`, chooses the one to which most datagrams go, and prints it.
@@ -391,14 +450,16 @@ fn look_ahead<S: Source>(
     let Ok((ahead, fault)) = read_ahead(rt.alloc(), records) else {
         return Ok(Err(print_end(rt, name, End::Memory)?));
     };
+    let busiest = ahead.busiest();
     if let Some(ours) = choice.address {
         return Ok(Ok(Host {
             ours,
             mac: choice.mac,
             refusals: Some(ahead.into_refusals()),
+            busiest,
         }));
     }
-    let Some(busiest) = ahead.busiest() else {
+    let Some(busiest) = busiest else {
         return Ok(Err(print_kinds(rt, name, &ahead, fault, choice.layout)?));
     };
     let address = Ipv4Addr::from_bits(busiest.address);
@@ -412,6 +473,7 @@ fn look_ahead<S: Source>(
         ours: busiest.address,
         mac: choice.mac,
         refusals: Some(ahead.into_refusals()),
+        busiest: Some(busiest),
     }))
 }
 
@@ -458,7 +520,7 @@ fn mac_for<S: Source + Drop>(
     let mac = find_mac(&mut records, ours);
     let (_source, _room) = records.end();
     if mac.is_none() {
-        let address = Ipv4Addr::from_bits(ours);
+        let (name, address) = (Shown(name), Ipv4Addr::from_bits(ours));
         eprintln!(rt;
             "bsdplay: {name}: no frame of an Ethernet is from {address} or for it: --mac names its hardware address"
         )?;
@@ -502,6 +564,7 @@ fn judge_input(rt: &HostRuntime, choice: Choice) -> io::Result<u8> {
             ours,
             mac: choice.mac,
             refusals: None,
+            busiest: None,
         };
         return judge_source(rt, name, Silent(rt.stdin()), choice, host);
     }

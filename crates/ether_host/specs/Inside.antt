@@ -19,6 +19,6 @@ link_seen l = record {
   firsts = l.firsts.items;
   errors = l.errors.items;
   claim = l.claim;
-  unreachables = l.unreachables;
+  errors_left = l.errors_left;
   tallies = l.tallies;
 }

@@ -1,6 +1,7 @@
 pub mod Buffers
 pub mod Fronts
 pub mod Answers
+pub mod Expired
 pub mod Replies
 pub mod Inside
 pub mod View

@@ -1,7 +1,7 @@
 //! ICMP replies (`icmp_reflect` and `icmp_error` of volume 2, chapter 11).
 ghost use Rattle.std.specs.Prelude.{◌≡◌, ◌≤◌, ◌∷◌, length, true};
-ghost use Rattle.params.specs.declared.TheConstants.{IP_HEADER};
-ghost use Rattle.flat_ether.specs.Icmp.{answer_to, carried_in, echo_reply, error_for, is_answerable, is_echo, is_no_protocol, is_single, unreachable_reply};
+ghost use Rattle.params.specs.declared.TheConstants.{IP_HEADER, IP_UDP_HEADERS};
+ghost use Rattle.flat_ether.specs.Icmp.{answer_to, carried_in, echo_reply, error_for, error_reply, expired_error, is_answerable, is_echo, is_no_protocol, is_single};
 ghost use Rattle.flat_model.specs.Packets.Checksum.{checksum};
 ghost use Rattle.flat_model.specs.Packets.Header.{two_bytes};
 ghost use Rattle.ether_host.specs.Answers.{CanAnswer};
@@ -11,8 +11,8 @@ use crate::buffer::ROOM;
 use crate::bytes::put_bytes;
 use crate::reply::Reply;
 use flat_ether::{
-    Answer, ECHO_REPLY, ECHO_REQUEST, ICMP_HEADER, PROTOCOL_ICMP, UNREACHABLE, UNREACHABLE_PORT,
-    UNREACHABLE_PROTOCOL,
+    Answer, ECHO_REPLY, ECHO_REQUEST, ICMP_HEADER, PROTOCOL_ICMP, REASSEMBLY_EXCEEDED,
+    TIME_EXCEEDED, UNREACHABLE, UNREACHABLE_PORT, UNREACHABLE_PROTOCOL,
 };
 use flat_model::{Config, Why};
 use in_cksum::{Sum, sum_slice};
@@ -78,16 +78,29 @@ pub(crate) fn error_for(came: &[u8], why: Why) -> Answer
     ensures can { CanAnswer result came.now }
 {
     match why {
-        Why::UdpNoPort => Answer::Unreachable(UNREACHABLE_PORT),
+        Why::UdpNoPort => Answer::Error(UNREACHABLE, UNREACHABLE_PORT),
         Why::NoProtocol => {
             if came[9] == PROTOCOL_ICMP {
                 Answer::Silence
             } else {
-                Answer::Unreachable(UNREACHABLE_PROTOCOL)
+                Answer::Error(UNREACHABLE, UNREACHABLE_PROTOCOL)
             }
         }
         _ => Answer::Silence,
     }
+}
+
+/// The error for a datagram that expired, by what is quoted of its first fragment; none for an ICMP message that isn't
+/// an echo request (RFC 1122, section 3.2.2).
+pub(crate) fn expired_error(quote: &[u8]) -> Answer
+    requires { IP_UDP_HEADERS ≤ length quote.now }
+    ensures is { result ≡ expired_error quote.now }
+    ensures can { CanAnswer result quote.now }
+{
+    if quote[9] == PROTOCOL_ICMP && quote[HEADER] != ECHO_REQUEST {
+        return Answer::Silence;
+    }
+    Answer::Error(TIME_EXCEEDED, REASSEMBLY_EXCEEDED)
 }
 
 /// The reply to a whole packet that was dropped.
@@ -126,15 +139,22 @@ pub(crate) fn echo_reply(reply: &mut Reply, config: &Config, id: u16, came: &[u8
     reply.put(config, id, came, message_head(ECHO_REPLY, 0, rest), rest);
 }
 
-/// "Destination unreachable" with a code to the sender of a packet, with an identification.
-pub(crate) fn unreachable_reply(reply: &mut Reply, config: &Config, id: u16, code: u8, came: &[u8])
+/// An error to the sender of a packet, with an identification.
+pub(crate) fn error_reply(
+    reply: &mut Reply,
+    config: &Config,
+    id: u16,
+    kind: u8,
+    code: u8,
+    came: &[u8],
+)
     requires { IP_HEADER ≤ length came.now }
-    ensures { packets_left reply.new ≡ unreachable_reply config.now id code came.now }
+    ensures { packets_left reply.new ≡ error_reply config.now id kind code came.now }
 {
     let quoted = came.len().min(IP_UDP_HEADERS as usize);
     let mut rest = [0; 32];
     put_bytes(&mut rest, 4, &came[..quoted]);
     let rest = &rest[..4 + quoted];
-    let front = message_head(UNREACHABLE, code, rest);
+    let front = message_head(kind, code, rest);
     reply.put(config, id, came, front, rest);
 }

@@ -4,14 +4,15 @@ ghost use Rattle.params.specs.declared.TheConstants.{IP_HEADER};
 ghost use Rattle.flat_ether.specs.Frames.{arp_of};
 ghost use Rattle.flat_ether.specs.Icmp.{carried_in, is_echo};
 ghost use Rattle.ether_host.specs.Answers.{CanAnswer};
-ghost use Rattle.flat_ether.specs.Links.{answers_by, answers_dropped, answers_fate, answers_now, answers_with, asks, counts_conflict, counts_icmp_dropped, receives_arp, ignores, is_busy, is_conflict, learns, makes_way, puts_echo, puts_unreachable, queues_reply, is_sound_arp, refuses, reports_unreachable};
+ghost use Rattle.flat_ether.specs.Links.{answers_by, answers_dropped, answers_fate, answers_now, answers_with, asks, counts_conflict, counts_error, counts_icmp_dropped, receives_arp, ignores, is_busy, is_conflict, learns, makes_way, puts_echo, puts_error, queues_reply, is_sound_arp, refuses, reports_error};
 
-use crate::answer::{answer_to, echo_reply, is_no_protocol, unreachable_reply};
+use crate::answer::{answer_to, echo_reply, error_reply, is_no_protocol};
 use crate::frames::read_arp;
 use crate::layer::LinkLayer;
 use crate::table::{mac_of, place_of, put};
 use flat_ether::{
     ARP_KEEP_TICKS, ARP_REQUEST, Answer, Arp, Neighbour, PENDING_REPLIES, PendingReply, Route,
+    TIME_EXCEEDED,
 };
 use flat_model::{Fate, Why};
 use ip_out::u32_at;
@@ -136,7 +137,7 @@ impl LinkLayer {
     /// A reply that waits for a hardware address makes way for a newer one.
     fn make_way(&mut self)
         ensures is { link_seen self.new ≡ makes_way (link_seen self.old) }
-        ensures unreachables { self.new.unreachables ≡ self.old.unreachables }
+        ensures left { self.new.errors_left ≡ self.old.errors_left }
     {
         if self.answer.waits() {
             self.count_icmp_dropped();
@@ -166,29 +167,47 @@ impl LinkLayer {
         self.tallies.echoes = self.tallies.echoes.saturating_add(1);
     }
 
-    /// A "destination unreachable" by way of a next hop takes the place for replies.
-    fn put_unreachable(&mut self, hop: u32, code: u8, came: &[u8])
-        requires long { IP_HEADER ≤ length came.now }
-        requires some { 0 < self.old.unreachables }
-        ensures { link_seen self.new ≡ puts_unreachable hop code came.now (link_seen self.old) }
+    /// Counts an error of this type.
+    fn count_error(&mut self, kind: u8)
+        ensures { link_seen self.new ≡ counts_error kind (link_seen self.old) }
     {
-        unreachable_reply(&mut self.answer, &self.config, self.answer_id, code, came);
-        self.unreachables -= 1;
-        self.ask_for_answer(hop);
-        self.tallies.unreachable = self.tallies.unreachable.saturating_add(1);
+        if kind == TIME_EXCEEDED {
+            self.tallies.expired = self.tallies.expired.saturating_add(1);
+        } else {
+            self.tallies.unreachable = self.tallies.unreachable.saturating_add(1);
+        }
     }
 
-    /// A "destination unreachable" by way of a next hop takes the place for replies, if the limit isn't reached.
-    fn report_unreachable(&mut self, hop: u32, code: u8, came: &[u8])
-        requires { IP_HEADER ≤ length came.now }
-        ensures { link_seen self.new ≡ reports_unreachable hop code came.now (link_seen self.old) }
+    /// An error by way of a next hop takes the place for replies.
+    fn put_error(&mut self, hop: u32, kind: u8, code: u8, came: &[u8])
+        requires long { IP_HEADER ≤ length came.now }
+        requires some { 0 < self.old.errors_left }
+        ensures { link_seen self.new ≡ puts_error hop kind code came.now (link_seen self.old) }
     {
-        if self.unreachables == 0 {
+        error_reply(
+            &mut self.answer,
+            &self.config,
+            self.answer_id,
+            kind,
+            code,
+            came,
+        );
+        self.errors_left -= 1;
+        self.ask_for_answer(hop);
+        self.count_error(kind);
+    }
+
+    /// An error by way of a next hop takes the place for replies, if the limit isn't reached.
+    fn report_error(&mut self, hop: u32, kind: u8, code: u8, came: &[u8])
+        requires { IP_HEADER ≤ length came.now }
+        ensures { link_seen self.new ≡ reports_error hop kind code came.now (link_seen self.old) }
+    {
+        if self.errors_left == 0 {
             self.tallies.limited = self.tallies.limited.saturating_add(1);
             return;
         }
         self.make_way();
-        self.put_unreachable(hop, code, came);
+        self.put_error(hop, kind, code, came);
     }
 
     /// A reply by way of a next hop takes the place for replies.
@@ -201,7 +220,7 @@ impl LinkLayer {
                 self.make_way();
                 self.put_echo(hop, came);
             }
-            Answer::Unreachable(code) => self.report_unreachable(hop, code, came),
+            Answer::Error(kind, code) => self.report_error(hop, kind, code, came),
             Answer::Silence => {}
         }
     }
@@ -230,7 +249,7 @@ impl LinkLayer {
     {
         match answer {
             Answer::Echo => self.answer_now(Answer::Echo, came),
-            Answer::Unreachable(code) => self.answer_now(Answer::Unreachable(code), came),
+            Answer::Error(kind, code) => self.answer_now(Answer::Error(kind, code), came),
             Answer::Silence => {}
         }
     }

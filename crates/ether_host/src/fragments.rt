@@ -1,18 +1,20 @@
 //! The first fragments of datagrams, which ICMP errors quote (RFC 1122, section 3.2.2).
-ghost use Rattle.std.specs.Prelude.{◌≡◌, ◌≤◌, ◌∷◌, Err, length, position, take, true};
+ghost use Rattle.std.specs.Prelude.{◌≡◌, ◌≤◌, ◌∷◌, [], Err, length, position, take, true};
 ghost use Rattle.params.specs.declared.TheConstants.{IP_HEADER, IP_UDP_HEADERS};
 ghost use Rattle.flat_model.specs.Machine.Arrival.{key_of};
 ghost use Rattle.flat_model.specs.Packets.Header.{head_of};
 ghost use Rattle.flat_ether.specs.Icmp.{is_first, is_quote_of, quote_of};
-ghost use Rattle.flat_ether.specs.Links.{answers_whole, keeps_first, quote_for, quote_with};
+ghost use Rattle.flat_ether.specs.Links.{answers_expired, answers_whole, keeps_first, quote_for, quote_with, reports_expired};
 ghost use Rattle.flat_ether.specs.declared.sizes.TheConstants.{FIRST_FRAGMENTS};
+ghost use Rattle.ether_host.specs.Expired.{told_keys};
 
-use crate::answer::{HEADER, error_for, is_answerable};
+use crate::answer::{HEADER, error_for, expired_error, is_answerable};
 use crate::layer::LinkLayer;
 use arrayvec::ArrayVec;
 use flat_ether::FIRST_FRAGMENTS;
 use flat_model::{Config, FragmentKey, Why};
 use ip_out::{u16_at, u32_at};
+use net_stack::Expired;
 use params::IP_UDP_HEADERS;
 
 /// How many bytes an error quotes of a packet: its header, and 8 bytes.
@@ -118,6 +120,38 @@ impl LinkLayer {
     {
         if let Some(quote) = self.quote_for(came) {
             self.answer_with(error_for(&quote, why), &quote);
+        }
+    }
+
+    /// A datagram with this key expired: its source may get an error that quotes the first fragment.
+    fn answer_expired(&mut self, key: FragmentKey)
+        ensures { link_seen self.new
+            ≡ answers_expired (quote_with key (link_seen self.old).firsts) (link_seen self.old) }
+    {
+        if let Some(quote) = quote_with(self.firsts.as_slice(), key) {
+            self.answer_with(expired_error(&quote), &quote);
+        }
+    }
+
+    /// A datagram expired. If its first fragment has arrived, its source may get an error.
+    fn report_one(&mut self, expired: Expired)
+        ensures { link_seen self.new ≡ reports_expired (told_keys (expired ∷ [])) (link_seen self.old) }
+    {
+        if expired.has_first {
+            self.answer_expired(expired.key);
+        }
+    }
+
+    /// These datagrams expired.
+    // Not inlined, so that each stack frame stays below a kilobyte.
+    #[inline(never)]
+    pub(crate) fn report_expired(&mut self, expired: &[Expired])
+        ensures { link_seen self.new ≡ reports_expired (told_keys expired.now) (link_seen self.old) }
+    {
+        let mut rest = expired;
+        while let [first, later @ ..] = rest {
+            self.report_one(*first);
+            rest = later;
         }
     }
 }

@@ -98,8 +98,7 @@ impl EtherHost {
     pub fn tick(&mut self)
         ensures { Ticks (host_of (host_view self.old)) (host_of (host_view self.new)) }
     {
-        self.stack.tick();
-        self.layer.tick();
+        self.layer.tick(&mut self.stack);
     }
 
     /// The state of the host's claim to its address: it probes for it, uses it, or another host has it. In conflict it

@@ -7,8 +7,8 @@ use crate::fragments::QUOTE;
 use crate::reply::Reply;
 use arrayvec::ArrayVec;
 use flat_ether::{
-    Claim, FIRST_FRAGMENTS, HELD_PACKETS, Link, NEIGHBOURS, Neighbour, PENDING_REPLIES,
-    PendingReply, SOCKET_ERRORS, SocketError, Tallies, UNREACHABLES,
+    Claim, ERRORS_A_TICK, FIRST_FRAGMENTS, HELD_PACKETS, Link, NEIGHBOURS, Neighbour,
+    PENDING_REPLIES, PendingReply, SOCKET_ERRORS, SocketError, Tallies,
 };
 use flat_model::Config;
 use std::alloc::{AllocError, Global};
@@ -27,7 +27,7 @@ pub struct LinkLayer {
     pub(crate) firsts: ArrayVec<[u8; QUOTE], FIRST_FRAGMENTS>,
     pub(crate) errors: ArrayVec<SocketError, SOCKET_ERRORS>,
     pub(crate) claim: Claim,
-    pub(crate) unreachables: u8,
+    pub(crate) errors_left: u8,
     pub(crate) tallies: Tallies,
     ghost places: { HELD_PACKETS ≤ vec_capacity held },
 }
@@ -54,7 +54,7 @@ impl LinkLayer {
             firsts: ArrayVec::new(),
             errors: ArrayVec::new(),
             claim: Claim::new(link.probe),
-            unreachables: UNREACHABLES,
+            errors_left: ERRORS_A_TICK,
             tallies: Tallies::default(),
         })
     }

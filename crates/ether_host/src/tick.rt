@@ -1,13 +1,28 @@
 //! The clock.
 ghost use Rattle.std.specs.Prelude.{◌≡◌, ◌≤◌, filter, length, map, vec_capacity};
-ghost use Rattle.flat_ether.specs.Links.{ages, keeps_answer, neighbour_aged, neighbour_stays, ticks};
+ghost use Rattle.flat_ether.specs.Hosts.{Ticks};
+ghost use Rattle.flat_ether.specs.Links.{ages, keeps_answer, neighbour_aged, neighbour_stays};
 ghost use Rattle.ether_host.specs.Buffers.{is_resolvable_in};
+ghost use Rattle.ether_host.specs.View.{halves};
 
 use crate::buffer::{PacketBuffer, drop_at};
 use crate::layer::LinkLayer;
 use crate::table::place_of;
 use arrayvec::ArrayVec;
-use flat_ether::{ARP_TRIES, NEIGHBOURS, Neighbour, UNREACHABLES};
+use flat_ether::{ARP_TRIES, ERRORS_A_TICK, EXPIRED_DATAGRAMS, NEIGHBOURS, Neighbour};
+use flat_model::FragmentKey;
+use net_stack::{Expired, Stack};
+
+/// A place for a datagram that expires.
+const NONE_EXPIRED: Expired = Expired {
+    key: FragmentKey {
+        source: 0,
+        destination: 0,
+        id: 0,
+        protocol: 0,
+    },
+    has_first: false,
+};
 
 /// A neighbour a tick later.
 fn aged(neighbour: Neighbour) -> Neighbour
@@ -62,7 +77,7 @@ impl LinkLayer {
         ensures { link_seen self.new ≡ ages (link_seen self.old) }
     {
         self.claim = self.claim.ticked();
-        self.unreachables = UNREACHABLES;
+        self.errors_left = ERRORS_A_TICK;
         self.neighbours = age(self.neighbours.as_slice());
         let before = self.held.len();
         keep(&mut self.held, self.neighbours.as_slice());
@@ -80,12 +95,16 @@ impl LinkLayer {
         }
     }
 
-    /// A tick: entries that expired are removed, and what waited for them is dropped (`arptimer` of volume 2, chapter
-    /// 21).
-    pub fn tick(&mut self)
-        ensures { link_seen self.new ≡ ticks (link_seen self.old) }
+    /// A tick of the stack and of its link. Neighbours that expired are removed, and what waited for them is dropped
+    /// (`arptimer` of volume 2, chapter 21). An unfinished datagram that the stack drops may get an error, if its first
+    /// fragment has arrived (RFC 792, "Time Exceeded"; RFC 1122, section 3.3.2).
+    pub fn tick(&mut self, stack: &mut Stack)
+        ensures { Ticks (halves stack.old (link_seen self.old)) (halves stack.new (link_seen self.new)) }
     {
+        let mut expired = [NONE_EXPIRED; EXPIRED_DATAGRAMS];
+        let count = stack.tick_told(&mut expired);
         self.remove_expired();
         self.keep_answer();
+        self.report_expired(&expired[..count.min(EXPIRED_DATAGRAMS)]);
     }
 }

@@ -7,7 +7,7 @@ use Rattle.std.proofs.lemmas.List.Elements.{All-from_recursion}
 use Rattle.flat_model.specs.Amounts.Weight.{Item}
 use Rattle.flat_model.specs.Machine.Count.{more_by}
 use Rattle.flat_model.specs.Packets.Header.{head_of, u16_at}
-use Rattle.flat_model.specs.Machine.State.{IsConfig, Socket, socket_at}
+use Rattle.flat_model.specs.Machine.State.{IsConfig, Key, Socket, socket_at}
 use Rattle.flat_model.specs.declared.address.Addr.{Addr}
 use Rattle.flat_model.specs.declared.config.Config.{Config}
 use Rattle.flat_model.specs.declared.counters.Why.{Why}
@@ -17,13 +17,13 @@ use Rattle.flat_model.specs.declared.errno.Errno.{Errno}
 use Rattle.flat_ether.specs.Claims.{claim_due, is_claimed}
 use Rattle.flat_ether.specs.Errors.{error_at, error_in}
 use Rattle.flat_ether.specs.Frames.{arp_of, body_of, is_addressed, is_martian, kind_of, packet_kind}
-use Rattle.flat_ether.specs.Hosts.{HostAct, AreHostActs, Asks_error, Ages, Calls, Clock, Comes_in, Drained, Goes_out, ReceivesKind, Host, IsHostAct, drained, error_of_socket, gives, gives_claimed, gives_drained, gives_probe, host_up, is_to_us, or_drains}
-use Rattle.flat_ether.specs.Icmp.{answer_to, echo_reply, error_for, is_first, is_no_protocol, unreachable_reply}
-use Rattle.flat_ether.specs.Laws.{martian_if, martian_in, martians_in, packet_if, packets_in}
-use Rattle.flat_ether.specs.Links.{Gives, WaitingPacket, LinkState, ages, answers_by, answers_fate, answers_first, answers_now, answers_on, answers_with, asks, asks_at, by_route, claim_frame, drops_first, counts_conflict, first_ready, gives_answer, gives_claim, gives_held, gives_own, gives_reply, gives_request, receives_arp, holds_packet, is_answering, is_asked, is_busy, is_conflict, is_request_due, is_learned, is_sound_arp, learns, limits, mac_of, makes_way, puts_answer, puts_unreachable, quote_for, adds_error_if, adds_error, or_then, queues_reply, neighbour_place, replies_to, route_of, sends, sends_answer, sends_at, sends_held, takes_at, takes_error, ticks, to_hop}
+use Rattle.flat_ether.specs.Hosts.{HostAct, AreHostActs, Asks_error, Calls, Clock, Comes_in, Drained, Goes_out, ReceivesKind, Host, IsHostAct, drained, error_of_socket, expired_keys, gives, gives_claimed, gives_drained, gives_probe, host_up, is_to_us, or_drains}
+use Rattle.flat_ether.specs.Icmp.{answer_to, echo_reply, error_for, error_reply, expired_error, is_first, is_no_protocol}
+use Rattle.flat_ether.specs.Laws.{answered, martian_if, martian_in, martians_in, packet_if, packets_in}
+use Rattle.flat_ether.specs.Links.{Gives, WaitingPacket, LinkState, ages, answers_by, answers_expired, answers_fate, answers_first, answers_now, answers_on, answers_with, asks, asks_at, by_route, claim_frame, drops_first, counts_conflict, counts_expired, counts_unreachable, first_ready, gives_answer, gives_claim, gives_held, gives_own, gives_reply, gives_request, receives_arp, holds_packet, is_answering, is_asked, is_busy, is_conflict, is_request_due, is_learned, is_sound_arp, keeps_answer, learns, limits, mac_of, makes_way, puts_answer, puts_error, quote_for, quote_with, adds_error_if, adds_error, or_then, queues_reply, neighbour_place, replies_to, reports_expired, route_of, sends, sends_answer, sends_at, sends_held, takes_at, takes_error, to_hop}
 use Rattle.flat_ether.specs.Routes.{route}
 use Rattle.flat_ether.specs.declared.answer.Answer.{Answer}
-use Rattle.flat_ether.specs.declared.answer.Answer.TheVariants.{Echo, Unreachable, Silence}
+use Rattle.flat_ether.specs.declared.answer.Answer.TheVariants.{Echo, Error, Silence}
 use Rattle.flat_ether.specs.declared.arp.Arp.{Arp}
 use Rattle.flat_ether.specs.declared.claim.ClaimFrame.{ClaimFrame}
 use Rattle.flat_ether.specs.declared.claim.ClaimFrame.TheVariants.{Probe, Announcement, Nothing}
@@ -39,28 +39,39 @@ use Rattle.flat_ether.specs.declared.neighbour.PendingReply.{PendingReply}
 use Rattle.flat_ether.specs.declared.sizes.TheConstants.{ETHER_MTU, ETHER_TYPE_ARP, ETHER_TYPE_IP, HELD_PACKETS, PENDING_REPLIES}
 
 -- the configuration and the link, by which a frame is classified; the number of martians; the identification of the
--- next reply, and the numbers of both kinds of replies
+-- next reply, and the numbers of the three kinds of replies
 abbrev Tally : Type 0
-Tally = Config × Link × ℕ × ℕ × ℕ × ℕ
+Tally = Config × Link × ℕ × ℕ × ℕ × ℕ × ℕ
 
 abbrev tally : LinkState → Tally
-tally s = (s.config, s.link, s.tallies.martians, s.answer_id, s.tallies.echoes, s.tallies.unreachable)
+tally s = (
+  s.config,
+  s.link,
+  s.tallies.martians,
+  s.answer_id,
+  s.tallies.echoes,
+  s.tallies.unreachable,
+  s.tallies.expired,
+)
 
 abbrev next_id : ℕ → ℕ
 next_id id = (id + 1) % 65536
 
--- an echo reply more, and a "port unreachable" more
+-- an echo reply more, a "destination unreachable" more, and a "time exceeded" more
 abbrev echoed : Tally → Tally
-echoed x = (x.0, x.1, x.2, next_id x.3, more_by 1 x.4, x.5)
+echoed x = (x.0, x.1, x.2, next_id x.3, more_by 1 x.4, x.5, x.6)
 
 abbrev reported : Tally → Tally
-reported x = (x.0, x.1, x.2, next_id x.3, x.4, more_by 1 x.5)
+reported x = (x.0, x.1, x.2, next_id x.3, x.4, more_by 1 x.5, x.6)
+
+abbrev expired : Tally → Tally
+expired x = (x.0, x.1, x.2, next_id x.3, x.4, x.5, more_by 1 x.6)
 
 abbrev with_next : Tally → Tally
-with_next x = (x.0, x.1, x.2, next_id x.3, x.4, x.5)
+with_next x = (x.0, x.1, x.2, next_id x.3, x.4, x.5, x.6)
 
 abbrev IsNext : Tally → Tally → Type 0
-IsNext x y = (y ≡ x) ⊎ (y ≡ echoed x) ⊎ (y ≡ reported x)
+IsNext x y = (y ≡ x) ⊎ (y ≡ echoed x) ⊎ (y ≡ reported x) ⊎ (y ≡ expired x)
 
 next_cond : (b : Bool) (s t u : LinkState) → IsNext (tally s) (tally t) → IsNext (tally s) (tally u)
     → IsNext (tally s) (tally (cond b t u))
@@ -99,14 +110,26 @@ by_next : (hop : ℕ) (a : Answer) (came : List ℕ) (s : LinkState)
 by_next hop Silence came s = inl refl
 by_next hop Echo came s =
     let t : LinkState = makes_way s in
-    inr (inl (ap (λ (x : Tally). (x.0, x.1, x.2, x.3, more_by 1 x.4, x.5))
+    inr (inl (ap (λ (x : Tally). (x.0, x.1, x.2, x.3, more_by 1 x.4, x.5, x.6))
     (puts_next hop (echo_reply t.config t.answer_id came) t) ∙ ap echoed (way_same s)))
-by_next hop (Unreachable code) came s =
-    let t : LinkState = makes_way s in
-    next_cond (nat_lt 0 s.unreachables) s (puts_unreachable hop code came t) (limits s)
-    (inr (inr (ap (λ (x : Tally). (x.0, x.1, x.2, x.3, x.4, more_by 1 x.5))
-    (puts_next hop (unreachable_reply t.config t.answer_id code came)
-    (record t { unreachables = t.unreachables - 1 })) ∙ ap reported (way_same s)))) (inl refl)
+by_next hop (Error kind code) came s =
+    next_cond (nat_lt 0 s.errors_left) s (puts_error hop kind code came t) (limits s)
+    (next_cond (kind == 11) s (counts_expired put) (counts_unreachable put)
+    (inr (inr (inr (ap (λ (x : Tally). (x.0, x.1, x.2, x.3, x.4, x.5, more_by 1 x.6)) same))))
+    (inr (inr (inl (ap (λ (x : Tally). (x.0, x.1, x.2, x.3, x.4, more_by 1 x.5, x.6)) same))))) (inl refl)
+  where
+    t : LinkState
+    t = makes_way s
+
+    put : LinkState
+    put =
+        puts_answer hop (error_reply t.config t.answer_id kind code came)
+        (record t { errors_left = t.errors_left - 1 })
+
+    same : tally put ≡ with_next (tally s)
+    same =
+        puts_next hop (error_reply t.config t.answer_id kind code came)
+        (record t { errors_left = t.errors_left - 1 }) ∙ ap with_next (way_same s)
 
 now_next : (a : Answer) (came : List ℕ) (s : LinkState) → IsNext (tally s) (tally (answers_now a came s))
 now_next a came s =
@@ -120,7 +143,7 @@ now_next a came s =
 answers_next : (a : Answer) (came : List ℕ) (s : LinkState) → IsNext (tally s) (tally (answers_with a came s))
 answers_next Silence came s = inl refl
 answers_next Echo came s = now_next Echo came s
-answers_next (Unreachable code) came s = now_next (Unreachable code) came s
+answers_next (Error kind code) came s = now_next (Error kind code) came s
 
 adds_error_if_same : (b : Bool) (came : List ℕ) (s : LinkState) → tally (adds_error_if b came s) ≡ tally s
 adds_error_if_same b came s = by_cond b s _ _ (go (error_in s.config came)) refl
@@ -241,10 +264,14 @@ gives_same h =
 
 -- ---- the clock
 
-ticks_same : (s : LinkState) → tally (ticks s) ≡ tally s
-ticks_same s =
+kept_same : (s : LinkState) → tally (keeps_answer (ages s)) ≡ tally s
+kept_same s =
     by_cond (is_answering (ages s) && not (is_some (neighbour_place s.answer_hop (ages s).neighbours))) s _ (ages s)
     refl refl
+
+expired_next : (quote : Option (List ℕ)) (s : LinkState) → IsNext (tally s) (tally (answers_expired quote s))
+expired_next None s = inl refl
+expired_next (Some quote) s = answers_next (expired_error quote) quote s
 
 -- ---- a query for an error
 
@@ -276,8 +303,8 @@ module _ (c : Config) (l : Link) where
     replies : ℕ
     id : x.3 % 65536 ≡ (c.first_id + replies) % 65536
     small : c.first_id < 65536 → x.3 < 65536
-    least : min replies 65536 ≤ x.4 + x.5
-    most : x.4 + x.5 ≤ replies
+    least : min replies 65536 ≤ x.4 + x.5 + x.6
+    most : x.4 + x.5 + x.6 ≤ replies
 
   abbrev Counts : ℕ → Host → Type 0
   Counts k h = Counted k (tally h.link)
@@ -299,7 +326,7 @@ module _ (c : Config) (l : Link) where
     least = omega (arith, is.least);
     most = omega (arith, is.most);
   })
-  next_counts k x y is (inr (inr e)) = subst (Counted k) (sym e) (record {
+  next_counts k x y is (inr (inr (inl e))) = subst (Counted k) (sym e) (record {
     config = is.config;
     link = is.link;
     martians = is.martians;
@@ -309,6 +336,23 @@ module _ (c : Config) (l : Link) where
     least = omega (arith, is.least);
     most = omega (arith, is.most);
   })
+  next_counts k x y is (inr (inr (inr e))) = subst (Counted k) (sym e) (record {
+    config = is.config;
+    link = is.link;
+    martians = is.martians;
+    replies = is.replies + 1;
+    id = omega (arith, is.id);
+    small = λ f. omega (arith);
+    least = omega (arith, is.least);
+    most = omega (arith, is.most);
+  })
+
+  expired_counts : (k : ℕ) (ks : List Key) (s : LinkState) → Counted k (tally s)
+      → Counted k (tally (reports_expired ks s))
+  expired_counts k [] s is = is
+  expired_counts k (key ∷ ks) s is =
+      expired_counts k ks (answers_expired (quote_with key s.firsts) s)
+      (next_counts k (tally s) _ is (expired_next (quote_with key s.firsts) s))
 
   first_next : (quote : Option (List ℕ)) (why : Why) (s : LinkState)
       → IsNext (tally s) (tally (answers_first quote why s))
@@ -367,13 +411,15 @@ module _ (c : Config) (l : Link) where
   act_counts k old new (Goes_out f) is h =
       same_counts k old new is (subst (λ (x : Option (List ℕ) × Host). tally x.1.link ≡ tally old.link) (sym h)
       (gives_same old))
-  act_counts k old new Clock is h = same_counts k old new is (ap tally h.link ∙ ticks_same old.link)
+  act_counts k old new Clock is h =
+      subst (λ (n : ℕ). Counted n (tally new.link)) (omega (arith))
+      (subst (λ (s : LinkState). Counted k (tally s)) (sym h.link)
+      (expired_counts k (expired_keys old.machine) (keeps_answer (ages old.link))
+      (subst (Counted k) (sym (kept_same old.link)) is)))
   act_counts k old new (Calls turn) is h = same_counts k old new is (ap tally h.link)
   act_counts k old new (Asks_error fd fault) is h =
       same_counts k old new is (subst (λ (x : Result (Option NetFault) Errno × Host). tally x.1.link ≡ tally old.link)
       (sym h) (asked_same (socket_at fd old.machine) old))
-  act_counts k old new Ages is h =
-      same_counts k old new is (ap (λ (x : Host). tally x.link) h ∙ ticks_same old.link)
 
   acts_count : (k : ℕ) (old new : Host) (acts : List HostAct) → Counts k old → AreHostActs old acts new
       → Counts (k + martians_in c l.mac acts) new
@@ -404,11 +450,11 @@ module _ (c : Config) (l : Link) where
       (counted acts new done).martians ∙ ap (λ (n : ℕ). more_by n 0) (omega (arith))
 
   pub numbered_next : (acts : List HostAct) (new : Host) → IsConfig c → AreHostActs (host_up c l) acts new
-      → new.link.tallies.echoes + new.link.tallies.unreachable < 2 ^ 16
-      → new.link.answer_id ≡ (c.first_id + (new.link.tallies.echoes + new.link.tallies.unreachable)) % 2 ^ 16
+      → answered new.link.tallies < 2 ^ 16
+      → new.link.answer_id ≡ (c.first_id + answered new.link.tallies) % 2 ^ 16
   numbered_next acts new boots done few =
       let is : Counts (0 + martians_in c l.mac acts) new = counted acts new done in
-      let all : is.replies ≡ new.link.tallies.echoes + new.link.tallies.unreachable =
+      let all : is.replies ≡ answered new.link.tallies =
       omega (arith, is.least, is.most) in
       let small : new.link.answer_id < 65536 = is.small boots.first_id in
       omega (arith, is.id, small, all)

@@ -13,7 +13,7 @@ use Rattle.flat_model.proofs.Laws.{each-weaker}
 use Rattle.flat_wire.specs.Wire.{packet_out}
 use Rattle.flat_ether.specs.Frames.{body_of}
 use Rattle.flat_ether.specs.Hosts.{HostAct, AreHostActs, Host, host_up}
-use Rattle.flat_ether.specs.Icmp.{answer_mtu, echo_message, part_packet, reflected, unreachable_message}
+use Rattle.flat_ether.specs.Icmp.{answer_mtu, echo_message, error_message, part_packet, reflected}
 use Rattle.flat_ether.specs.Laws.{IsFrameSent, IsMade, IsReply, IsWithin, MakesTurns, frames_out}
 use Rattle.flat_ether.specs.declared.link.Link.{Link}
 use Rattle.flat_ether.proofs.Replies.{length-packet}
@@ -74,9 +74,9 @@ module _ (cut : Cut) (c : Config) (l : Link) (given : List (List ℕ)) (is : IsC
       reply_short : IsReply c F reply → Each (IsShort c.mtu) reply
       reply_short (f, came, id, inl e) =
           subst (Each (IsShort c.mtu)) (sym e) (reflected_short cut c id (body_of f) (echo_message (body_of f)) is)
-      reply_short (f, came, id, inr (code, e)) =
+      reply_short (f, came, id, inr (kind, code, e)) =
           subst (Each (IsShort c.mtu)) (sym e)
-          (reflected_short cut c id (body_of f) (unreachable_message code (body_of f)) is)
+          (reflected_short cut c id (body_of f) (error_message kind code (body_of f)) is)
 
   sent_short : (f : List ℕ) → ((F : List (List ℕ)) × IsFrameSent c l F given f) → IsWithin c.mtu f
   sent_short f (F, inl own) type = absurd (not_both (u16_at 12 f) (ap (u16_at 12) own.frame_is) type)

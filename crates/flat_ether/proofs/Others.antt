@@ -10,7 +10,7 @@ use Rattle.flat_model.specs.declared.config.Config.{Config}
 use Rattle.flat_model.proofs.Laws.{each-append, each-weaker}
 use Rattle.flat_wire.specs.Wire.{ComesFrom, ip_source, packet_in, packet_out}
 use Rattle.flat_ether.specs.Frames.{body_of, is_addressed, kind_of, packet_kind}
-use Rattle.flat_ether.specs.Hosts.{HostAct, AreHostActs, Ages, Asks_error, Calls, Clock, Comes_in, Goes_out, Host, host_up}
+use Rattle.flat_ether.specs.Hosts.{HostAct, AreHostActs, Asks_error, Calls, Clock, Comes_in, Goes_out, Host, host_up}
 use Rattle.flat_ether.specs.Laws.{AreAmongHosts, AreOnEthernet, IsFrameSent, IsInFrames, IsUnforged, IsOwn, IsUdpFrame, MakesTurns, frames_in, frames_out, packet_if, packets_handed, packets_to}
 use Rattle.flat_ether.specs.declared.link.Link.{Link}
 use Rattle.flat_ether.specs.declared.link.FrameKind.{FrameKind}
@@ -115,7 +115,6 @@ module _ (c d : Config) (mac : Mac) (sent : List HostAct) (is : IsConfig c) wher
   came_so (Clock ∷ acts) given handed = came_so acts given handed
   came_so (Calls turn ∷ acts) given handed = by_call (packet_in turn) acts (came_so acts given) handed
   came_so (Asks_error fd fault ∷ acts) given handed = came_so acts given handed
-  came_so (Ages ∷ acts) given handed = came_so acts given handed
 
 pub on_ethernet : (c d : Config) (l m : Link) (sent came : List HostAct) (s t : Host)
     → AreAmongHosts c d l m sent came s t → AreOnEthernet c d l m sent came s t

@@ -8,7 +8,7 @@ use Rattle.std.proofs.lemmas.List.Elements.{All-from_recursion}
 use Rattle.flat_model.specs.Fragments.Cuts.{Part, cuts}
 use Rattle.flat_model.specs.Packets.Header.{Head, head_of, packet, u32_at}
 use Rattle.flat_model.specs.declared.config.Config.{Config}
-use Rattle.flat_ether.specs.Icmp.{answer_mtu, echo_message, echo_reply, message, part_packet, part_packets, quote_of, unreachable_reply, reflected, unreachable_message}
+use Rattle.flat_ether.specs.Icmp.{answer_mtu, echo_message, echo_reply, error_message, error_reply, message, part_packet, part_packets, quote_of, reflected}
 use Rattle.flat_ether.specs.Laws.{HasId}
 use Rattle.flat_ether.specs.Links.{route_to}
 use Rattle.flat_ether.specs.Routes.{route}
@@ -58,13 +58,13 @@ quoted_source came =
     let e = quoted 15 came (omega arith) in
     omega (arith, a, b, d, e)
 
-pub quoted_reply : (c : Config) (id code : ℕ) (came : List ℕ)
-    → unreachable_reply c id code (quote_of came) ≡ unreachable_reply c id code came
-quoted_reply c id code came =
-    ap (λ (source : ℕ). part_packets c.addr id source (unreachable_message code (quote_of came)) (answer_mtu c))
+pub quoted_reply : (c : Config) (id kind code : ℕ) (came : List ℕ)
+    → error_reply c id kind code (quote_of came) ≡ error_reply c id kind code came
+quoted_reply c id kind code came =
+    ap (λ (source : ℕ). part_packets c.addr id source (error_message kind code (quote_of came)) (answer_mtu c))
     (quoted_source came)
     ∙ ap (λ (quote : List ℕ). part_packets c.addr id (head_of came).source
-    (message 3 code (0 ∷ 0 ∷ 0 ∷ 0 ∷ quote)) (answer_mtu c)) (take-take 28 28 came (omega arith))
+    (message kind code (0 ∷ 0 ∷ 0 ∷ 0 ∷ quote)) (answer_mtu c)) (take-take 28 28 came (omega arith))
 
 -- ---- its identification
 
@@ -86,8 +86,8 @@ pub echo_numbered : (c : Config) (id : ℕ) (came : List ℕ) → All (HasId id)
 echo_numbered c id came =
     All-from_recursion (HasId id) (echo_reply c id came) (numbered c id came (echo_message came))
 
-pub unreachable_numbered : (c : Config) (id code : ℕ) (came : List ℕ)
-    → All (HasId id) (unreachable_reply c id code came)
-unreachable_numbered c id code came =
-    All-from_recursion (HasId id) (unreachable_reply c id code came)
-    (numbered c id came (unreachable_message code came))
+pub error_numbered : (c : Config) (id kind code : ℕ) (came : List ℕ)
+    → All (HasId id) (error_reply c id kind code came)
+error_numbered c id kind code came =
+    All-from_recursion (HasId id) (error_reply c id kind code came)
+    (numbered c id came (error_message kind code came))

@@ -17,7 +17,7 @@ use Rattle.flat_wire.specs.Wire.{packet_in, packet_out}
 use Rattle.flat_ether.specs.Claims.{is_claimed}
 use Rattle.flat_ether.specs.Ever.{step_by, turn_if, turn_of_act, turns_of_acts}
 use Rattle.flat_ether.specs.Frames.{body_of, kind_of}
-use Rattle.flat_ether.specs.Hosts.{HostAct, AreHostActs, Comes_in, Drained, Goes_out, Clock, Calls, CallsMachine, Asks_error, Ages, Host, ReceivesKind, IsHostAct, drained, error_of_socket, gives, gives_after, gives_claimed, gives_drained, gives_probe, host_up, is_to_us, or_drains, with_output_left}
+use Rattle.flat_ether.specs.Hosts.{HostAct, AreHostActs, Comes_in, Drained, Goes_out, Clock, Calls, CallsMachine, Asks_error, Host, ReceivesKind, IsHostAct, drained, error_of_socket, expired_keys, gives, gives_after, gives_claimed, gives_drained, gives_probe, host_up, is_to_us, or_drains, with_output_left}
 use Rattle.flat_ether.specs.declared.error.NetFault.{NetFault}
 use Rattle.flat_model.specs.declared.errno.Errno.{Errno}
 use Rattle.flat_ether.specs.Laws.{AreSent, IsFrameSent, MakesTurns, arp_if, frame_out, frames_then, packet_if, packets_in, packets_to}
@@ -285,7 +285,8 @@ module _ (c : Config) (l : Link) where
     turns = record { event = Tick; reply = Done } ∷ [];
     leads = (tt, new.machine, is.machine, refl);
     in' = refl;
-    good = subst (Good F (G ++ [])) (sym is.link) (same F G (ticks old.link) (Sent.ticks_good c l F G old.link good));
+    good = subst (Good F (G ++ [])) (sym is.link) (same F G (ticks (expired_keys old.machine) old.link)
+        (Sent.ticks_good c l F G (expired_keys old.machine) old.link good));
     sent = tt;
     steps = one_marked old.machine new.machine (record { event = Tick; reply = Done }) tt is.machine;
   }
@@ -308,9 +309,6 @@ module _ (c : Config) (l : Link) where
       go (Some me) =
           quiet F G old.machine old.machine (takes_error me.port me.peer old.link).1 refl
           (Sent.takes_good c l F G me.port me.peer old.link good)
-  act_makes F G old new Ages good is =
-      subst (λ (h : Host). Makes F G F old.machine h.machine h.link [] [] None) (sym is)
-      (quiet F G old.machine old.machine (ticks old.link) refl (Sent.ticks_good c l F G old.link good))
 
   -- ---- all of them
 

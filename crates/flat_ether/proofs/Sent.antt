@@ -21,12 +21,12 @@ use Rattle.flat_ether.specs.Errors.{error_at, error_in}
 use Rattle.flat_ether.specs.declared.error.SocketError.{SocketError}
 use Rattle.flat_model.specs.declared.address.Addr.{Addr}
 use Rattle.flat_ether.specs.Frames.{arp_bytes, arp_of, body_of, ether_broadcast, frame, is_arp, is_host_mac, kind_of, no_mac, same_mac}
-use Rattle.flat_ether.specs.Icmp.{answer_to, echo_message, echo_reply, error_for, is_answerable, is_first, is_no_protocol, is_ping, is_quote_of, quote_of, unreachable_reply, reflected, unreachable_message}
+use Rattle.flat_ether.specs.Icmp.{answer_to, echo_message, echo_reply, error_for, error_message, error_reply, expired_error, is_answerable, is_first, is_no_protocol, is_ping, is_quote_of, quote_of, reflected}
 use Rattle.flat_ether.specs.Laws.{IsMade, IsReply, IsRoute, IsFrameSent, arp_if, last_given, is_arp_from, given_in}
-use Rattle.flat_ether.specs.Links.{Gives, WaitingPacket, LinkState, ages, neighbour_aged, answers_by, answers_dropped, answers_fate, answers_first, answers_now, answers_on, answers_with, asked_at, asks, asks_at, by_route, claim_frame, drops_first, counts_too_long, counts_icmp_dropped, first_ready, gives_answer, gives_claim, gives_held, gives_own, gives_reply, gives_request, is_resolvable, has_ip, holds_packet, is_answering, is_asked, is_busy, is_request_due, is_sound_arp, keeps_first, limits, makes_way, mac_known, mac_in, adds_error_if, adds_error, takes_at, takes_error, mac_of, or_then, queues_reply, neighbour_place, put, puts_answer, puts_echo, puts_unreachable, quote_in, quote_for, quote_with, ready_or, replies_to, sends, sends_answer, sends_at, sends_held, neighbour_stays, takes_place, ticks, to_hop, unknown, route_of, route_to}
+use Rattle.flat_ether.specs.Links.{Gives, WaitingPacket, LinkState, ages, neighbour_aged, answers_by, answers_dropped, answers_expired, answers_fate, answers_first, answers_now, answers_on, answers_with, asked_at, asks, asks_at, by_route, claim_frame, drops_first, counts_too_long, counts_expired, counts_icmp_dropped, counts_unreachable, first_ready, gives_answer, gives_claim, gives_held, gives_own, gives_reply, gives_request, is_resolvable, has_ip, holds_packet, is_answering, is_asked, is_busy, is_request_due, is_sound_arp, keeps_answer, keeps_first, limits, makes_way, mac_known, mac_in, adds_error_if, adds_error, takes_at, takes_error, mac_of, or_then, queues_reply, neighbour_place, put, puts_answer, puts_echo, puts_error, quote_in, quote_for, quote_with, ready_or, replies_to, reports_expired, sends, sends_answer, sends_at, sends_held, neighbour_stays, takes_place, ticks, to_hop, unknown, route_of, route_to}
 use Rattle.flat_ether.specs.Routes.{is_neighbour, route}
 use Rattle.flat_ether.specs.declared.answer.Answer.{Answer}
-use Rattle.flat_ether.specs.declared.answer.Answer.TheVariants.{Echo, Unreachable, Silence}
+use Rattle.flat_ether.specs.declared.answer.Answer.TheVariants.{Echo, Error, Silence}
 use Rattle.flat_ether.specs.declared.arp.Arp.{Arp}
 use Rattle.flat_ether.specs.declared.claim.ClaimFrame.{ClaimFrame}
 use Rattle.flat_ether.specs.declared.claim.ClaimFrame.TheVariants.{Probe, Announcement, Nothing}
@@ -459,8 +459,8 @@ module _ (c : Config) (l : Link) (F G : List (List ℕ)) where
   takes_good (Some port) None s good = good
   takes_good (Some port) (Some peer) s good = takes_at_good (error_at port peer s.errors) s good
 
-  pub ticks_good : (s : LinkState) → IsGood s → IsGood (ticks s)
-  ticks_good s good =
+  kept_good : (s : LinkState) → IsGood s → IsGood (keeps_answer (ages s))
+  kept_good s good =
       by_test IsGood (is_answering (ages s) && not (is_some (neighbour_place s.answer_hop (ages s).neighbours)))
       (counts_icmp_dropped (record (ages s) { answer = [] })) (ages s)
       (with_parts aged aged.neighbours aged.distinct aged.replies aged.held tt) aged
@@ -491,7 +491,7 @@ module _ (c : Config) (l : Link) (F G : List (List ℕ)) where
   abbrev pub CanReply : Answer → List ℕ → Type 0
   CanReply Silence came = Unit {0}
   CanReply Echo came = (id : ℕ) → IsReply c F (echo_reply c id came)
-  CanReply (Unreachable code) came = (id : ℕ) → IsReply c F (unreachable_reply c id code came)
+  CanReply (Error kind code) came = (id : ℕ) → IsReply c F (error_reply c id kind code came)
 
   answered : (hop id : ℕ) (came body : List ℕ) → IsReply c F (reflected c id came body)
       → route c l (head_of came).source ≡ Hop hop → Each (IsAnswer hop) (reflected c id came body)
@@ -507,22 +507,30 @@ module _ (c : Config) (l : Link) (F G : List (List ℕ)) where
       (subst (λ (x : Config). Each (IsAnswer hop) (echo_reply x s.answer_id came)) (sym good.config)
       (answered hop s.answer_id came (echo_message came) (can s.answer_id) e))
 
-  unreachable_good : (hop code : ℕ) (came : List ℕ) (s : LinkState) → IsGood s → CanReply (Unreachable code) came
-      → route c l (head_of came).source ≡ Hop hop → IsGood (puts_unreachable hop code came s)
-  unreachable_good hop code came s good can e =
-      puts_good hop (unreachable_reply s.config s.answer_id code came)
-      (record s { unreachables = s.unreachables - 1 })
-      good
-      (subst (λ (x : Config). Each (IsAnswer hop) (unreachable_reply x s.answer_id code came)) (sym good.config)
-      (answered hop s.answer_id came (unreachable_message code came) (can s.answer_id) e))
+  error_good : (hop kind code : ℕ) (came : List ℕ) (s : LinkState) → IsGood s → CanReply (Error kind code) came
+      → route c l (head_of came).source ≡ Hop hop → IsGood (puts_error hop kind code came s)
+  error_good hop kind code came s good can e =
+      by_test IsGood (kind == 11) (counts_expired put) (counts_unreachable put) put_is put_is
+    where
+      put : LinkState
+      put =
+          puts_answer hop (error_reply s.config s.answer_id kind code came)
+          (record s { errors_left = s.errors_left - 1 })
+
+      put_is : IsGood put
+      put_is =
+          puts_good hop (error_reply s.config s.answer_id kind code came)
+          (record s { errors_left = s.errors_left - 1 }) good
+          (subst (λ (x : Config). Each (IsAnswer hop) (error_reply x s.answer_id kind code came)) (sym good.config)
+          (answered hop s.answer_id came (error_message kind code came) (can s.answer_id) e))
 
   by_good : (hop : ℕ) (came : List ℕ) (a : Answer) (s : LinkState) → IsGood s → CanReply a came
       → route c l (head_of came).source ≡ Hop hop → IsGood (answers_by hop a came s)
   by_good hop came Silence s good can e = good
   by_good hop came Echo s good can e = echo_good hop came (makes_way s) (way_good s good) can e
-  by_good hop came (Unreachable code) s good can e =
-      by_test IsGood (nat_lt 0 s.unreachables) (puts_unreachable hop code came (makes_way s)) (limits s)
-      (unreachable_good hop code came (makes_way s) (way_good s good) can e) good
+  by_good hop came (Error kind code) s good can e =
+      by_test IsGood (nat_lt 0 s.errors_left) (puts_error hop kind code came (makes_way s)) (limits s)
+      (error_good hop kind code came (makes_way s) (way_good s good) can e) good
 
   now_good : (came : List ℕ) (a : Answer) (s : LinkState) → IsGood s → CanReply a came
       → IsGood (answers_now a came s)
@@ -544,7 +552,7 @@ module _ (c : Config) (l : Link) (F G : List (List ℕ)) where
       → IsGood (answers_with a came s)
   answers_good came Silence s good can = good
   answers_good came Echo s good can = now_good came Echo s good can
-  answers_good came (Unreachable code) s good can = now_good came (Unreachable code) s good can
+  answers_good came (Error kind code) s good can = now_good came (Error kind code) s good can
 
   -- ---- what became of the packet of a frame
 
@@ -552,12 +560,12 @@ module _ (c : Config) (l : Link) (F G : List (List ℕ)) where
   can_cond true x y came first second = first
   can_cond false x y came first second = second
 
-  -- an error is one about the packet, if an error of any code is
-  can_error : (came : List ℕ) (why : Why) → ((code : ℕ) → CanReply (Unreachable code) came)
+  -- an error is one about the packet, if an error of any type and code is
+  can_error : (came : List ℕ) (why : Why) → ((kind code : ℕ) → CanReply (Error kind code) came)
       → CanReply (error_for came why) came
-  can_error came UdpNoPort can = can 3
+  can_error came UdpNoPort can = can 3 3
   can_error came NoProtocol can =
-      can_cond (slice_index came 9 == 1) Silence (Unreachable 2) came tt (can 2)
+      can_cond (slice_index came 9 == 1) Silence (Error 3 2) came tt (can 3 2)
   can_error came _ can = tt
 
   dropped_good : (f : List ℕ) (why : Why) (s : LinkState) → IsGood s → Contains F f
@@ -569,7 +577,7 @@ module _ (c : Config) (l : Link) (F G : List (List ℕ)) where
       (cond (is_ping (body_of f) why) Echo (error_for (body_of f) why)) Silence (body_of f)
       (can_cond (is_ping (body_of f) why) Echo (error_for (body_of f) why) (body_of f)
       (λ id. (f, came, id, inl refl))
-      (can_error (body_of f) why (λ code id. (f, came, id, inr (code, refl))))) tt))
+      (can_error (body_of f) why (λ kind code id. (f, came, id, inr (kind, code, refl))))) tt))
 
   first_good : (f : List ℕ) (s : LinkState) → IsGood s → Contains F f → IsGood (keeps_first (body_of f) s)
   first_good f s good came =
@@ -586,22 +594,20 @@ module _ (c : Config) (l : Link) (F G : List (List ℕ)) where
         quotes = each-take (IsQuote F) 2 (quote_of (body_of f) ∷ s.firsts) ((f, came, refl), good.quotes);
       }) good
 
+  -- an error that quotes a packet is one about it
+  quote_can : (q : List ℕ) → IsQuote F q → (kind code : ℕ) → CanReply (Error kind code) q
+  quote_can q (f, came, e) kind code id = (
+    f,
+    came,
+    id,
+    inr (kind, code, ap (error_reply c id kind code) e ∙ quoted_reply c id kind code (body_of f)),
+  )
+
   quote_good : (quote : Option (List ℕ)) (why : Why) (s : LinkState) → IsGood s
       → ((q : List ℕ) → quote ≡ Some q → IsQuote F q) → IsGood (answers_first quote why s)
   quote_good None why s good is = good
-  quote_good (Some q) why s good is = go (is q refl)
-    where
-      go : IsQuote F q → IsGood (answers_with (error_for q why) q s)
-      go (f, came, e) =
-          answers_good q (error_for q why) s good (can_error q why (λ code id. (
-            f,
-            came,
-            id,
-            inr (
-              code,
-              ap (unreachable_reply c id code) e ∙ quoted_reply c id code (body_of f),
-            ),
-          )))
+  quote_good (Some q) why s good is =
+      answers_good q (error_for q why) s good (can_error q why (quote_can q (is q refl)))
 
   at_quote : (at : Option ℕ) (firsts : List (List ℕ)) (q : List ℕ) → Each (IsQuote F) firsts
       → quote_in at firsts ≡ Some q → IsQuote F q
@@ -629,3 +635,23 @@ module _ (c : Config) (l : Link) (F G : List (List ℕ)) where
   fate_good f (Completed (Err why)) s good came =
       quote_good (quote_for (body_of f) s) why s good (λ q e. quote_is f s q good came e)
   fate_good f (Dropped why) s good came = dropped_good f why s good came
+
+  -- ---- a tick
+
+  expired_good : (quote : Option (List ℕ)) (s : LinkState) → IsGood s
+      → ((q : List ℕ) → quote ≡ Some q → IsQuote F q) → IsGood (answers_expired quote s)
+  expired_good None s good is = good
+  expired_good (Some q) s good is =
+      answers_good q (expired_error q) s good
+      (can_cond ((slice_index q 9 == 1) && not (slice_index q 20 == 8)) Silence (Error 11 1) q tt
+      (quote_can q (is q refl) 11 1))
+
+  all_expired_good : (ks : List Key) (s : LinkState) → IsGood s → IsGood (reports_expired ks s)
+  all_expired_good [] s good = good
+  all_expired_good (k ∷ ks) s good =
+      all_expired_good ks (answers_expired (quote_with k s.firsts) s)
+      (expired_good (quote_with k s.firsts) s good
+      (λ q e. at_quote (position (is_quote_of k) s.firsts) s.firsts q good.quotes e))
+
+  pub ticks_good : (ks : List Key) (s : LinkState) → IsGood s → IsGood (ticks ks s)
+  ticks_good ks s good = all_expired_good ks (keeps_answer (ages s)) (kept_good s good)

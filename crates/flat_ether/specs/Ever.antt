@@ -9,7 +9,7 @@ use Rattle.flat_wire.specs.Ever.{AreNear, IsMadeBySend, IsShortSend}
 use Rattle.flat_wire.specs.Trail.{PassedStep}
 use Rattle.flat_wire.specs.Wire.{ComesFrom, packet_in}
 use Rattle.flat_ether.specs.Frames.{body_of, kind_of}
-use Rattle.flat_ether.specs.Hosts.{HostAct, AreHostActs, IsHostAct, Host, host_up, Comes_in, Goes_out, Clock, Calls, Asks_error, Ages}
+use Rattle.flat_ether.specs.Hosts.{HostAct, AreHostActs, IsHostAct, Host, host_up, Comes_in, Goes_out, Clock, Calls, Asks_error}
 use Rattle.flat_ether.specs.Laws.{IsInFrames, frames_out, packets_to}
 use Rattle.flat_ether.specs.declared.link.Link.{Link}
 use Rattle.flat_ether.specs.declared.link.FrameKind.{FrameKind}
@@ -44,7 +44,6 @@ turn_of_act c mac (Goes_out f) = None
 turn_of_act c mac Clock = Some (record { event = Tick; reply = Done })
 turn_of_act c mac (Calls turn) = Some turn
 turn_of_act c mac (Asks_error fd fault) = None
-turn_of_act c mac Ages = None
 
 abbrev pub turns_of_acts : Config → Mac → List HostAct → List Turn
 turns_of_acts c mac acts = filter_map (turn_of_act c mac) acts

@@ -1,10 +1,10 @@
 -- A host on an Ethernet: the flat machine and its link, and each step of both (this project's own).
-use Rattle.std.specs.Prelude.{◌≡◌, ℕ, ◌+◌, ◌≤◌, Bool, if◌then◌else◌, List, [], ◌∷◌, length, is_some, Option, Some, None, Result, Ok, Err}
+use Rattle.std.specs.Prelude.{◌≡◌, ℕ, ◌+◌, ◌-◌, ◌≤◌, ◌==◌, Bool, filter, filter_map, take, if◌then◌else◌, List, [], ◌∷◌, length, is_some, Option, Some, None, Result, Ok, Err}
 use Rattle.params.specs.declared.TheConstants.{IP_MAX_PACKET}
 use Rattle.flat_model.specs.Amounts.Weight.{Item}
 use Rattle.flat_model.specs.Machine.Event.{Tick, Done, IsEvent, IsBytes}
 use Rattle.flat_model.specs.Machine.Fate.{Fated}
-use Rattle.flat_model.specs.Machine.State.{State, Socket, boot, socket_at}
+use Rattle.flat_model.specs.Machine.State.{Key, State, Socket, Unfinished, boot, socket_at}
 use Rattle.flat_model.specs.Machine.Step.{Step}
 use Rattle.flat_model.specs.Runs.Run.{Turn}
 use Rattle.flat_model.specs.declared.config.Config.{Config}
@@ -18,7 +18,7 @@ use Rattle.flat_ether.specs.Links.{LinkState, Gives, answers_fate, gives_claim, 
 use Rattle.flat_ether.specs.declared.link.Link.{Link}
 use Rattle.flat_ether.specs.declared.link.FrameKind.{FrameKind}
 use Rattle.flat_ether.specs.declared.link.FrameKind.TheVariants.{Packet, Martian, Arp, Other}
-use Rattle.flat_ether.specs.declared.sizes.TheConstants.{ETHER_HEADER}
+use Rattle.flat_ether.specs.declared.sizes.TheConstants.{ETHER_HEADER, EXPIRED_DATAGRAMS}
 
 pub record Host : Type 0 where
   pub machine : State
@@ -112,21 +112,32 @@ last_error fd h = error_of_socket (socket_at fd h.machine) h
 
 -- ---- the clock
 
+-- an unfinished datagram that the next tick drops
+abbrev pub expires : Unfinished → Bool
+expires u = u.ticks - 1 == 0
+
+-- its key, if its first byte has arrived
+abbrev pub first_key : Unfinished → Option Key
+first_key u = if is_some (u.bytes 0) then Some u.key else None
+
+-- those of the oldest datagrams that the next tick drops
+abbrev pub expired_keys : State → List Key
+expired_keys s = filter_map first_key (take EXPIRED_DATAGRAMS (filter expires s.unfinished))
+
 pub record Ticks (old new : Host) : Type 0 where
   pub machine : Step old.machine Tick Done new.machine
-  pub link : new.link ≡ ticks old.link
+  pub link : new.link ≡ ticks (expired_keys old.machine) old.link
 
 -- ---- whole runs
 
 -- what is done with a host: a frame arrives, the link takes the next one, the clock ticks, a call is made on its stack,
--- an error is queried, or only the link is a tick older, if a caller keeps both halves and ticks the stack by a call
+-- or an error is queried
 pub data HostAct : Type 0 where
   Comes_in : (frame : List ℕ) → HostAct
   Goes_out : (frame : Option (List ℕ)) → HostAct
   Clock : HostAct
   Calls : (turn : Turn) → HostAct
   Asks_error : (fd : ℕ) → (fault : Result (Option NetFault) Errno) → HostAct
-  Ages : HostAct
 
 pub record CallsMachine (turn : Turn) (old new : Host) : Type 0 where
   pub event : IsEvent turn.event
@@ -139,7 +150,6 @@ IsHostAct old (Goes_out f) new = (f, new) ≡ gives old
 IsHostAct old Clock new = Ticks old new
 IsHostAct old (Calls turn) new = CallsMachine turn old new
 IsHostAct old (Asks_error fd fault) new = (fault, new) ≡ last_error fd old
-IsHostAct old Ages new = new ≡ record old { link = ticks old.link }
 
 abbrev pub AreHostActs : Host → List HostAct → Host → Type 0
 AreHostActs old [] new = new ≡ old

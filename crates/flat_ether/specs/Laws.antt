@@ -11,8 +11,8 @@ use Rattle.flat_model.specs.Runs.Run.{Turn, Leads}
 use Rattle.flat_model.specs.Machine.Calls.{is_ours}
 use Rattle.flat_wire.specs.Wire.{ComesFrom, IsAnswered, WasSent, ip_source, packet_in, packet_out}
 use Rattle.flat_ether.specs.Frames.{arp_bytes, arp_of, body_of, ether_broadcast, frame, is_host_mac, kind_of, mac_at, no_mac}
-use Rattle.flat_ether.specs.Icmp.{echo_reply, unreachable_reply}
-use Rattle.flat_ether.specs.Hosts.{HostAct, AreHostActs, Host, host_up, Comes_in, Goes_out, Clock, Calls, Asks_error, Ages}
+use Rattle.flat_ether.specs.Icmp.{echo_reply, error_reply}
+use Rattle.flat_ether.specs.Hosts.{HostAct, AreHostActs, Host, host_up, Comes_in, Goes_out, Clock, Calls, Asks_error}
 use Rattle.flat_ether.specs.Links.{is_sound_arp, route_to}
 use Rattle.flat_model.specs.declared.config.Config.{Config}
 use Rattle.flat_ether.specs.declared.link.Link.{Link}
@@ -20,6 +20,7 @@ use Rattle.flat_ether.specs.declared.link.FrameKind.{FrameKind}
 use Rattle.flat_ether.specs.declared.link.FrameKind.TheVariants.{Packet, Martian, Arp, Other}
 use Rattle.flat_ether.specs.declared.link.Route.TheVariants.{All as To_all, Hop}
 use Rattle.flat_ether.specs.declared.mac.Mac.{Mac}
+use Rattle.flat_ether.specs.declared.tallies.Tallies.{Tallies}
 use Rattle.flat_ether.specs.declared.sizes.TheConstants.{ETHER_TYPE_ARP, ETHER_TYPE_IP}
 
 -- ---- what arrives
@@ -39,7 +40,6 @@ packets_in c mac (Goes_out f) = []
 packets_in c mac Clock = []
 packets_in c mac (Calls turn) = filter_map packet_in (turn ∷ [])
 packets_in c mac (Asks_error fd fault) = []
-packets_in c mac Ages = []
 
 abbrev pub packets_to : Config → Mac → List HostAct → List (List ℕ)
 packets_to c mac [] = []
@@ -58,7 +58,6 @@ martian_in c mac (Goes_out f) = 0
 martian_in c mac Clock = 0
 martian_in c mac (Calls turn) = 0
 martian_in c mac (Asks_error fd fault) = 0
-martian_in c mac Ages = 0
 
 -- how many such packets arrived in these acts
 abbrev pub martians_in : Config → Mac → List HostAct → ℕ
@@ -73,7 +72,6 @@ frame_in (Goes_out f) = []
 frame_in Clock = []
 frame_in (Calls turn) = []
 frame_in (Asks_error fd fault) = []
-frame_in Ages = []
 
 abbrev pub frame_out : HostAct → List (List ℕ)
 frame_out (Comes_in f) = []
@@ -81,7 +79,6 @@ frame_out (Goes_out f) = option_to_list f
 frame_out Clock = []
 frame_out (Calls turn) = []
 frame_out (Asks_error fd fault) = []
-frame_out Ages = []
 
 -- the frames that were sent
 abbrev pub frames_out : List HostAct → List (List ℕ)
@@ -113,7 +110,7 @@ abbrev pub IsReply : Config → List (List ℕ) → List (List ℕ) → Type 0
 IsReply c frames reply =
     (frame : List ℕ) × Contains frames frame
     × (id : ℕ) × ((reply ≡ echo_reply c id (body_of frame))
-    ⊎ ((code : ℕ) × (reply ≡ unreachable_reply c id code (body_of frame))))
+    ⊎ ((kind code : ℕ) × (reply ≡ error_reply c id kind code (body_of frame))))
 
 -- the machine gave the packet, or it's part of the reply to the packet of a frame that arrived before
 abbrev pub IsMade : Config → List (List ℕ) → List (List ℕ) → List ℕ → Type 0
@@ -183,6 +180,10 @@ abbrev pub IsToHost : List ℕ → Type 0
 IsToHost f =
     (mac_at 0 f ≡ ether_broadcast) ⊎ (((mac_at 0 f).high / 256 % 2 ≡ 0) × (mac_at 0 f ≢ no_mac))
 
+-- how many replies and errors the host accepted to send
+abbrev pub answered : Tallies → ℕ
+answered t = t.echoes + t.unreachable + t.expired
+
 -- the packet has this identification
 abbrev pub HasId : ℕ → List ℕ → Type 0
 HasId id packet = (head_of packet).id ≡ id
@@ -246,7 +247,6 @@ handed_in (Goes_out f) = []
 handed_in Clock = []
 handed_in (Calls turn) = filter_map packet_in (turn ∷ [])
 handed_in (Asks_error fd fault) = []
-handed_in Ages = []
 
 abbrev pub packets_handed : List HostAct → List (List ℕ)
 packets_handed [] = []

@@ -18,9 +18,9 @@ use Rattle.flat_ether.specs.declared.error.SocketError.{SocketError}
 use Rattle.flat_model.specs.declared.address.Addr.{Addr}
 use Rattle.flat_ether.specs.Frames.{frame, ether_broadcast, no_mac, arp_bytes, arp_of, is_arp, is_host_mac, same_mac}
 use Rattle.flat_ether.specs.Routes.{is_neighbour, route}
-use Rattle.flat_ether.specs.Icmp.{answer_to, echo_reply, error_for, is_first, is_no_protocol, is_quote_of, quote_of, unreachable_reply}
+use Rattle.flat_ether.specs.Icmp.{answer_to, echo_reply, error_for, error_reply, expired_error, is_first, is_no_protocol, is_quote_of, quote_of}
 use Rattle.flat_ether.specs.declared.answer.Answer.{Answer}
-use Rattle.flat_ether.specs.declared.answer.Answer.TheVariants.{Echo, Unreachable, Silence}
+use Rattle.flat_ether.specs.declared.answer.Answer.TheVariants.{Echo, Error, Silence}
 use Rattle.flat_ether.specs.declared.arp.Arp.{Arp}
 use Rattle.flat_ether.specs.declared.claim.Claim.{Claim}
 use Rattle.flat_ether.specs.declared.claim.ClaimFrame.{ClaimFrame}
@@ -32,7 +32,7 @@ use Rattle.flat_ether.specs.declared.mac.Mac.{Mac}
 use Rattle.flat_ether.specs.declared.neighbour.Neighbour.{Neighbour}
 use Rattle.flat_ether.specs.declared.neighbour.PendingReply.{PendingReply}
 use Rattle.flat_ether.specs.declared.tallies.Tallies.{Tallies}
-use Rattle.flat_ether.specs.declared.sizes.TheConstants.{ETHER_MTU, ETHER_TYPE_IP, ETHER_TYPE_ARP, ARP_REQUEST, ARP_REPLY, NEIGHBOURS, ARP_KEEP_TICKS, ARP_POLLS, UNREACHABLES, ARP_RETRY_TICKS, ARP_TRIES, FIRST_FRAGMENTS, HELD_PACKETS, PENDING_REPLIES}
+use Rattle.flat_ether.specs.declared.sizes.TheConstants.{ETHER_MTU, ETHER_TYPE_IP, ETHER_TYPE_ARP, ARP_REQUEST, ARP_REPLY, NEIGHBOURS, ARP_KEEP_TICKS, ARP_POLLS, ARP_RETRY_TICKS, ARP_TRIES, ERRORS_A_TICK, FIRST_FRAGMENTS, HELD_PACKETS, PENDING_REPLIES, TIME_EXCEEDED}
 
 -- a packet that waits for the hardware address of its next hop
 pub record WaitingPacket : Type 0 where
@@ -43,7 +43,7 @@ pub record WaitingPacket : Type 0 where
 -- reply is due; the packets that wait, the oldest first; the packets of the ICMP reply that waits, and its next hop;
 -- the identification of the next ICMP reply, apart from the machine's own; what errors quote of the first fragments
 -- that arrived last, the newest first; the errors that no call has fetched yet; the claim to the address; how many more
--- "destination unreachable" may be sent before the next tick; and the counters.
+-- ICMP errors may be sent before the next tick; and the counters.
 pub record LinkState : Type 0 where
   pub config : Config
   pub link : Link
@@ -56,7 +56,7 @@ pub record LinkState : Type 0 where
   pub firsts : List (List ℕ)
   pub errors : List SocketError
   pub claim : Claim
-  pub unreachables : ℕ
+  pub errors_left : ℕ
   pub tallies : Tallies
 
 -- nothing was counted
@@ -76,6 +76,7 @@ no_tallies =
       unreachable = 0;
       limited = 0;
       icmp_dropped = 0;
+      expired = 0;
     }
 
 -- a link that has just started
@@ -93,7 +94,7 @@ link_up c l =
       firsts = [];
       errors = [];
       claim = claim_up l.probe;
-      unreachables = UNREACHABLES;
+      errors_left = ERRORS_A_TICK;
       tallies = no_tallies;
     }
 
@@ -388,11 +389,7 @@ keeps_answer s =
 abbrev pub ages : LinkState → LinkState
 ages s =
     keeps (filter neighbour_stays (map neighbour_aged s.neighbours))
-    (record s { claim = claim_ticks s.claim; unreachables = UNREACHABLES })
-
--- a tick
-abbrev pub ticks : LinkState → LinkState
-ticks s = keeps_answer (ages s)
+    (record s { claim = claim_ticks s.claim; errors_left = ERRORS_A_TICK })
 
 -- ---- ICMP
 
@@ -416,27 +413,34 @@ counts_echo s = record s { tallies = record s.tallies { echoes = more_by 1 s.tal
 abbrev pub counts_unreachable : LinkState → LinkState
 counts_unreachable s = record s { tallies = record s.tallies { unreachable = more_by 1 s.tallies.unreachable } }
 
--- the limit of senders for one tick is reached
+abbrev pub counts_expired : LinkState → LinkState
+counts_expired s = record s { tallies = record s.tallies { expired = more_by 1 s.tallies.expired } }
+
+-- an error of this type
+abbrev pub counts_error : ℕ → LinkState → LinkState
+counts_error kind s = if kind == TIME_EXCEEDED then counts_expired s else counts_unreachable s
+
+-- the limit of errors for one tick is reached
 abbrev pub limits : LinkState → LinkState
 limits s = record s { tallies = record s.tallies { limited = more_by 1 s.tallies.limited } }
 
 abbrev pub puts_echo : ℕ → List ℕ → LinkState → LinkState
 puts_echo hop came s = counts_echo (puts_answer hop (echo_reply s.config s.answer_id came) s)
 
-abbrev pub puts_unreachable : ℕ → ℕ → List ℕ → LinkState → LinkState
-puts_unreachable hop code came s =
-    counts_unreachable (puts_answer hop (unreachable_reply s.config s.answer_id code came)
-    (record s { unreachables = s.unreachables - 1 }))
+abbrev pub puts_error : ℕ → ℕ → ℕ → List ℕ → LinkState → LinkState
+puts_error hop kind code came s =
+    counts_error kind (puts_answer hop (error_reply s.config s.answer_id kind code came)
+    (record s { errors_left = s.errors_left - 1 }))
 
-abbrev pub reports_unreachable : ℕ → ℕ → List ℕ → LinkState → LinkState
-reports_unreachable hop code came s =
-    if nat_lt 0 s.unreachables then puts_unreachable hop code came (makes_way s) else limits s
+abbrev pub reports_error : ℕ → ℕ → ℕ → List ℕ → LinkState → LinkState
+reports_error hop kind code came s =
+    if nat_lt 0 s.errors_left then puts_error hop kind code came (makes_way s) else limits s
 
 -- a reply by way of this next hop
 abbrev pub answers_by : ℕ → Answer → List ℕ → LinkState → LinkState
 answers_by hop Silence came s = s
 answers_by hop Echo came s = puts_echo hop came (makes_way s)
-answers_by hop (Unreachable code) came s = reports_unreachable hop code came s
+answers_by hop (Error kind code) came s = reports_error hop kind code came s
 
 -- no reply is broadcast
 abbrev pub answers_on : Route → Answer → List ℕ → LinkState → LinkState
@@ -452,7 +456,7 @@ answers_now a came s =
 abbrev pub answers_with : Answer → List ℕ → LinkState → LinkState
 answers_with Silence came s = s
 answers_with Echo came s = answers_now Echo came s
-answers_with (Unreachable code) came s = answers_now (Unreachable code) came s
+answers_with (Error kind code) came s = answers_now (Error kind code) came s
 
 -- ---- errors that other hosts report
 
@@ -518,3 +522,19 @@ answers_fate came (Delivered reached) s = s
 answers_fate came Kept s = keeps_first came s
 answers_fate came (Completed whole) s = answers_whole came whole s
 answers_fate came (Dropped why) s = answers_dropped came why s
+
+-- ---- a tick
+
+-- the source of a datagram that expired gets an error, if its first fragment is still known
+abbrev pub answers_expired : Option (List ℕ) → LinkState → LinkState
+answers_expired None s = s
+answers_expired (Some quote) s = answers_with (expired_error quote) quote s
+
+abbrev pub reports_expired : List Key → LinkState → LinkState
+reports_expired [] s = s
+reports_expired (k ∷ ks) s = reports_expired ks (answers_expired (quote_with k s.firsts) s)
+
+-- a tick in which the machine drops the unfinished datagrams with these keys, whose first fragment has arrived (RFC
+-- 792, "Time Exceeded"; RFC 1122, section 3.3.2)
+abbrev pub ticks : List Key → LinkState → LinkState
+ticks expired s = reports_expired expired (keeps_answer (ages s))

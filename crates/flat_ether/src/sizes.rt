@@ -40,13 +40,15 @@ pub const ANNOUNCE_TICKS: u8 = 5;
 /// How many ticks are between two defences of the address, at least ten seconds: `DEFEND_INTERVAL` (RFC 5227, section
 /// 1.1).
 pub const DEFEND_TICKS: u8 = 21;
-/// How many "destination unreachable" are sent at most between two ticks (this project's own; RFC 1812, section
-/// 4.3.2.8, demands such a limit).
-pub const UNREACHABLES: u8 = 10;
+/// How many ICMP errors are sent at most between two ticks (this project's own; RFC 1812, section 4.3.2.8, demands such
+/// a limit).
+pub const ERRORS_A_TICK: u8 = 10;
 /// How many packets are held for addresses that aren't known yet (this project's own).
 pub const HELD_PACKETS: usize = 8;
 /// How many first fragments are kept for errors (this project's own).
 pub const FIRST_FRAGMENTS: usize = 2;
+/// How many of the datagrams that expire in one tick get an error at most: the oldest ones (this project's own).
+pub const EXPIRED_DATAGRAMS: usize = 8;
 /// How many ARP replies may wait for the link (this project's own).
 pub const PENDING_REPLIES: usize = 8;
 /// The protocol number of ICMP, `IPPROTO_ICMP` (RFC 792, "Message Formats").
@@ -65,6 +67,10 @@ pub const UNREACHABLE_PROTOCOL: u8 = 2;
 pub const UNREACHABLE_PORT: u8 = 3;
 /// Its code "fragmentation needed" (RFC 792, "Destination Unreachable Message").
 pub const FRAGMENT_NEEDED: u8 = 4;
+/// The type "time exceeded" (RFC 792, "Time Exceeded Message").
+pub const TIME_EXCEEDED: u8 = 11;
+/// Its code "fragment reassembly time exceeded" (RFC 792, "Time Exceeded Message").
+pub const REASSEMBLY_EXCEEDED: u8 = 1;
 /// Bytes of an ICMP error with the header and the ports of a datagram: 8, 20 and 8 (RFC 792, "Destination Unreachable
 /// Message").
 pub const ICMP_ERROR: u32 = 36;
@@ -82,7 +88,7 @@ pub const fn numbers()
         × (ANNOUNCE_TICKS ≡ 2 * 2 + 1) × (DEFEND_TICKS ≡ 2 * 10 + 1) }
     ensures icmp { (PROTOCOL_ICMP ≡ 1) × (ICMP_HEADER ≡ 8) × (ECHO_REPLY ≡ 0) × (ECHO_REQUEST ≡ 8)
         × (UNREACHABLE ≡ 3) × (UNREACHABLE_PROTOCOL ≡ 2) × (UNREACHABLE_PORT ≡ 3) × (FRAGMENT_NEEDED ≡ 4)
-        × (ICMP_ERROR ≡ 8 + 20 + 8) }
+        × (TIME_EXCEEDED ≡ 11) × (REASSEMBLY_EXCEEDED ≡ 1) × (ICMP_ERROR ≡ 8 + 20 + 8) }
     ensures limits { (NEIGHBOURS ≡ 32) × (HELD_PACKETS ≡ 8) × (PENDING_REPLIES ≡ 8) × (FIRST_FRAGMENTS ≡ 2)
-        × (SOCKET_ERRORS ≡ 8) × (UNREACHABLES ≡ 10) }
+        × (EXPIRED_DATAGRAMS ≡ 8) × (SOCKET_ERRORS ≡ 8) × (ERRORS_A_TICK ≡ 10) }
 {}

@@ -25,11 +25,13 @@ pub struct Tallies {
     pub too_long: u64,
     /// Echo requests that got a reply.
     pub echoes: u64,
-    /// Datagrams for which "port unreachable" was sent, because no socket takes them.
+    /// Datagrams for which "port unreachable" or "protocol unreachable" was sent.
     pub unreachable: u64,
-    /// Datagrams for which no "port unreachable" was sent, because the limit for one tick was reached.
+    /// Datagrams for which no error was sent, because the limit for one tick was reached.
     pub limited: u64,
     /// ICMP replies that were dropped: another one was being sent, or a newer one took the place of one that waited for
     /// a hardware address, or that address never arrived.
     pub icmp_dropped: u64,
+    /// Unfinished datagrams for which "time exceeded" was sent.
+    pub expired: u64,
 }

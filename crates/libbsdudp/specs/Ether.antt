@@ -3,8 +3,8 @@
 use Rattle.std.specs.Prelude.{◌≡◌, ℕ, ℤ, pos, negsuc, ◌+◌, ◌<◌, ◌≤◌, ◌==◌, if◌then◌else◌, true, false, List, length, Option, Some, None, option_map, IfSome, Result, Ok, Err, slice_get}
 use Rattle.params.specs.declared.TheConstants.{IP_MAX_PACKET}
 use Rattle.flat_ether.specs.Claims.{address_state}
-use Rattle.flat_ether.specs.Hosts.{TakesFrame, gives, last_error}
-use Rattle.flat_ether.specs.Links.{LinkState, link_up, ticks}
+use Rattle.flat_ether.specs.Hosts.{TakesFrame, Ticks, gives, last_error}
+use Rattle.flat_ether.specs.Links.{LinkState, link_up}
 use Rattle.flat_ether.specs.Routes.{is_link}
 use Rattle.flat_ether.specs.declared.claim.AddressState.{AddressState}
 use Rattle.flat_ether.specs.declared.claim.AddressState.TheVariants.{Probing, Conflict, InUse}
@@ -105,9 +105,9 @@ pub record ReportsError (fd : ℕ) (answer : ℤ) (h n : HostView) : Type 0 wher
   pub step : (reported, host_of n) ≡ last_error fd (host_of h)
 
 -- `tick`: the result is 0
-pub record HasAged (answer : ℤ) (l n : LinkState) : Type 0 where
+pub record HasHostTicked (answer : ℤ) (h n : HostView) : Type 0 where
   pub is : answer ≡ pos 0
-  pub ticked : n ≡ ticks l
+  pub ticked : Ticks (host_of h) (host_of n)
 
 -- a query: the link is unchanged, and the result describes it
 pub record IsLinkAsked (Says : LinkState → Type 0) (l n : LinkState) : Type 0 where

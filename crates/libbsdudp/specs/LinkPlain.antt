@@ -51,4 +51,5 @@ c_tallies t = record {
   unreachable = t.unreachable;
   limited = t.limited;
   icmp_dropped = t.icmp_dropped;
+  expired = t.expired;
 }

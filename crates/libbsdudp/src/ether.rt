@@ -2,7 +2,7 @@
 //! the link's half of the host. A call on a stack changes nothing in its link. The link is booted and ended separately.
 ghost use Rattle.std.specs.Prelude.{◌≡◌, ⊤};
 ghost use Rattle.libbsdudp.specs.Calls.{stack_in};
-ghost use Rattle.libbsdudp.specs.Ether.{AnswersHost, AnswersLink, HasAged, Arrives, ArrivesFate, IsFramed, IsLinkAsked, IsLinkBooted, IsLinkEnded, ReportsAddress, ReportsError, ReportsNeighbour, ReportsTallies, handle_link};
+ghost use Rattle.libbsdudp.specs.Ether.{AnswersHost, AnswersLink, Arrives, ArrivesFate, HasHostTicked, IsFramed, IsLinkAsked, IsLinkBooted, IsLinkEnded, ReportsAddress, ReportsError, ReportsNeighbour, ReportsTallies, handle_link};
 
 use crate::errors::{INVALID, NO_LINK, NO_MEMORY, NO_STACK};
 use crate::ether_calls;
@@ -178,15 +178,23 @@ pub extern "C" fn bsdudp_core_ether_last_error(
     ether_calls::last_error(&handle.value_mut().stack, &mut link.value_mut().layer, fd)
 }
 
-/// Half a second has passed: the link's part of the tick, in addition to `bsdudp_core_tick`. Returns 0.
+/// Half a second has passed for the stack and for its link: a host calls this instead of `bsdudp_core_tick`. Returns 0.
 ///
-///     int bsdudp_core_ether_tick(struct bsdudp_core *link)
-#[tactic(auto, using(crate::proofs::EtherAnswered::link_answered))]
+///     int bsdudp_core_ether_tick(struct bsdudp_core *, struct bsdudp_core *link)
+#[tactic(auto, using(crate::proofs::EtherAnswered::host_answered))]
 #[unsafe(no_mangle)]
-pub extern "C" fn bsdudp_core_ether_tick(link: &mut LinkHandle) -> i32
-    ensures { AnswersLink (handle_link link.old) result (handle_link link.new) ⊤ (HasAged result) }
+pub extern "C" fn bsdudp_core_ether_tick(handle: &mut Handle, link: &mut LinkHandle) -> i32
+    ensures { AnswersHost (stack_in handle.old) (handle_link link.old) result (stack_in handle.new)
+        (handle_link link.new) ⊤
+        (HasHostTicked result) }
 {
-    with_held!(link, NO_LINK, held => ether_calls::tick(&mut held.layer))
+    if !handle.is_live() {
+        return NO_STACK;
+    }
+    if !link.is_live() {
+        return NO_LINK;
+    }
+    ether_calls::tick(&mut handle.value_mut().stack, &mut link.value_mut().layer)
 }
 
 /// Returns the state of the host's address: 1 if it is in use, 0 while the host probes for it, or -EADDRINUSE if
@@ -203,7 +211,7 @@ pub extern "C" fn bsdudp_core_ether_address(link: &mut LinkHandle) -> i32
 
 /// Reads the counters of the link. Returns 0.
 ///
-///     int bsdudp_core_ether_tallies(struct bsdudp_core *link, struct bsdudp_tallies *)
+///     int bsdudp_core_ether_tallies(struct bsdudp_core *link, struct core_tallies *)
 #[tactic(auto, using(crate::proofs::EtherAnswered::link_asked))]
 #[unsafe(no_mangle)]
 pub extern "C" fn bsdudp_core_ether_tallies(link: &mut LinkHandle, tallies: &mut CTallies) -> i32

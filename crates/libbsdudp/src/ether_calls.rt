@@ -3,7 +3,7 @@ ghost use Rattle.std.specs.Prelude.{◌+◌, ◌≤◌, length};
 ghost use Rattle.params.specs.declared.TheConstants.{IP_MAX_PACKET};
 ghost use Rattle.flat_ether.specs.declared.sizes.TheConstants.{ETHER_HEADER, ETHER_MTU};
 ghost use Rattle.ether_host.specs.Inside.{link_seen};
-ghost use Rattle.libbsdudp.specs.Ether.{GivesFrame, HasAged, Arrives, ArrivesFate, HasFrameFate, IsFramed, ReportsAddress, ReportsError, ReportsNeighbour, ReportsTallies, both};
+ghost use Rattle.libbsdudp.specs.Ether.{GivesFrame, Arrives, ArrivesFate, HasFrameFate, HasHostTicked, IsFramed, ReportsAddress, ReportsError, ReportsNeighbour, ReportsTallies, both};
 
 use crate::errors::{
     BAD_LENGTH, CONNECTION_REFUSED, HOST_UNREACHABLE, IN_USE, INVALID, count, refused,
@@ -97,10 +97,10 @@ pub(crate) fn last_error(stack: &Stack, layer: &mut LinkLayer, fd: u32) -> i32
 }
 
 /// Half a second has passed.
-pub(crate) fn tick(layer: &mut LinkLayer) -> i32
-    ensures { HasAged result (link_seen layer.old) (link_seen layer.new) }
+pub(crate) fn tick(stack: &mut Stack, layer: &mut LinkLayer) -> i32
+    ensures { HasHostTicked result (both stack.old (link_seen layer.old)) (both stack.new (link_seen layer.new)) }
 {
-    layer.tick();
+    layer.tick(stack);
     0
 }
 

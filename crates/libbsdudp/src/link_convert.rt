@@ -60,6 +60,7 @@ impl CTallies {
             unreachable: tallies.unreachable,
             limited: tallies.limited,
             icmp_dropped: tallies.icmp_dropped,
+            expired: tallies.expired,
         }
     }
 }

@@ -35,7 +35,7 @@ pub struct CNeighbour {
     pub known: u8,
 }
 
-/// `struct bsdudp_tallies`: the counters of a link since boot.
+/// The counters of a link since boot: those of `struct bsdudp_tallies`, and `expired`.
 #[repr(C)]
 #[derive(Clone, Copy)]
 pub struct CTallies {
@@ -59,10 +59,12 @@ pub struct CTallies {
     pub too_long: u64,
     /// Echo requests that got a reply.
     pub echoes: u64,
-    /// Datagrams for which "port unreachable" was sent to the sender.
+    /// Datagrams for which "port unreachable" or "protocol unreachable" was sent to the sender.
     pub unreachable: u64,
-    /// Datagrams for which it wasn't sent, because the limit for this second was reached.
+    /// Datagrams for which no error was sent, because the limit for this tick was reached.
     pub limited: u64,
     /// ICMP replies dropped because their place was taken.
     pub icmp_dropped: u64,
+    /// Unfinished datagrams for which "time exceeded" was sent to the sender.
+    pub expired: u64,
 }

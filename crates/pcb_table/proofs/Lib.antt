@@ -10,6 +10,7 @@ mod Places
 mod Keeping
 mod Steps
 mod Unconnected
+mod Unlimited
 mod Finding
 mod ByLink
 mod Opened

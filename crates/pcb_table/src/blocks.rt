@@ -3,7 +3,7 @@ ghost use Rattle.std.specs.Prelude.{◌≡◌, ◌+◌, ◌<◌, ◌≤◌, ◌�
 ghost use Rattle.arrayvec.specs.ArrayVec.{array_vec_len};
 ghost use Rattle.params.specs.declared.TheConstants.{MAX_SOCKETS};
 ghost use Rattle.pcb_table.specs.Apart.{has_fd};
-ghost use Rattle.pcb_table.specs.Inside.Fields.{IsIndexOf, IsLocated, Locates, HasPorts, ImpliesNoneConnected, PassesLanes, is_connected};
+ghost use Rattle.pcb_table.specs.Inside.Fields.{IsIndexOf, IsLocated, Locates, HasPorts, ImpliesNoneConnected, ImpliesNoneLimited, PassesLanes, has_limit, is_connected};
 ghost use Rattle.pcb_table.specs.Inside.Search.{from_port};
 
 use crate::block::Block;
@@ -27,7 +27,7 @@ pub(crate) struct Blocks {
     index: Index,
 }
 
-/// Two arrays that index blocks, and whether no block is connected.
+/// Two arrays that index blocks, and whether no block is connected or none has a receive limit.
 ///
 /// `ports` has the port of the block at each index, so that one comparison skips sixteen blocks with another port.
 /// `places` has the index of the block of each descriptor. It's a hint: the block at that index is tested, and if it's
@@ -42,6 +42,8 @@ pub(crate) struct Index {
     places: [u8; SOCKETS],
     // if true, none of the blocks is connected
     none_connected: bool,
+    // if true, none of the blocks has a receive limit
+    none_limited: bool,
 }
 
 impl Model for Blocks {
@@ -68,6 +70,7 @@ impl Blocks {
                 ports: [0; INDEXED_PORTS],
                 places: [0; SOCKETS],
                 none_connected: true,
+                none_limited: true,
             },
         }
     }
@@ -93,6 +96,14 @@ impl Blocks {
         ensures { ImpliesNoneConnected result self.now }
     {
         params::indexes_sockets() && self.index.none_connected
+    }
+
+    /// Whether none has a receive limit, without looking at the blocks. `false` means that one may have it.
+    #[inline(always)]
+    pub(crate) fn is_none_limited(&self) -> bool
+        ensures { ImpliesNoneLimited result self.now }
+    {
+        params::indexes_sockets() && self.index.none_limited
     }
 
     /// The index of an open descriptor's block, and the block, if `places` has that index.
@@ -206,6 +217,7 @@ impl Index {
     {
         update_index(blocks, &mut self.ports, &mut self.places);
         self.none_connected = params::indexes_sockets() && is_none_connected(blocks);
+        self.none_limited = params::indexes_sockets() && is_none_limited(blocks);
     }
 }
 
@@ -277,6 +289,20 @@ fn is_none_connected(blocks: &[Block]) -> bool
         None => true,
         Some(_) => false,
     }
+}
+
+/// The youngest block with a receive limit.
+fn first_limited(blocks: &[Block]) -> Option<&Block>
+    ensures { option_copied result ≡ find has_limit blocks.now }
+{
+    blocks.iter().find(|block| block.receive_limit != 0)
+}
+
+/// Whether no block has a receive limit.
+fn is_none_limited(blocks: &[Block]) -> bool
+    ensures { ImpliesNoneLimited result blocks.now }
+{
+    first_limited(blocks).is_none()
 }
 
 /// Writes the port of each block, and the index of each descriptor's block if it's read.

@@ -113,11 +113,15 @@ impl Pcbs {
 
     /// The size in bytes of an open socket's receive queue that a program has chosen, or 0. The number of steps doesn't
     /// depend on the number of sockets, unless `params::indexes_sockets` returns `false`.
+    // If no socket has a limit, no block is looked for: this is in the path of each packet that arrives.
     #[inline(always)]
     pub fn limit(&self, fd: u32) -> u16
         requires { IsOpen fd self.now }
         ensures { option_map (λ b. b.receive_limit) (block_at fd self.now) ≡ Some result }
     {
+        if self.blocks.is_none_limited() {
+            return 0;
+        }
         match self.indexed(fd) {
             Some(block) => block.receive_limit,
             None => self.blocks.located(fd).block.receive_limit,

@@ -1,15 +1,14 @@
 -- Acts, one after another.
-use Rattle.std.proofs.Common.{◌≡◌, ℕ, zero, suc, ◌+◌, add-one, Bool, true, false, List, [], ◌∷◌, ◌++◌, map, replicate, Some, None, refl, sym, ap, ◌∙◌, subst}
-use Rattle.std.specs.Prelude.{◌==◌, length, not, slice_get, slice_set, MatchResult, Option, Result, Ok, Err}
+use Rattle.std.proofs.Common.{◌≡◌, ℕ, zero, suc, ◌+◌, add-one, Bool, true, false, List, [], ◌∷◌, ◌++◌, map, replicate, Some, None, refl, sym, ap, ap₂, ◌∙◌, subst}
+use Rattle.std.specs.Prelude.{◌&&◌, length, nat_lt, slice_get, slice_set, MatchResult, Option, Result, Ok, Err}
 use Rattle.flat_model.specs.Amounts.Choice.{Choice}
 use Rattle.flat_model.specs.Machine.Event.{Tick, Done}
 use Rattle.flat_model.specs.Runs.Run.{Turn}
-use Rattle.flat_ether.specs.Links.{LinkState, ticks}
 use Rattle.net_stack.specs.Runs.{AreCalls, IsTurnOf}
 use Rattle.net_stack.specs.Stack.{StackView}
-use Rattle.segment.specs.Frames.{aged_in, link_aged}
-use Rattle.segment.specs.Law.{Act, AgesLink, Calls, Collects, Delivers, Ether, IsAct, AreActs}
-use Rattle.segment.specs.Segment.{SegmentView, AreCarried, IsCarried, is_ether, is_quiet_segment}
+use Rattle.segment.specs.Frames.{IsHostTicked}
+use Rattle.segment.specs.Law.{Act, Calls, Collects, Delivers, Ether, TicksHost, IsAct, AreActs}
+use Rattle.segment.specs.Segment.{SegmentView, AreCarried, IsCarried, is_linked, is_quiet_segment}
 use Rattle.segment.specs.declared.segment.JoinFault.{JoinFault}
 use Rattle.play_wire.specs.Acts.{AreLedTo, call_turn, with_stack_at}
 use Rattle.play_wire.specs.Inside.{IsExchanged, IsKept}
@@ -158,22 +157,31 @@ set_length [] i x = refl
 set_length (y ∷ xs) zero x = refl
 set_length (y ∷ xs) (suc i) x = ap suc (set_length xs i x)
 
-aged_length : (links : List LinkState) (place : ℕ) (here : Option LinkState)
-    → length (aged_in links place here) ≡ length links
-aged_length links place None = refl
-aged_length links place (Some l) = set_length links place (ticks l)
+still_linked : (place : ℕ) (v w : SegmentView) → IsHostTicked place v w → is_linked place v ≡ true
+    → is_linked place w ≡ true
+still_linked place v w is linked =
+    ap (is_linked place) is.is
+    ∙ ap₂ (λ m n. nat_lt place m && nat_lt place n) (set_length v.stacks place is.stack')
+    (set_length v.links place is.link')
+    ∙ linked
 
-pub still_ether : (place : ℕ) (v w : SegmentView) → is_ether v ≡ true → w ≡ link_aged place v → is_ether w ≡ true
-still_ether place v w ether is =
-    ap is_ether is
-    ∙ ap (λ n. not (n == 0)) (aged_length v.links place (slice_get v.links place))
-    ∙ ether
+-- n ticks of the host at a place, and then it's still there
+pub record AreTicked (place n : ℕ) (v w : SegmentView) : Type 0 where
+  pub acts : AreActs v (replicate n (Ether (TicksHost place))) w
+  pub linked : is_linked place w ≡ true
 
-pub one_older : (place n : ℕ) (v w x : SegmentView) → AreActs v (replicate n (Ether (AgesLink place))) w
-    → is_ether w ≡ true → x ≡ link_aged place w
-    → AreActs v (replicate (n + 1) (Ether (AgesLink place))) x
-one_older place n v w x before ether is =
-    subst (λ k. AreActs v (replicate k (Ether (AgesLink place))) x) (sym (add-one n))
-    (subst (λ (acts : List Act). AreActs v acts x) (one_more n (Ether (AgesLink place)))
-    (acts_append v w x (replicate n (Ether (AgesLink place))) (Ether (AgesLink place) ∷ []) before
-    (x, (ether, is), refl)))
+pub none_ticked : (place : ℕ) (v : SegmentView) → is_linked place v ≡ true → AreTicked place 0 v v
+none_ticked place v linked = record { acts = refl; linked = linked }
+
+pub one_ticked : (place n : ℕ) (v w x : SegmentView) (b : Bool) → AreTicked place n v w → b ≡ is_linked place w
+    → Choice b (IsHostTicked place w x) (x ≡ w) → AreTicked place (n + 1) v x
+one_ticked place n v w x b before is choice =
+    let ticked : IsHostTicked place w x = choice.yes (is ∙ before.linked) in
+    record {
+      acts =
+          subst (λ k. AreActs v (replicate k (Ether (TicksHost place))) x) (sym (add-one n))
+          (subst (λ (acts : List Act). AreActs v acts x) (one_more n (Ether (TicksHost place)))
+          (acts_append v w x (replicate n (Ether (TicksHost place))) (Ether (TicksHost place) ∷ []) before.acts
+          (x, ticked, refl)));
+      linked = still_linked place w x ticked before.linked;
+    }

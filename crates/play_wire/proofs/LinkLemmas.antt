@@ -1,6 +1,5 @@
 -- Lines that the link of a host executes.
 use Rattle.std.proofs.Common.{◌≡◌, ◌<◌, ◌≤◌, ◌⊎◌, inl, inr, ℕ, zero, suc, Bool, true, false, List, [], ◌∷◌, ◌++◌, map, replicate, Option, Some, None, refl, sym, ap, ap₂, ◌∙◌, subst, arith}
-use Rattle.std.proofs.Math.Dec.{eqb-suc-zero}
 use Rattle.std.proofs.lemmas.Bool.{lt-ltb}
 use Rattle.std.specs.Prelude.{◌==◌, cond, if◌then◌else◌, not, codes, is_some, nat_lt, length, option_map, slice_get, ◌&&◌, IfSome, Result}
 use Rattle.flat_ether.specs.Claims.{address_state}
@@ -11,7 +10,6 @@ use Rattle.flat_ether.specs.declared.neighbour.Neighbour.{Neighbour}
 use Rattle.flat_ether.specs.declared.tallies.Tallies.{Tallies}
 use Rattle.flat_ether.specs.declared.error.NetFault.{NetFault}
 use Rattle.flat_model.specs.Amounts.Choice.{Choice}
-use Rattle.flat_model.specs.Machine.Event.{Tick, Done}
 use Rattle.flat_model.specs.Scripts.Grammar.{words, IsHex}
 use Rattle.std.specs.List.{onto_first}
 use Rattle.flat_model.specs.declared.counters.Counters.{Counters}
@@ -19,8 +17,8 @@ use Rattle.flat_model.specs.declared.errno.Errno.{Errno}
 use Rattle.net_stack.specs.Runs.{AreCalls}
 use Rattle.net_stack.specs.Stack.{StackView, state_of}
 use Rattle.segment.specs.Frames.{IsErrorQueried, HasReceived}
-use Rattle.segment.specs.Law.{Act, AreActs, AgesLink, QueriesError, Calls, Ether, ReceivesFrame}
-use Rattle.segment.specs.Segment.{SegmentView, is_ether}
+use Rattle.segment.specs.Law.{Act, AreActs, QueriesError, Ether, ReceivesFrame}
+use Rattle.segment.specs.Segment.{SegmentView, is_linked}
 use Rattle.play_wire.specs.Acts.{IsMissing, IsStackLine, Outcome, Replied, Refused, call_turn}
 use Rattle.play_wire.specs.Inside.{HasCounted, HasNotCounted, IsAtHost, IsAtLink, IsAtStack, IsExchanged, IsKept, ReadsOfLink, bytes_asked, link_asks}
 use Rattle.play_wire.specs.LinkTexts.{error_text, received_text, neighbours_text, state_text}
@@ -248,18 +246,11 @@ link_shown place v state reply_line below f is = by (slice_get v.links place) re
 
 -- ---- ticks
 
-pub ticked : (place n : ℕ) (v mid w : SegmentView) (reply_line below : List ℕ) → is_some (slice_get v.links place) ≡
-    true
-    → AreActs v (map (Calls place) (replicate n (call_turn Tick Done))) mid
-    → AreActs mid (replicate n (Ether (AgesLink place))) w
-    → reply_line ≡ codes "ok" → below ≡ [] → IsAtLink place (Ticks n) v (Replied reply_line below) w
-ticked place n v mid w reply_line below there first aged text none = by (slice_get v.links place) refl
+pub ticked : (place n : ℕ) (v w : SegmentView) (reply_line below : List ℕ) → is_some (slice_get v.links place) ≡ true
+    → AreActs v (ticks_at place n) w → reply_line ≡ codes "ok" → below ≡ []
+    → IsAtLink place (Ticks n) v (Replied reply_line below) w
+ticked place n v w reply_line below there acts text none = by (slice_get v.links place) refl
   where
-    acts : AreActs v (ticks_at place n) w
-    acts =
-        acts_append v mid w (map (Calls place) (replicate n (call_turn Tick Done)))
-        (replicate n (Ether (AgesLink place))) first aged
-
     by : (x : Option LinkState) → slice_get v.links place ≡ x → IsAtLink place (Ticks n) v (Replied reply_line below) w
     by None e = absurd (never (sym (ap is_some e) ∙ there))
       where
@@ -407,28 +398,18 @@ counted_so place v stack link e f =
     let l = some_is (λ (l : LinkState). l.tallies) (slice_get v.links place) link (sym f) in
     (s.0, l.0, (s.1, l.1), sym s.2, sym l.2)
 
--- ticks of a stack that was exchanged and put back
-pub stack_ticked : (place n : ℕ) (v mid w : SegmentView) (spare s t other : StackView) (b : Bool)
-    → IsExchanged place v spare mid s → AreCalls s (replicate n (call_turn Tick Done)) t
-    → Choice b (IsExchanged place mid t w other) (IsKept place mid w)
-    → AreActs v (map (Calls place) (replicate n (call_turn Tick Done))) w × (w.links ≡ v.links)
-stack_ticked place n v mid w spare s t other b first calls back =
-    let put = put_back place v mid w spare s t other b first back in (
-      subst (λ (x : SegmentView). AreActs v (map (Calls place) (replicate n (call_turn Tick Done))) x) (sym put.1)
-          (calls_are_acts place v (replicate n (call_turn Tick Done)) s t put.0 calls),
-      ap (λ (x : SegmentView). x.links) put.1,
-    )
-
-some_ether : (place : ℕ) (links : List LinkState) → is_some (slice_get links place) ≡ true
-    → not (length links == 0) ≡ true
-some_ether place [] e = absurd (never e)
+-- a host with a link that isn't on an Ethernet has no stack
+pub not_linked : (place : ℕ) (ask : LinkAsk) (v : SegmentView) → is_some (slice_get v.links place) ≡ true
+    → is_linked place v ≡ false → IsAtLink place ask v (Refused fault.NoHost) v
+not_linked place ask v link is = by (slice_get v.stacks place) (slice_get v.links place) refl refl
   where
     never : false ≡ true → ⊥
     never g = cc
-some_ether place (l ∷ links) e = ap not (eqb-suc-zero (length links))
 
--- a host with a link is on an Ethernet
-pub link_is_ether : (place : ℕ) (v w : SegmentView) → is_some (slice_get v.links place) ≡ true → w.links ≡ v.links
-    → is_ether w ≡ true
-link_is_ether place v w there same =
-    ap (λ (links : List LinkState). not (length links == 0)) same ∙ some_ether place v.links there
+    by : (x : Option StackView) (y : Option LinkState) → slice_get v.stacks place ≡ x → slice_get v.links place ≡ y
+        → IsAtLink place ask v (Refused fault.NoHost) v
+    by None y e f = no_host place ask v e
+    by (Some s) None e f = absurd (never (sym (ap is_some f) ∙ link))
+    by (Some s) (Some l) e f =
+        absurd (never (sym is ∙ both_true (nat_lt place (length v.stacks)) (nat_lt place (length v.links))
+        (there_lt v.stacks place s e) (there_lt v.links place l f)))

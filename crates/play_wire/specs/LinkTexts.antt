@@ -11,7 +11,7 @@ use Rattle.flat_ether.specs.declared.neighbour.Neighbour.{Neighbour}
 use Rattle.flat_ether.specs.declared.tallies.Tallies.{Tallies}
 use Rattle.play_script.specs.Outcomes.{reply_line, drops_text}
 use Rattle.play_wire.specs.declared.link_count.LinkCount.{LinkCount}
-use Rattle.play_wire.specs.declared.link_count.LinkCount.TheVariants.{Ignored, Martians, BadArp, Conflicts, RepliesDropped, NoRoute, HeldDropped, Unresolved, TooLong, Echoes, Unreachable, Limited, IcmpDropped}
+use Rattle.play_wire.specs.declared.link_count.LinkCount.TheVariants.{Ignored, Martians, BadArp, Conflicts, RepliesDropped, NoRoute, HeldDropped, Unresolved, TooLong, Echoes, Unreachable, Limited, IcmpDropped, Expired}
 
 -- ---- neighbours
 
@@ -35,6 +35,7 @@ link_count_name Echoes = codes "echoes"
 link_count_name Unreachable = codes "unreachable"
 link_count_name Limited = codes "limited"
 link_count_name IcmpDropped = codes "icmp_dropped"
+link_count_name Expired = codes "expired"
 
 abbrev pub link_count : LinkCount → Tallies → ℕ
 link_count Ignored it = it.ignored
@@ -50,6 +51,7 @@ link_count Echoes it = it.echoes
 link_count Unreachable it = it.unreachable
 link_count Limited it = it.limited
 link_count IcmpDropped it = it.icmp_dropped
+link_count Expired it = it.expired
 
 -- in the order in which they're printed
 abbrev pub all_link_counts : List LinkCount
@@ -67,6 +69,7 @@ all_link_counts =
     ∷ Unreachable
     ∷ Limited
     ∷ IcmpDropped
+    ∷ Expired
     ∷ []
 
 -- a count that went up

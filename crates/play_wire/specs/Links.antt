@@ -1,17 +1,16 @@
 -- The requests of lines to the link of a host on an Ethernet, and their outcomes (this project's own).
-use Rattle.std.specs.Prelude.{◌≡◌, ◌≢◌, ◌⊎◌, ℕ, Bool, true, false, List, [], ◌∷◌, ◌++◌, codes, map, replicate, slice_get, Option, Some, None, Result}
+use Rattle.std.specs.Prelude.{◌≡◌, ◌≢◌, ◌⊎◌, ℕ, Bool, true, false, List, [], ◌∷◌, ◌++◌, codes, replicate, slice_get, Option, Some, None, Result}
 use Rattle.std.specs.List.{find}
 use Rattle.flat_ether.specs.Claims.{address_state}
 use Rattle.flat_ether.specs.Links.{LinkState}
 use Rattle.flat_ether.specs.declared.error.NetFault.{NetFault}
-use Rattle.flat_model.specs.Machine.Event.{Tick, Done}
 use Rattle.flat_model.specs.Scripts.Grammar.{words, IsHex}
 use Rattle.flat_model.specs.declared.errno.Errno.{Errno}
 use Rattle.net_stack.specs.Stack.{StackView, state_of}
 use Rattle.segment.specs.Frames.{IsErrorQueried, HasReceived}
-use Rattle.segment.specs.Law.{Act, AreActs, AgesLink, QueriesError, Calls, Ether, ReceivesFrame}
+use Rattle.segment.specs.Law.{Act, AreActs, QueriesError, Ether, ReceivesFrame, TicksHost}
 use Rattle.segment.specs.Segment.{SegmentView}
-use Rattle.play_wire.specs.Acts.{IsStackLine, Outcome, Replied, Refused, call_turn}
+use Rattle.play_wire.specs.Acts.{IsStackLine, Outcome, Replied, Refused}
 use Rattle.play_wire.specs.LinkTexts.{error_text, received_text, neighbours_text, state_text}
 use Rattle.play_wire.specs.Verbs.{IsOneNumber, IsTickCount}
 use Rattle.play_wire.specs.declared.fault.Fault.{Fault}
@@ -96,7 +95,7 @@ IsErrorReported place fd v acts outcome w =
 
 -- ticks of the stack and of its link
 abbrev pub ticks_at : ℕ → ℕ → List Act
-ticks_at place n = map (Calls place) (replicate n (call_turn Tick Done)) ++ replicate n (Ether (AgesLink place))
+ticks_at place n = replicate n (Ether (TicksHost place))
 
 -- the effect of a request to this link
 abbrev pub DoesAtLink : ℕ → LinkAsk → LinkState → SegmentView → List Act → Outcome → SegmentView → Type 0

@@ -20,10 +20,11 @@ pub(crate) enum LinkCount {
     Unreachable,
     Limited,
     IcmpDropped,
+    Expired,
 }
 
 /// Returns all of them, in the order in which they're printed.
-pub(crate) fn link_counts() -> [LinkCount; 13]
+pub(crate) fn link_counts() -> [LinkCount; 14]
     ensures { result ≡ all_link_counts }
 {
     [
@@ -40,6 +41,7 @@ pub(crate) fn link_counts() -> [LinkCount; 13]
         LinkCount::Unreachable,
         LinkCount::Limited,
         LinkCount::IcmpDropped,
+        LinkCount::Expired,
     ]
 }
 
@@ -63,6 +65,7 @@ impl LinkCount {
             LinkCount::Unreachable => "unreachable",
             LinkCount::Limited => "limited",
             LinkCount::IcmpDropped => "icmp_dropped",
+            LinkCount::Expired => "expired",
         }
     }
 
@@ -84,6 +87,7 @@ impl LinkCount {
             LinkCount::Unreachable => tallies.unreachable,
             LinkCount::Limited => tallies.limited,
             LinkCount::IcmpDropped => tallies.icmp_dropped,
+            LinkCount::Expired => tallies.expired,
         }
     }
 }

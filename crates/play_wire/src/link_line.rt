@@ -10,7 +10,7 @@ use crate::link_ask::LinkAsk;
 use crate::report_link::{Counts, report_error, report_frame, report_link, report_neighbours};
 use crate::spare::Counting;
 use crate::summary::counters_at;
-use crate::ticks::{age_link, exchange, tick_stack};
+use crate::ticks::tick_linked;
 use net_stack::Stack;
 use play_script::Report;
 use segment::Segment;
@@ -126,21 +126,13 @@ fn show_link(segment: &Segment, place: usize, report: &mut Report) -> Result<(),
 }
 
 /// `tick N`: lets N ticks pass at the host at a place and at its link, which it must have.
-fn tick(
-    segment: &mut Segment,
-    spare: &mut Stack,
-    place: usize,
-    count: u32,
-    report: &mut Report,
-) -> Result<(), Fault>
+fn tick(segment: &mut Segment, place: usize, count: u32, report: &mut Report) -> Result<(), Fault>
     requires { is_some (slice_get (view segment.old).links place) ≡ true }
     ensures { IsAtLink place (links.Ticks count) (view segment.old)
         (outcome_of result report.new.reply_line report.new.below) (view segment.new) }
 {
-    if exchange(segment, place, spare) {
-        tick_stack(spare, count);
-        exchange(segment, place, spare);
-        age_link(segment, place, count);
+    if segment.is_linked(place) {
+        tick_linked(segment, place, count);
         report.set_ok();
         Ok(())
     } else {
@@ -166,7 +158,7 @@ fn execute_there(
         LinkAsk::LastError(fd) => ask_error(segment, &mut counting.stack, place, fd, report),
         LinkAsk::Neighbours => show_neighbours(segment, place, report),
         LinkAsk::Counts => show_link(segment, place, report),
-        LinkAsk::Ticks(count) => tick(segment, &mut counting.stack, place, count, report),
+        LinkAsk::Ticks(count) => tick(segment, place, count, report),
         LinkAsk::Packets => Err(Fault::OnEthernet),
     }
 }

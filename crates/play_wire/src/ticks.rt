@@ -4,8 +4,8 @@ ghost use Rattle.flat_model.specs.Amounts.Choice.{Choice};
 ghost use Rattle.flat_model.specs.Machine.Event.{Tick, Done};
 ghost use Rattle.net_stack.specs.Runs.{AreCalls};
 ghost use Rattle.segment.specs.Inside.{view};
-ghost use Rattle.segment.specs.Law.{AgesLink, AreActs, Ether};
-ghost use Rattle.segment.specs.Segment.{is_ether};
+ghost use Rattle.segment.specs.Law.{AreActs, Ether, TicksHost};
+ghost use Rattle.segment.specs.Segment.{is_linked};
 ghost use Rattle.play_wire.specs.Acts.{AreLedTo, call_turn};
 ghost use Rattle.play_wire.specs.Inside.{IsExchanged, IsKept};
 
@@ -38,15 +38,15 @@ pub(crate) fn tick_stack(stack: &mut Stack, count: u32)
     }
 }
 
-/// Lets this many ticks pass at the link of the host at a place.
-pub(crate) fn age_link(segment: &mut Segment, place: usize, count: u32)
-    requires { is_ether (view segment.old) ≡ true }
-    ensures { AreActs (view segment.old) (replicate count (Ether (AgesLink place))) (view segment.new) }
+/// Lets this many ticks pass at the host at a place, which is on an Ethernet.
+pub(crate) fn tick_linked(segment: &mut Segment, place: usize, count: u32)
+    requires { is_linked place (view segment.old) ≡ true }
+    ensures { AreActs (view segment.old) (replicate count (Ether (TicksHost place))) (view segment.new) }
 {
-    let mut aged = 0;
-    while aged < count {
-        segment.age_link(place);
-        aged += 1;
+    let mut ticked = 0;
+    while ticked < count {
+        segment.tick_host(place);
+        ticked += 1;
     }
 }
 
@@ -61,14 +61,15 @@ fn tick_bare(segment: &mut Segment, spare: &mut Stack, place: usize, count: u32)
     }
 }
 
-/// Lets this many ticks pass at the host at a place and at its link, if it has one; if there is no such host, does
+/// Lets this many ticks pass at the host at a place, with its link, if it has one; if there is no such host, does
 /// nothing.
 fn tick_host(segment: &mut Segment, spare: &mut Stack, place: usize, count: u32)
     ensures { AreLedTo (view segment.old) (view segment.new) }
 {
-    tick_bare(segment, spare, place, count);
-    if segment.is_ether() {
-        age_link(segment, place, count);
+    if segment.is_linked(place) {
+        tick_linked(segment, place, count);
+    } else {
+        tick_bare(segment, spare, place, count);
     }
 }
 

@@ -19,7 +19,7 @@ use segment::Tallies;
 const SOCKETS: usize = MAX_SOCKETS as usize;
 
 /// How many counts a link has.
-const COUNTS: usize = 13;
+const COUNTS: usize = 14;
 
 /// A snapshot of a host: of its stack, and of its link's counters.
 #[derive(Clone, Copy)]

@@ -1,11 +1,11 @@
 -- If no host is on an Ethernet at the end, none ever was.
-use Rattle.std.proofs.Common.{◌≡◌, ◌≢◌, ◌⊎◌, inl, inr, ℕ, true, false, List, [], ◌∷◌, length, suc, Option, None, Some, refl, sym, ap, ◌∙◌, arith}
-use Rattle.std.specs.Prelude.{◌==◌, not, slice_get, slice_set}
+use Rattle.std.proofs.Common.{◌≡◌, ◌≢◌, ◌⊎◌, inl, inr, ℕ, true, false, List, [], ◌∷◌, length, suc, refl, sym, ap, ◌∙◌, arith}
+use Rattle.std.specs.Prelude.{◌==◌, not, slice_set}
 use Rattle.std.proofs.Math.ListN.{length-set}
 use Rattle.std.proofs.lemmas.Bool.Decides.{eqb_tells}
-use Rattle.flat_ether.specs.Links.{LinkState, link_up, ticks}
-use Rattle.segment.specs.Frames.{IsHostStep, aged_in}
-use Rattle.segment.specs.Law.{Act, Ether, EtherAct, JoinsEther, CollectsFrames, DeliversFrames, ReceivesFrame, QueriesError, AgesLink, Joins, Calls, Collects, Delivers, Impairs, Seeds, Loses, Repeats, Swaps, IsAct, IsEtherAct, AreActs}
+use Rattle.flat_ether.specs.Links.{LinkState, link_up}
+use Rattle.segment.specs.Frames.{IsHostStep}
+use Rattle.segment.specs.Law.{Act, Ether, EtherAct, JoinsEther, CollectsFrames, DeliversFrames, ReceivesFrame, QueriesError, TicksHost, Joins, Calls, Collects, Delivers, Impairs, Seeds, Loses, Repeats, Swaps, IsAct, IsEtherAct, AreActs}
 use Rattle.segment.specs.Segment.{SegmentView, is_ether}
 use Rattle.segment.proofs.BareActs.{AreBare, IsBare}
 use Rattle.segment.proofs.History.{get_within, length-last}
@@ -30,11 +30,6 @@ no_step place R old new step none =
     ap (λ (v : SegmentView). length v.links) (sym step.is) ∙ ap length none in
     absurd (omega (arith, some, len, same))
 
-pub aged_length : (links : List LinkState) (place : ℕ) (o : Option LinkState)
-    → length (aged_in links place o) ≡ length links
-aged_length links place None = refl
-aged_length links place (Some l) = length-set links place (ticks l)
-
 no_ether : (act : EtherAct) (old new : SegmentView) → IsEtherAct old act new → new.links ≡ [] → ⊥
 no_ether (JoinsEther config link) old new is none =
     absurd (omega (arith, length-last old.links (link_up config link), ap length (sym is.links ∙ none)))
@@ -42,9 +37,7 @@ no_ether CollectsFrames old new is none = not_none old new.links is.0 is.1.links
 no_ether DeliversFrames old new is none = not_none old new.links is.0 is.1.links none
 no_ether (ReceivesFrame place frame) old new is none = no_step place _ old new is none
 no_ether (QueriesError place fd fault) old new is none = no_step place _ old new is none
-no_ether (AgesLink place) old new is none =
-    not_none old new.links is.0
-    (ap (λ (v : SegmentView). length v.links) is.1 ∙ aged_length old.links place (slice_get old.links place)) none
+no_ether (TicksHost place) old new is none = no_step place _ old new is none
 
 before : (act : Act) (old new : SegmentView) → IsAct old act new → new.links ≡ [] → (old.links ≡ []) × IsBare act
 before (Ether act) old new is none = absurd (no_ether act old new is none)

@@ -10,21 +10,20 @@ use Rattle.flat_model.specs.Machine.State.{State}
 use Rattle.flat_model.specs.Machine.Step.{Step}
 use Rattle.flat_model.specs.Runs.Run.{Turn}
 use Rattle.flat_model.specs.declared.config.Config.{Config}
-use Rattle.flat_ether.specs.Hosts.{Host, HostAct, AreHostActs, Ages, Asks_error, Comes_in, gives, host_up, last_error}
+use Rattle.flat_ether.specs.Hosts.{Host, HostAct, AreHostActs, Asks_error, Clock, Comes_in, Ticks, gives, host_up, last_error}
 use Rattle.flat_ether.specs.Hosts as host
 use Rattle.flat_ether.specs.Laws.{frames_out}
-use Rattle.flat_ether.specs.Links.{LinkState, link_up, ticks}
+use Rattle.flat_ether.specs.Links.{LinkState, link_up}
 use Rattle.flat_ether.specs.declared.link.Link.{Link}
 use Rattle.flat_ether.specs.declared.sizes.TheConstants.{ETHER_MTU}
 use Rattle.ether_host.specs.View.{halves}
 use Rattle.net_stack.specs.Stack.{StackView, state_of}
-use Rattle.segment.specs.EtherLaw.{GoByFrames, GoesByFrames, acts_of, host_of_halves, coming, coming_in, ether_acts, host_acts, host_at, if_host, takes_if, taking, taking_in, then_takes}
+use Rattle.segment.specs.EtherLaw.{GoByFrames, GoesByFrames, acts_of, host_of_halves, coming, coming_in, host_acts, host_at, if_host, takes_if, taking, taking_in, then_takes}
 use Rattle.segment.specs.Flying.{Flying}
-use Rattle.segment.specs.Frames.{FrameComes, ReceiveEach, IsEtherJoined, IsHostStep, aged_in, frames_given, frames_to, hosts_of, link_aged, or_more}
-use Rattle.segment.specs.Law.{Act, Ether, Joins, Calls, Collects, Delivers, Impairs, Seeds, Loses, Repeats, Swaps, AreActs, IsAct, IsHostCalled, JoinsEther, CollectsFrames, DeliversFrames, ReceivesFrame, QueriesError, AgesLink}
+use Rattle.segment.specs.Frames.{FrameComes, ReceiveEach, IsEtherJoined, IsHostStep, frames_given, frames_to, hosts_of, or_more}
+use Rattle.segment.specs.Law.{Act, Ether, Joins, Calls, Collects, Delivers, Impairs, Seeds, Loses, Repeats, Swaps, AreActs, IsAct, IsHostCalled, JoinsEther, CollectsFrames, DeliversFrames, ReceivesFrame, QueriesError, TicksHost}
 use Rattle.segment.specs.Segment.{SegmentView, AreBoth, AtEach, leaving}
 use Rattle.segment.specs.declared.links.TheConstants.{FRAMES}
-use Rattle.segment.proofs.Bare.{aged_length}
 use Rattle.segment.proofs.History.{get_within, length-last}
 use Rattle.segment.proofs.Walking.{get_set_same, get_set_other}
 
@@ -239,12 +238,6 @@ module _ (k : ℕ) (c : Config) (t : Host) where
   stack_set stacks links place s other = ap (λ x. host_of_halves x (slice_get links k))
       (get_set_other stacks place k s other)
 
-  link_set : (stacks : List StackView) (links : List LinkState) (place : ℕ) (l : LinkState) → place ≢ k
-      → host_of_halves (slice_get stacks k) (slice_get (slice_set links place l) k)
-      ≡ host_of_halves (slice_get stacks k) (slice_get links k)
-  link_set stacks links place l other = ap (λ y. host_of_halves (slice_get stacks k) y)
-      (get_set_other links place k l other)
-
   abbrev after_call : SegmentView → ℕ → StackView → Option Host
   after_call old place s = host_of_halves (slice_get (slice_set old.stacks place s) k) (slice_get old.links k)
 
@@ -292,7 +285,7 @@ module _ (k : ℕ) (c : Config) (t : Host) where
           both_each _ _ _ _ _ (ap (λ x. host_of_halves x (slice_get old.links k)) (sym here))
           (ap (λ x. host_of_halves x (slice_get old.links k)) (sym there)) (linked (slice_get old.links k))
 
-  -- a frame from outside, or a question for an error
+  -- a frame from outside, a question for an error, or a tick
   stepped : (act : HostAct) (place : ℕ) (R : Host → Host → Type 0) (acts : List HostAct) (old new : SegmentView)
       → ((h u : Host) → R h u → AreHostActs h (act ∷ []) u) → IsHostStep place R old new
       → BeginsHost c acts t (slice_get new.configs k) (host_at k new)
@@ -322,55 +315,6 @@ module _ (k : ℕ) (c : Config) (t : Host) where
           (subst (λ n. slice_get (slice_set old.links place is.link') n ≡ Some is.link') e
           (get_set_same old.links place is.link' (get_within old.links place is.link is.link_is)))
 
-  -- a link that is a tick older
-  aged : (place : ℕ) (acts : List HostAct) (old new : SegmentView) → new ≡ link_aged place old
-      → BeginsHost c acts t (slice_get new.configs k) (host_at k new)
-      → BeginsHost c (ether_acts k old (AgesLink place) ++ acts) t (slice_get old.configs k) (host_at k old)
-  aged place acts old new is from = go (slice_get old.links place) refl
-    where
-      older : BeginsHost c acts t (slice_get old.configs k) (host_at k (link_aged place old))
-      older = subst (λ (w : SegmentView). BeginsHost c acts t (slice_get w.configs k) (host_at k w)) is from
-
-      within : (o : Option LinkState) → slice_get old.links place ≡ o
-          → BeginsHost c acts t (slice_get old.configs k)
-          (host_of_halves (slice_get old.stacks k) (slice_get (aged_in old.links place o) k))
-      within o e =
-          subst (λ (x : Option LinkState). BeginsHost c acts t (slice_get old.configs k)
-          (host_of_halves (slice_get old.stacks k) (slice_get (aged_in old.links place x) k))) e older
-
-      no_link : (s : Option StackView) (x : Option LinkState) → x ≡ None
-          → AreBoth (λ h u. AreHostActs h (Ages ∷ []) u) (host_of_halves s x) (host_of_halves s x)
-      no_link None None e = tt
-      no_link (Some s) None e = tt
-      no_link None (Some l) e = tt
-      no_link (Some s) (Some l) e = absurd (none-some _ (sym e))
-
-      one : (s : Option StackView) (x y : Option LinkState) (l : LinkState) → x ≡ Some l → y ≡ Some (ticks l)
-          → AreBoth (λ h u. AreHostActs h (Ages ∷ []) u) (host_of_halves s x) (host_of_halves s y)
-      one s x y l e f =
-          both_each _ _ _ _ _ (ap (λ z. host_of_halves s z) (sym e)) (ap (λ z. host_of_halves s z) (sym f)) (by s)
-        where
-          by : (s : Option StackView)
-              → AreBoth (λ h u. AreHostActs h (Ages ∷ []) u) (host_of_halves s (Some l))
-              (host_of_halves s (Some (ticks l)))
-          by None = tt
-          by (Some s) = (halves s (ticks l), refl, refl)
-
-      go : (o : Option LinkState) → slice_get old.links place ≡ o
-          → BeginsHost c (ether_acts k old (AgesLink place) ++ acts) t (slice_get old.configs k) (host_at k old)
-      go None e =
-          one_went Ages place acts (slice_get old.configs k) (host_at k old) (host_at k old)
-          (λ same. no_link (slice_get old.stacks k) (slice_get old.links k)
-          (subst (λ n. slice_get old.links n ≡ None) same e)) (λ other. refl) (within None e)
-      go (Some l) e =
-          one_went Ages place acts (slice_get old.configs k) (host_at k old)
-          (host_of_halves (slice_get old.stacks k) (slice_get (slice_set old.links place (ticks l)) k))
-          (λ same. one (slice_get old.stacks k) (slice_get old.links k) _ l
-          (subst (λ n. slice_get old.links n ≡ Some l) same e)
-          (subst (λ n. slice_get (slice_set old.links place (ticks l)) n ≡ Some (ticks l)) same
-          (get_set_same old.links place (ticks l) (get_within old.links place l e))))
-          (link_set old.stacks old.links place (ticks l)) (within (Some l) e)
-
 -- ---- the number of links is the number of configurations
 
 pub even_on : (act : Act) (old new : SegmentView) → GoesByFrames act → IsAct old act new
@@ -386,9 +330,9 @@ even_on (Ether (ReceivesFrame place f)) old new framed is even =
 even_on (Ether (QueriesError place fd fault)) old new framed is even =
     subst (λ (w : SegmentView). length w.configs ≡ length w.links) (sym is.is)
     (even ∙ sym (length-set old.links place is.link'))
-even_on (Ether (AgesLink place)) old new framed is even =
-    subst (λ (w : SegmentView). length w.configs ≡ length w.links) (sym is.1)
-    (even ∙ sym (aged_length old.links place (slice_get old.links place)))
+even_on (Ether (TicksHost place)) old new framed is even =
+    subst (λ (w : SegmentView). length w.configs ≡ length w.links) (sym is.is)
+    (even ∙ sym (length-set old.links place is.link'))
 even_on (Joins d) old new framed is even = absurd framed
 even_on (Calls place turn) old new framed is even = ap length is.configs ∙ even ∙ sym (ap length is.links)
 even_on (Collects found) old new framed is even = absurd framed
@@ -429,7 +373,8 @@ module _ (k : ℕ) (c : Config) (t : Host) where
   one_act (Ether (QueriesError place fd fault)) acts old new framed is even from =
       stepped k c t (Asks_error fd fault) place (λ h u. (fault, u) ≡ last_error fd h) acts old new
       (λ h u asked. (u, asked, refl)) is from
-  one_act (Ether (AgesLink place)) acts old new framed is even from = aged k c t place acts old new is.1 from
+  one_act (Ether (TicksHost place)) acts old new framed is even from =
+      stepped k c t Clock place Ticks acts old new (λ h u ticked. (u, ticked, refl)) is from
   one_act (Joins d) acts old new framed is even from = absurd framed
   one_act (Calls place turn) acts old new framed is even from = called k c t place turn acts old new is from
   one_act (Collects found) acts old new framed is even from = absurd framed

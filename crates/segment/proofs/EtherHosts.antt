@@ -10,13 +10,13 @@ use Rattle.flat_model.specs.declared.config.Config.{Config}
 use Rattle.flat_model.proofs.Laws.{each-weaker}
 use Rattle.flat_ether.specs.Hosts.{Host, HostAct, AreHostActs, host_up}
 use Rattle.flat_ether.specs.Laws.{AreAmongHosts, IsUnforged, frames_in, frames_out}
-use Rattle.flat_ether.specs.Links.{LinkState, link_up, ticks}
+use Rattle.flat_ether.specs.Links.{LinkState, link_up}
 use Rattle.flat_ether.specs.declared.link.Link.{Link}
 use Rattle.ether_host.specs.View.{halves}
 use Rattle.net_stack.specs.Stack.{StackView}
 use Rattle.segment.specs.EtherLaw.{GoByFrames, AreOnEtherSegment, GoesByFrames, acts_of, host_of_halves, coming, coming_in, frames_received_by, host_acts, host_at, if_host, taking_in}
-use Rattle.segment.specs.Frames.{ReceiveEach, aged_in, frames_given, frames_to}
-use Rattle.segment.specs.Law.{Act, Ether, Joins, Calls, Collects, Delivers, Impairs, Seeds, Loses, Repeats, Swaps, AreActs, IsAct, JoinsEther, CollectsFrames, DeliversFrames, ReceivesFrame, QueriesError, AgesLink}
+use Rattle.segment.specs.Frames.{ReceiveEach, frames_given, frames_to}
+use Rattle.segment.specs.Law.{Act, Ether, Joins, Calls, Collects, Delivers, Impairs, Seeds, Loses, Repeats, Swaps, AreActs, IsAct, JoinsEther, CollectsFrames, DeliversFrames, ReceivesFrame, QueriesError, TicksHost}
 use Rattle.segment.specs.Segment.{SegmentView, AreBoth, are_apart, leaving, no_hosts}
 use Rattle.segment.specs.declared.links.TheConstants.{FRAMES}
 use Rattle.segment.proofs.EtherHistory.{at_place, even_on, host_began}
@@ -73,11 +73,6 @@ set_there (a ∷ xs) zero (suc k) y x e = (x, e)
 set_there (a ∷ xs) (suc place) zero y x e = (a, refl)
 set_there (a ∷ xs) (suc place) (suc k) y x e = set_there xs place k y x e
 
-aged_there : (links : List LinkState) (place k : ℕ) (o : Option LinkState) (l : LinkState) → slice_get links k ≡ Some l
-    → (m : LinkState) × (slice_get (aged_in links place o) k ≡ Some m)
-aged_there links place k None l e = (l, e)
-aged_there links place k (Some x) l e = set_there links place k (ticks x) l e
-
 within_some : {X : Type 0} (xs : List X) (k : ℕ) → k < length xs → (x : X) × (slice_get xs k ≡ Some x)
 within_some [] k less = absurd (omega (arith, less))
 within_some (x ∷ xs) zero less = (x, refl)
@@ -109,10 +104,11 @@ there_on k (Ether (QueriesError place fd fault)) old new h framed is e =
     let s = set_there old.stacks place k is.stack' p.0 p.2 in
     let l = set_there old.links place k is.link' p.1 p.3 in
     subst (λ (w : SegmentView). (u : Host) × (host_at k w ≡ Some u)) (sym is.is) (both_make _ _ s.0 l.0 s.1 l.1)
-there_on k (Ether (AgesLink place)) old new h framed is e =
+there_on k (Ether (TicksHost place)) old new h framed is e =
     let p = both_some (slice_get old.stacks k) (slice_get old.links k) h e in
-    let l = aged_there old.links place k (slice_get old.links place) p.1 p.3 in
-    subst (λ (w : SegmentView). (u : Host) × (host_at k w ≡ Some u)) (sym is.1) (both_make _ _ p.0 l.0 p.2 l.1)
+    let s = set_there old.stacks place k is.stack' p.0 p.2 in
+    let l = set_there old.links place k is.link' p.1 p.3 in
+    subst (λ (w : SegmentView). (u : Host) × (host_at k w ≡ Some u)) (sym is.is) (both_make _ _ s.0 l.0 s.1 l.1)
 there_on k (Joins d) old new h framed is e = absurd framed
 there_on k (Calls place turn) old new h framed is e =
     let p = both_some (slice_get old.stacks k) (slice_get old.links k) h e in
@@ -137,8 +133,8 @@ configs_on (Ether (ReceivesFrame place f)) old new framed is all =
     subst (λ (w : SegmentView). AllApart w.configs) (sym is.is) all
 configs_on (Ether (QueriesError place fd fault)) old new framed is all =
     subst (λ (w : SegmentView). AllApart w.configs) (sym is.is) all
-configs_on (Ether (AgesLink place)) old new framed is all =
-    subst (λ (w : SegmentView). AllApart w.configs) (sym is.1) all
+configs_on (Ether (TicksHost place)) old new framed is all =
+    subst (λ (w : SegmentView). AllApart w.configs) (sym is.is) all
 configs_on (Joins d) old new framed is all = absurd framed
 configs_on (Calls place turn) old new framed is all = subst AllApart (sym is.configs) all
 configs_on (Collects found) old new framed is all = absurd framed
@@ -212,7 +208,7 @@ module _ (k : ℕ) (f : List ℕ) where
       by (Some m) h = absurd (coming_none (frames_to k m.link.link.mac (leaving v).0) h)
   gave (Ether (ReceivesFrame other g)) v framed h = absurd (nothing (other == k) (host_at k v) _ refl h)
   gave (Ether (QueriesError other fd fault)) v framed h = absurd (nothing (other == k) (host_at k v) _ refl h)
-  gave (Ether (AgesLink other)) v framed h = absurd (nothing (other == k) (host_at k v) _ refl h)
+  gave (Ether (TicksHost other)) v framed h = absurd (nothing (other == k) (host_at k v) _ refl h)
   gave (Joins d) v framed h = absurd framed
   gave (Calls other turn) v framed h = absurd (nothing (other == k) (host_at k v) _ refl h)
   gave (Collects found) v framed h = absurd framed

@@ -3,13 +3,13 @@ use Rattle.std.proofs.Common.{◌≡◌, ℕ, List, [], ◌∷◌, ◌++◌, len
 use Rattle.std.specs.Prelude.{slice_get, ◌==◌, ◌&&◌, nat_lt, if◌then◌else◌, Contains}
 use Rattle.std.specs.List.{AllByRecursion as Each, cons_option}
 use Rattle.flat_model.proofs.Laws.{each-append, each-map_to, each-take, each-weaker}
-use Rattle.flat_ether.specs.Hosts.{Host, HostAct, Ages, Asks_error as Asked, Calls as Called, Comes_in as Comes}
+use Rattle.flat_ether.specs.Hosts.{Host, HostAct, Asks_error as Asked, Calls as Called, Clock, Comes_in as Comes}
 use Rattle.flat_ether.specs.Laws.{frame_in, frame_out, frames_in, frames_out}
 use Rattle.segment.specs.EtherLaw.{GoByFrames, acts_of, coming, coming_in, frames_received_by, host_acts, host_at, if_host, takes_if, taking, taking_in, then_takes}
 use Rattle.segment.specs.Chances.{entering}
 use Rattle.segment.specs.Flying.{Flying, sent_by}
 use Rattle.segment.specs.Frames.{AreFramesCollected, frame_goes_to, frames_below, frames_given, frames_of, frames_to, given_in, gives_short, hosts_in}
-use Rattle.segment.specs.Law.{Act, Ether, Joins, Calls, Collects, Delivers, Impairs, Seeds, Loses, Repeats, Swaps, AreActs, JoinsEther, CollectsFrames, DeliversFrames, ReceivesFrame, QueriesError, AgesLink}
+use Rattle.segment.specs.Law.{Act, Ether, Joins, Calls, Collects, Delivers, Impairs, Seeds, Loses, Repeats, Swaps, AreActs, JoinsEther, CollectsFrames, DeliversFrames, ReceivesFrame, QueriesError, TicksHost}
 use Rattle.segment.specs.Segment.{SegmentView, leaving}
 use Rattle.segment.specs.declared.links.TheConstants.{FRAMES}
 use Rattle.segment.proofs.Choosing.{each_entering, each_leaving, each_lost, each_repeated, each_stay, each_swapped}
@@ -180,11 +180,11 @@ module _ (P : List ℕ → Type 0) where
         (if_one (other == j) (host_at j v) (Asked fd fault) refl)
         (frames_come acts mid done framed.1 (subst (λ (w : SegmentView). Fly w.flight) (sym is.is) flies)
         (up_later (Ether (QueriesError other fd fault)) acts v mid done up) outside)
-    frames_come (Ether (AgesLink other) ∷ acts) v (mid, is, done) framed flies up outside =
-        none_first (host_acts j v (Ether (AgesLink other))) (acts_of j mid acts last done)
-        (if_one (other == j) (host_at j v) Ages refl)
-        (frames_come acts mid done framed.1 (subst (λ (w : SegmentView). Fly w.flight) (sym is.1) flies)
-        (up_later (Ether (AgesLink other)) acts v mid done up) outside)
+    frames_come (Ether (TicksHost other) ∷ acts) v (mid, is, done) framed flies up outside =
+        none_first (host_acts j v (Ether (TicksHost other))) (acts_of j mid acts last done)
+        (if_one (other == j) (host_at j v) Clock refl)
+        (frames_come acts mid done framed.1 (subst (λ (w : SegmentView). Fly w.flight) (sym is.is) flies)
+        (up_later (Ether (TicksHost other)) acts v mid done up) outside)
     frames_come (Joins d ∷ acts) v done framed flies up outside = absurd framed.0
     frames_come (Calls place turn ∷ acts) v (mid, is, done) framed flies up outside =
         none_first (host_acts j v (Calls place turn)) (acts_of j mid acts last done)
@@ -201,14 +201,17 @@ module _ (P : List ℕ → Type 0) where
         (up_later (Seeds seed) acts v mid done up) outside
     frames_come (Loses place ∷ acts) v (mid, is, done) framed flies up outside =
         frames_come acts mid done framed.1
-        (subst (λ (w : SegmentView). Fly w.flight) (sym is) (each_lost P place v.flight flies))
+        (subst (λ (w : SegmentView). Fly w.flight) (sym is)
+        (each_lost (λ (f : Flying). P f.packet) place v.flight flies))
         (up_later (Loses place) acts v mid done up) outside
     frames_come (Repeats place ∷ acts) v (mid, is, done) framed flies up outside =
         frames_come acts mid done framed.1
-        (subst (λ (w : SegmentView). Fly w.flight) (sym is) (each_repeated P v.room place v.flight flies))
+        (subst (λ (w : SegmentView). Fly w.flight) (sym is)
+        (each_repeated (λ (f : Flying). P f.packet) v.room place v.flight flies))
         (up_later (Repeats place) acts v mid done up) outside
     frames_come (Swaps place other ∷ acts) v (mid, is, done) framed flies up outside =
         frames_come acts mid done framed.1
         (subst (λ (w : SegmentView). Fly w.flight) (sym is)
-        (each_swapped P (nat_lt place (length v.flight) && nat_lt other (length v.flight)) place other v.flight flies))
+        (each_swapped (λ (f : Flying). P f.packet)
+        (nat_lt place (length v.flight) && nat_lt other (length v.flight)) place other v.flight flies))
         (up_later (Swaps place other) acts v mid done up) outside

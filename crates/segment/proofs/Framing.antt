@@ -6,7 +6,7 @@ use Rattle.std.proofs.Math.ListN.{length-set}
 use Rattle.std.proofs.lemmas.List.{append-nil, drop-set-lt, length-map, map-append}
 use Rattle.flat_ether.specs.Hosts.{Host}
 use Rattle.flat_model.specs.declared.config.Config.{Config}
-use Rattle.flat_ether.specs.Links.{LinkState, ticks}
+use Rattle.flat_ether.specs.Links.{LinkState}
 use Rattle.flat_ether.specs.declared.link.Link.{Link}
 use Rattle.flat_ether.specs.declared.mac.Mac.{Mac}
 use Rattle.ether_host.specs.Inside.{link_seen}
@@ -17,7 +17,7 @@ use Rattle.net_stack.specs.Stack.{StackView}
 use Rattle.net_stack.specs.declared.stack.BootFault.{BootFault}
 use Rattle.net_stack.specs.declared.stack.BootFault.TheVariants.{Memory, BadSizes, BadConfig}
 use Rattle.segment.specs.Flying.{Flying, sent_by}
-use Rattle.segment.specs.Frames.{ReceiveEach, IsEtherRefused, IsFree, aged_in, frame_goes_to, frames_below, frames_given, frames_to, given_in, gives_short, hosts_of, or_more}
+use Rattle.segment.specs.Frames.{ReceiveEach, IsEtherRefused, IsFree, frame_goes_to, frames_below, frames_given, frames_to, given_in, gives_short, hosts_of, or_more}
 use Rattle.segment.specs.Inside.{EachHost, flying}
 use Rattle.segment.specs.Segment.{SegmentView, AreBoth}
 use Rattle.segment.specs.declared.frame.Frame.{Frame}
@@ -262,15 +262,6 @@ pub below_past : (place : ℕ) (R : ℕ → Host → Host → Type 0) (old : Lis
     → frames_below old (place + 1) ≡ frames_below old place
 below_past place R old stacks links w past =
     below_none place R old (hosts_of stacks (map link_seen links)) w (omega (arith, hosts_short stacks links))
-
--- a link that is a tick older
-pub aged_here : (links : List LinkLayer) (place : ℕ) (l m : LinkLayer) → place < length links
-    → l ≡ get_or links place l → link_seen m ≡ ticks (link_seen l)
-    → map link_seen (slice_set links place m)
-    ≡ aged_in (map link_seen links) place (slice_get (map link_seen links) place)
-aged_here links place l m within is step =
-    map_set link_seen links place m ∙ ap (slice_set (map link_seen links) place) step
-    ∙ ap (aged_in (map link_seen links) place) (sym (map_get link_seen links place l within is))
 
 pub set_back : {X : Type 0} (xs : List X) (i : ℕ) (x : X) → slice_get xs i ≡ Some x → slice_set xs i x ≡ xs
 set_back [] i x e = refl

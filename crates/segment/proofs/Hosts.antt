@@ -37,7 +37,7 @@ get_last_or (z ∷ xs) x y (suc k) e = go (get_last_or xs x y k e)
     go (inl h) = inl h
     go (inr h) = inr (ap suc h.0, h.1)
 
-get_none : {X : Type 0} (xs : List X) (k : ℕ) → slice_get xs k ≡ None → length xs ≤ k
+pub get_none : {X : Type 0} (xs : List X) (k : ℕ) → slice_get xs k ≡ None → length xs ≤ k
 get_none [] k e = omega arith
 get_none (x ∷ xs) zero e = absurd (none-some _ (sym e))
 get_none (x ∷ xs) (suc k) e = omega (arith, get_none xs k e)

@@ -14,6 +14,11 @@ mod Apart
 mod Delivering
 mod Wires
 mod Bare
+mod Outputs
+mod Going
+mod Numbered
+mod Lifetimes
+mod EachAct
 mod OneWire
 mod Framing
 mod EtherHistory

@@ -48,7 +48,7 @@ into_comes : (packets : List (List ℕ)) → into (comes packets) ≡ packets
 into_comes [] = refl
 into_comes (p ∷ packets) = ap (λ ps. p ∷ ps) (into_comes packets)
 
-each_received : (Q : List ℕ → Type 0) (place : ℕ) (c : Config) (flight : List Flying)
+pub each_received : (Q : List ℕ → Type 0) (place : ℕ) (c : Config) (flight : List Flying)
     → Each (λ (f : Flying). Q f.packet) flight → Each Q (received place c flight)
 each_received Q place c [] h = tt
 each_received Q place c (f ∷ flight) h = go (goes_to place c f) (each_received Q place c flight h.1)
@@ -157,7 +157,8 @@ module _ (i j a : ℕ) (G : List ℕ → Type 0) where
   module _ (first : Config) (is_addr : a ≡ first.addr) (is_config : IsConfig first) (last : SegmentView)
       (whole : AreFine last) (first_is : slice_get last.configs i ≡ Some first) where
     -- no other host has a packet with the address
-    elsewhere : (acts : List Act) (v : SegmentView) → AreBare acts → AreFine v → AreActs v acts last → (k : ℕ) → i ≢ k
+    pub elsewhere : (acts : List Act) (v : SegmentView) → AreBare acts → AreFine v → AreActs v acts last → (k : ℕ)
+        → i ≢ k
         → Each (λ p. ¬ ComesFrom a p) (waiting_in (slice_get v.stacks k))
     elsewhere acts v bare fine done k other =
         subst (λ n. Each (λ p. ¬ ComesFrom n p) (waiting_in (slice_get v.stacks k))) (sym is_addr)
@@ -200,14 +201,17 @@ module _ (i j a : ℕ) (G : List ℕ → Type 0) where
         (subst (λ (w : SegmentView). Fly w.flight) (sym is) flies) (up_later (Seeds seed) acts up) outside
     wires (Loses place ∷ acts) v bare (mid, is, done) fine flies up outside =
         wires acts mid bare.1 done (act_fine (Loses place) v mid bare.0 fine is)
-        (subst (λ (w : SegmentView). Fly w.flight) (sym is) (each_lost P place v.flight flies))
+        (subst (λ (w : SegmentView). Fly w.flight) (sym is)
+        (each_lost (λ (f : Flying). P f.packet) place v.flight flies))
         (up_later (Loses place) acts up) outside
     wires (Repeats place ∷ acts) v bare (mid, is, done) fine flies up outside =
         wires acts mid bare.1 done (act_fine (Repeats place) v mid bare.0 fine is)
-        (subst (λ (w : SegmentView). Fly w.flight) (sym is) (each_repeated P v.room place v.flight flies))
+        (subst (λ (w : SegmentView). Fly w.flight) (sym is)
+        (each_repeated (λ (f : Flying). P f.packet) v.room place v.flight flies))
         (up_later (Repeats place) acts up) outside
     wires (Swaps place other ∷ acts) v bare (mid, is, done) fine flies up outside =
         wires acts mid bare.1 done (act_fine (Swaps place other) v mid bare.0 fine is)
         (subst (λ (w : SegmentView). Fly w.flight) (sym is)
-        (each_swapped P (nat_lt place (length v.flight) && nat_lt other (length v.flight)) place other v.flight
+        (each_swapped (λ (f : Flying). P f.packet)
+        (nat_lt place (length v.flight) && nat_lt other (length v.flight)) place other v.flight
         flies)) (up_later (Swaps place other) acts up) outside

@@ -5,7 +5,7 @@ use Rattle.flat_model.specs.declared.config.Config.{Config}
 use Rattle.flat_model.specs.declared.counter.Counter.TheVariants.{IpLocalout}
 use Rattle.flat_wire.specs.Wire.{ComesFrom}
 use Rattle.flat_ether.specs.Frames.{body_of}
-use Rattle.flat_ether.specs.Hosts.{Host, HostAct, Comes_in, Goes_out, Asks_error, Ages, gives}
+use Rattle.flat_ether.specs.Hosts.{Host, HostAct, Comes_in, Goes_out, Asks_error, Clock, gives}
 use Rattle.flat_ether.specs.Hosts as host
 use Rattle.flat_ether.specs.Laws.{packets_handed}
 use Rattle.flat_ether.specs.Links.{LinkState}
@@ -14,7 +14,7 @@ use Rattle.ether_host.specs.View.{halves}
 use Rattle.net_stack.specs.Stack.{StackView}
 use Rattle.segment.specs.Flying.{Flying}
 use Rattle.segment.specs.Frames.{frames_to, gives_short}
-use Rattle.segment.specs.Law.{Act, Ether, Joins, Calls, Collects, Delivers, Impairs, Seeds, Loses, Repeats, Swaps, AreActs, EtherAct, JoinsEther, CollectsFrames, DeliversFrames, ReceivesFrame, QueriesError, AgesLink}
+use Rattle.segment.specs.Law.{Act, Ether, Joins, Calls, Collects, Delivers, Impairs, Seeds, Loses, Repeats, Swaps, AreActs, EtherAct, JoinsEther, CollectsFrames, DeliversFrames, ReceivesFrame, QueriesError, TicksHost}
 use Rattle.segment.specs.Segment.{SegmentView, leaving, no_hosts}
 use Rattle.segment.specs.declared.links.TheConstants.{FRAMES}
 
@@ -70,7 +70,7 @@ ether_acts place v DeliversFrames = coming_in place (host_at place v) (leaving v
 ether_acts place v (ReceivesFrame other f) = if other == place then if_host (host_at place v) (Comes_in f) else []
 ether_acts place v (QueriesError other fd fault) =
     if other == place then if_host (host_at place v) (Asks_error fd fault) else []
-ether_acts place v (AgesLink other) = if other == place then if_host (host_at place v) Ages else []
+ether_acts place v (TicksHost other) = if other == place then if_host (host_at place v) Clock else []
 
 abbrev pub host_acts : ℕ → SegmentView → Act → List HostAct
 host_acts place v (Ether act) = ether_acts place v act

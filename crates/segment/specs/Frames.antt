@@ -5,8 +5,8 @@ use Rattle.flat_model.specs.Machine.State.{IsConfig, boot}
 use Rattle.flat_model.specs.declared.config.Config.{Config}
 use Rattle.flat_model.specs.declared.errno.Errno.{Errno}
 use Rattle.flat_ether.specs.Frames.{is_addressed, same_mac}
-use Rattle.flat_ether.specs.Hosts.{TakesFrame, Host, gives, last_error}
-use Rattle.flat_ether.specs.Links.{LinkState, link_up, ticks}
+use Rattle.flat_ether.specs.Hosts.{TakesFrame, Ticks, Host, gives, last_error}
+use Rattle.flat_ether.specs.Links.{LinkState, link_up}
 use Rattle.flat_ether.specs.Routes.{is_link}
 use Rattle.flat_ether.specs.declared.error.NetFault.{NetFault}
 use Rattle.flat_ether.specs.declared.link.Link.{Link}
@@ -140,13 +140,9 @@ HasReceived place f old new = IsHostStep place (FrameComes f) old new
 abbrev pub IsErrorQueried : ℕ → ℕ → Result (Option NetFault) Errno → SegmentView → SegmentView → Type 0
 IsErrorQueried place fd fault old new = IsHostStep place (λ h k. (fault, k) ≡ last_error fd h) old new
 
-abbrev pub aged_in : List LinkState → ℕ → Option LinkState → List LinkState
-aged_in links place None = links
-aged_in links place (Some l) = slice_set links place (ticks l)
-
--- the segment whose link at a place is a tick older, if there is one
-abbrev pub link_aged : ℕ → SegmentView → SegmentView
-link_aged place v = record v { links = aged_in v.links place (slice_get v.links place) }
+-- it's a tick older
+abbrev pub IsHostTicked : ℕ → SegmentView → SegmentView → Type 0
+IsHostTicked place old new = IsHostStep place Ticks old new
 
 -- ---- joining
 

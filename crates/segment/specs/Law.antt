@@ -12,20 +12,20 @@ use Rattle.flat_model.specs.declared.errno.Errno.{Errno}
 use Rattle.flat_ether.specs.declared.error.NetFault.{NetFault}
 use Rattle.flat_ether.specs.declared.link.Link.{Link}
 use Rattle.segment.specs.Flying.{comes, transmits_of}
-use Rattle.segment.specs.Frames.{AreFramesCollected, AreFramesDelivered, IsErrorQueried, IsEtherJoined, HasReceived, link_aged}
+use Rattle.segment.specs.Frames.{AreFramesCollected, AreFramesDelivered, IsErrorQueried, IsEtherJoined, IsHostTicked, HasReceived}
 use Rattle.segment.specs.Chances.{seeded}
 use Rattle.segment.specs.declared.chances.Chances.{Chances}
 use Rattle.segment.specs.Segment.{SegmentView, is_ether, IsCollected, HasComeDue, IsJoined, leaving, lost_at, no_hosts, repeated_at, swapped_at, received_in, waiting_in}
 
 -- What was done by hosts on an Ethernet: one joined; their frames were collected, or delivered; a frame from outside
--- arrived at the host at a place; an error of a socket was queried; or its link is a tick older.
+-- arrived at the host at a place; an error of a socket was queried; or its stack and its link are a tick older.
 pub data EtherAct : Type 0 where
   JoinsEther : (config : Config) (link : Link) → EtherAct
   CollectsFrames : EtherAct
   DeliversFrames : EtherAct
   ReceivesFrame : (place : ℕ) (frame : List ℕ) → EtherAct
   QueriesError : (place fd : ℕ) (fault : Result (Option NetFault) Errno) → EtherAct
-  AgesLink : (place : ℕ) → EtherAct
+  TicksHost : (place : ℕ) → EtherAct
 
 abbrev pub IsEtherAct : SegmentView → EtherAct → SegmentView → Type 0
 IsEtherAct old (JoinsEther config link) new = IsEtherJoined config link old new
@@ -33,7 +33,7 @@ IsEtherAct old CollectsFrames new = (is_ether old ≡ true) × AreFramesCollecte
 IsEtherAct old DeliversFrames new = (is_ether old ≡ true) × AreFramesDelivered old new
 IsEtherAct old (ReceivesFrame place frame) new = HasReceived place frame old new
 IsEtherAct old (QueriesError place fd fault) new = IsErrorQueried place fd fault old new
-IsEtherAct old (AgesLink place) new = (is_ether old ≡ true) × (new ≡ link_aged place old)
+IsEtherAct old (TicksHost place) new = IsHostTicked place old new
 
 -- what was done: a host joined; a call was made on the host at a place; from a segment in this state, what waited was
 -- collected or what was due was delivered; the chances for what the host at a place sends were set; the generator was

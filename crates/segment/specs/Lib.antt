@@ -5,4 +5,5 @@ pub mod Segment
 pub mod Frames
 pub mod Inside
 pub mod Law
+pub mod Delay
 pub mod EtherLaw

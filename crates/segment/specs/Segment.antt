@@ -48,6 +48,10 @@ no_hosts room =
 abbrev pub is_ether : SegmentView → Bool
 is_ether v = not (length v.links == 0)
 
+-- the host at a place has a stack and a link
+abbrev pub is_linked : ℕ → SegmentView → Bool
+is_linked place v = nat_lt place (length v.stacks) && nat_lt place (length v.links)
+
 -- both are there, and in this relation, or neither is there
 abbrev pub AreBoth : {A B : Type 0} → (A → B → Type 0) → Option A → Option B → Type 0
 AreBoth R None None = Unit {0}

@@ -14,6 +14,7 @@ ghost use Rattle.flat_ether.specs.Laws.{WasReceivedOnEthernet, WasSentOnEthernet
 ghost use Rattle.flat_ether.specs.declared.link.Link.{Link};
 ghost use Rattle.net_stack.specs.Stack.{StackView, state_of};
 ghost use Rattle.segment.specs.Segment.{SegmentView, is_ether, no_hosts};
+ghost use Rattle.segment.specs.Delay.{AreOnSegmentForEver};
 ghost use Rattle.segment.specs.Law.{Act, AreActs, AreOnSegment, AreOnSegmentWhole, turns_of};
 ghost use Rattle.segment.specs.EtherLaw.{AreOnEtherSegment, acts_of};
 
@@ -47,18 +48,30 @@ pub fn hosts_on_a_segment()
     stacks_on_a_wire();
 }
 
-/// The law of two hosts of a segment for a first one that never sends a datagram that is longer than one packet. It may
-/// send any number of them, at any rate, and the segment may delay them for any time. `received`: as in
-/// `hosts_on_a_segment`. `waits`: the same, whole, for each datagram in a queue of the second one.
+/// The law of two hosts of a segment without end, in two forms; the conclusions are those of `hosts_on_a_segment`, and
+/// the same, whole, for each datagram in a queue of the second one. `whole`, `whole_waits`: the first one never sends a
+/// datagram that is longer than one packet. It may send any number of them, at any rate, and the segment may delay them
+/// for any time. `received`, `waits`: it sends datagrams of any length, and its packets have no longer delay than
+/// `delay`. From a send on it sends at most 65,536 times, with this send, until these have happened one after another:
+/// what waits is collected, what is due is delivered `delay` + 1 times, and the second one's clock ticks 60 times.
 pub fn hosts_on_a_segment_for_ever()
-    ensures received { (room i j : ℕ) (first second : Config) (s t : StackView) (acts : List Act) (last : SegmentView)
+    ensures whole { (room i j : ℕ) (first second : Config) (s t : StackView) (acts : List Act) (last : SegmentView)
         (before after : List Turn) (fd most : ℕ) (sender : Addr) (bytes : List ℕ)
         → AreOnSegmentWhole room i j first second s t acts last
         → turns_of j acts ≡ before ++ record { event = Receive fd most; reply = Received sender bytes } ∷ after
         → sender.ip ≡ first.addr
         → WasSent exact_ledger exact_ledger first second (turns_of i acts) before (state_of s) fd most sender bytes }
+    ensures whole_waits { (room i j : ℕ) (first second : Config) (s t : StackView) (acts : List Act)
+        (last : SegmentView) → AreOnSegmentWhole room i j first second s t acts last
+        → AreAllSent exact_ledger first second (turns_of i acts) (state_of s) (state_of t) }
+    ensures received { (room i j : ℕ) (first second : Config) (s t : StackView) (acts : List Act) (last : SegmentView)
+        (delay : ℕ) (before after : List Turn) (fd most : ℕ) (sender : Addr) (bytes : List ℕ)
+        → AreOnSegmentForEver room i j first second s t acts last delay
+        → turns_of j acts ≡ before ++ record { event = Receive fd most; reply = Received sender bytes } ∷ after
+        → sender.ip ≡ first.addr
+        → WasSent exact_ledger exact_ledger first second (turns_of i acts) before (state_of s) fd most sender bytes }
     ensures waits { (room i j : ℕ) (first second : Config) (s t : StackView) (acts : List Act) (last : SegmentView)
-        → AreOnSegmentWhole room i j first second s t acts last
+        (delay : ℕ) → AreOnSegmentForEver room i j first second s t acts last delay
         → AreAllSent exact_ledger first second (turns_of i acts) (state_of s) (state_of t) }
 {
     stacks_on_a_wire_for_ever();

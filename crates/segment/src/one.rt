@@ -7,8 +7,9 @@ ghost use Rattle.flat_ether.specs.Claims.{address_state};
 ghost use Rattle.flat_ether.specs.declared.sizes.TheConstants.{ETHER_HEADER};
 ghost use Rattle.ether_host.specs.Inside.{link_seen};
 ghost use Rattle.ether_host.specs.View.{held_for};
-ghost use Rattle.segment.specs.Frames.{IsErrorQueried, IsEtherJoined, IsEtherRefused, IsFree, HasReceived, link_aged, other_mac};
+ghost use Rattle.segment.specs.Frames.{IsErrorQueried, IsEtherJoined, IsEtherRefused, IsFree, IsHostTicked, HasReceived, other_mac};
 ghost use Rattle.segment.specs.Inside.{view};
+ghost use Rattle.segment.specs.Segment.{is_linked};
 
 use crate::chances::NO_CHANCES;
 use crate::segment::{JoinFault, MAX_HOSTS, Segment, is_apart};
@@ -124,13 +125,25 @@ impl Segment {
         Some(self.links[place].last_error(&self.stacks[place], fd))
     }
 
-    /// The link of the host at a place is a tick older. A tick of its stack is a call of its own.
-    pub fn age_link(&mut self, place: usize)
-        ensures { view self.new ≡ link_aged place (view self.old) }
+    /// The clock of the host at a place ticks, in its stack and in its link: see `EtherHost::tick`. Returns whether
+    /// there is such a host on an Ethernet.
+    pub fn tick_host(&mut self, place: usize) -> bool
+        ensures is { result ≡ is_linked place (view self.old) }
+        ensures ticked { Choice result (IsHostTicked place (view self.old) (view self.new))
+            (view self.new ≡ view self.old) }
     {
-        if place < self.links.len() {
-            self.links[place].tick();
+        if place >= self.stacks.len() || place >= self.links.len() {
+            return false;
         }
+        self.links[place].tick(&mut self.stacks[place]);
+        true
+    }
+
+    /// Whether there is a host on an Ethernet at a place.
+    pub fn is_linked(&self, place: usize) -> bool
+        ensures { result ≡ is_linked place (view self.now) }
+    {
+        place < self.stacks.len() && place < self.links.len()
     }
 
     /// The neighbours of the host at a place. `None` if there is no such host on an Ethernet.

@@ -1,5 +1,5 @@
 -- The invariants of the fields of a table, and the index of a block (this project's own).
-use Rattle.std.specs.Prelude.{◌≡◌, ℕ, ◌+◌, ◌<◌, ◌≤◌, Bool, true, false, is_some, ◌&&◌, ◌==◌, List, length, get_or, slice_index_or, count_by, find, Option, Some, None, IsSome, unwrap_or}
+use Rattle.std.specs.Prelude.{◌≡◌, ℕ, ◌+◌, ◌<◌, ◌≤◌, Bool, true, false, is_some, ◌&&◌, ◌==◌, not, List, length, get_or, slice_index_or, count_by, find, Option, Some, None, IsSome, unwrap_or}
 use Rattle.params.specs.declared.TheConstants.{FIRST_DESCRIPTOR, FIRST_EPHEMERAL_PORT, LAST_EPHEMERAL_PORT}
 use Rattle.pcb_table.specs.Apart.{has_fd, has_four}
 use Rattle.pcb_table.specs.declared.block.Block.{Block}
@@ -57,7 +57,16 @@ is_connected b = is_some b.peer
 abbrev pub ImpliesNoneConnected : Bool → List Block → Type 0
 ImpliesNoneConnected none bs = none ≡ true → find is_connected bs ≡ None
 
+-- whether a block has a receive limit
+abbrev pub has_limit : Block → Bool
+has_limit b = not (b.receive_limit == 0)
+
+-- if the index says that none has a receive limit, none has
+abbrev pub ImpliesNoneLimited : Bool → List Block → Type 0
+ImpliesNoneLimited none bs = none ≡ true → find has_limit bs ≡ None
+
 -- what the index says of these blocks is true
 pub record IsIndexOf (bs : List Block) (i : Index) : Type 0 where
   pub ports : HasPorts bs i.ports
   pub none_connected : ImpliesNoneConnected i.none_connected bs
+  pub none_limited : ImpliesNoneLimited i.none_limited bs

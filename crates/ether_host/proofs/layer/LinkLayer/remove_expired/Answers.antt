@@ -4,7 +4,7 @@ use Rattle.std.proofs.lemmas.List.{length-map}
 use Rattle.flat_model.specs.Machine.Count.{more_by}
 use Rattle.flat_ether.specs.Claims.{claim_ticks}
 use Rattle.flat_ether.specs.declared.claim.Claim.{Claim}
-use Rattle.flat_ether.specs.declared.sizes.TheConstants.{UNREACHABLES}
+use Rattle.flat_ether.specs.declared.sizes.TheConstants.{ERRORS_A_TICK}
 use Rattle.flat_ether.specs.Links.{WaitingPacket, LinkState, neighbour_aged, is_resolvable, neighbour_stays}
 use Rattle.flat_ether.specs.declared.neighbour.Neighbour.{Neighbour}
 use Rattle.ether_host.specs.Inside.{link_seen}
@@ -16,7 +16,7 @@ use Rattle.ether_host.proofs.layer.LinkLayer.remove_expired.Goals as goal
 pub returns : goal.returns
 returns c =
     let s : LinkState =
-    record (link_seen c.args.self.now) { claim = claim_ticks c.args.self.now.claim; unreachables = UNREACHABLES } in
+    record (link_seen c.args.self.now) { claim = claim_ticks c.args.self.now.claim; errors_left = ERRORS_A_TICK } in
     let ps : List PacketBuffer = c.args.self.now.held.items in
     let ns : List Neighbour = filter neighbour_stays (map neighbour_aged s.neighbours) in
     let later : List WaitingPacket = filter (is_resolvable ns) s.held in

@@ -1,7 +1,7 @@
 use Rattle.std.proofs.Common.{ℕ, ◌+◌, List, ◌++◌, take, ap, ◌∙◌}
 use Rattle.flat_ether.specs.Icmp.{message, reflected}
 use Rattle.ether_host.proofs.Rooms.{quoted_front}
-use Rattle.ether_host.proofs.answer.unreachable_reply.Goals as goal
+use Rattle.ether_host.proofs.answer.error_reply.Goals as goal
 
 pub returns : goal.returns
 returns c =
@@ -9,6 +9,6 @@ returns c =
     c.put.ensures
     ∙ ap (λ (front : List ℕ). reflected c.args.config.now c.args.id c.args.came.now (front ++ rest))
     c.message_head-front.ensures.is
-    ∙ ap (λ (r : List ℕ). reflected c.args.config.now c.args.id c.args.came.now (message 3 c.args.code r))
+    ∙ ap (λ (r : List ℕ). reflected c.args.config.now c.args.id c.args.came.now (message c.args.kind c.args.code r))
     (ap (take (4 + c.min-quoted.result)) c.put_bytes.ensures
     ∙ quoted_front c.args.came.now _ c.min-quoted.result c.min-quoted.ensures)
