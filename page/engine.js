@@ -5,8 +5,8 @@
 // The meanings of the outcomes, by number (crates/page).
 const FAULTS = [
   "",
-  "bad sizes: a pool has 1 to 65,535 mbufs and 0 to 4,096 clusters",
-  "bad config: an MTU is 68 to 4,352, and the two addresses are different ones that hosts can have",
+  "mbufs must be 1 to 65,535, and clusters 0 to 4,096",
+  "the MTU must be 68 to 4,352, and both addresses those of hosts, and different",
   "no memory",
   "too many lines: at most 10,000,000, each of at most 1,048,576 bytes",
   "read failed",

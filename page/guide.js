@@ -255,7 +255,7 @@ function seeForms() {
 // For a line that did nothing: the command that was probably meant, and the forms of all lines.
 function mendView({ number, why }) {
   if (page.mode === "chain") return null;
-  const [, word, meant] = /^`([^`]+)` is no command \(`(\w+)`\?\)$/.exec(why) || [];
+  const [, word, meant] = /^unknown command `([^`]+)` \(`(\w+)`\?\)$/.exec(why) || [];
   const mend = () => {
     const place = page.notes.places[number - 1];
     const lines = page.notes.all.map((it, i) => (i === place ? it.replace(word, () => meant) : it));

@@ -48,7 +48,7 @@ function differenceOf(wanted, reply) {
   const i = words.findIndex((word, at) => at >= came.length || !isSameWord(word, came[at]));
   if (i < 0) return came.length > words.length ? `${quoted(came[words.length])} is missing` : "";
   if (words[i] === ".." && i === words.length - 1) return "";
-  return i < came.length ? `${quoted(came[i])} is right, not ${quoted(words[i])}` : `${quoted(words[i])} is too much`;
+  return i < came.length ? `${quoted(came[i])} is right, not ${quoted(words[i])}` : `${quoted(words[i])} is extra`;
 }
 
 // ---- the mbufs with the bytes

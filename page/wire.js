@@ -74,7 +74,7 @@ function stateOfAnswers(stat, usage, neighbours, link) {
 function neighbourIn(text) {
   const [, ip, mac, ticks] = /^ *(\S+) is at (\S+), (\d+) ticks? left/.exec(text) || [];
   if (mac) return { ip, mac, ticks: +ticks };
-  const [, asked, ...counts] = /^ *(\S+) is asked for, (\d+) of (\d+) requests sent, (\d+)/.exec(text) || [];
+  const [, asked, ...counts] = /^ *(\S+) is unresolved, (\d+) of (\d+) requests sent, (\d+)/.exec(text) || [];
   const [tries, most, waiting] = counts.map(Number);
   return { ip: asked, mac: null, tries, most, waiting };
 }

@@ -21,68 +21,68 @@ def rows(table):
 
 # Lines of a script for one host, and the error for each.
 MACHINE = {
-    "sokcet": "`sokcet` is no command (`socket`?)",
-    "Socket": "`Socket` is no command (`socket`?)",
-    "sock": "`sock` is no command (`socket`?)",
-    "recv 3 100": "`recv` is no command (`recvfrom`?)",
-    "recvform 3 100": "`recvform` is no command (`recvfrom`?)",
-    "sendot 3 10.0.0.2 7 -": "`sendot` is no command (`sendto`?)",
-    "setsokopt 3 broadcast 1": "`setsokopt` is no command (`setsockopt`?)",
-    "quit": "`quit` is no command",
-    "carry": "`carry` is for many hosts and belongs to none: such a script begins with `host NAME`",
-    "abcdefghijklmnopqrstuvwxyzabcdefgh": "`abcdefghijklmnopqrstuvwxyzabcdef..` is no command",
-    "bind 3 localhost 7": "`localhost` is no ADDR (such as 10.0.0.2): `bind FD ADDR PORT`",
-    "bind 3 10.0.0.1 70000": "`70000` is no PORT (0 to 65535): `bind FD ADDR PORT`",
-    "bind 3 10.0.0.1 07": "`07` is no PORT (0 to 65535): `bind FD ADDR PORT`",
-    "bind 10.0.0.1 7": "`10.0.0.1` is no FD (0 to 4294967295): `bind FD ADDR PORT`",
-    "connect 3 10.0.0.1": "PORT (0 to 65535) is missing: `connect FD ADDR PORT`",
-    "sendto 3 10.0.0.2 7": "BYTES (digits, \"text\" or @N) is missing: `sendto FD ADDR PORT BYTES`",
-    "recvfrom 3": "LEN (1 to 65535) is missing: `recvfrom FD LEN`",
-    "recvfrom 3 0": "`0` is no LEN (1 to 65535): `recvfrom FD LEN`",
-    "recvfrom 3 9 9": "`9` is one word too many: `recvfrom FD LEN`",
-    "setsockopt 3 nodelay 1": "`nodelay` is no OPT (broadcast, reuseport or rcvbuf): `setsockopt FD OPT ON`",
-    "setsockopt 3 broadcast on": "`on` is no ON (1 or 0): `setsockopt FD OPT ON`",
-    "setsockopt 3 broadcast 2": "`2` is no ON (1 or 0): `setsockopt FD OPT ON`",
-    "setsockopt 3 rcvbuf": "N (1 to 65535) is missing: `setsockopt FD rcvbuf N`",
-    "setsockopt 3 rcvbuf 0": "`0` is no N (1 to 65535): `setsockopt FD rcvbuf N`",
-    "setsockopt 3 rcvbuf 65536": "`65536` is no N (1 to 65535): `setsockopt FD rcvbuf N`",
-    "setsockopt 3 rcvbuf 1 1": "`1` is one word too many: `setsockopt FD rcvbuf N`",
-    "setsockopt x rcvbuf 1": "`x` is no FD (0 to 4294967295): `setsockopt FD rcvbuf N`",
-    "close": "FD (0 to 4294967295) is missing: `close FD`",
-    "socket 3": "`3` is one word too many: `socket`",
-    "tick 0": "`0` is no N (1 to 65535): `tick [N]`",
-    "tick 65536": "`65536` is no N (1 to 65535): `tick [N]`",
-    "show": "WHAT (sockets, unfinished, queue, counters or pool) is missing: `show WHAT`",
-    "show socket": "`socket` is no WHAT (sockets, unfinished, queue, counters or pool): `show WHAT`",
-    "=> ok": "no command stands in front of `=>`",
+    "sokcet": "unknown command `sokcet` (`socket`?)",
+    "Socket": "unknown command `Socket` (`socket`?)",
+    "sock": "unknown command `sock` (`socket`?)",
+    "recv 3 100": "unknown command `recv` (`recvfrom`?)",
+    "recvform 3 100": "unknown command `recvform` (`recvfrom`?)",
+    "sendot 3 10.0.0.2 7 -": "unknown command `sendot` (`sendto`?)",
+    "setsokopt 3 broadcast 1": "unknown command `setsokopt` (`setsockopt`?)",
+    "quit": "unknown command `quit`",
+    "carry": "`carry` needs hosts: begin the script with `host NAME`",
+    "abcdefghijklmnopqrstuvwxyzabcdefgh": "unknown command `abcdefghijklmnopqrstuvwxyzabcdef..`",
+    "bind 3 localhost 7": "expected ADDR (such as 10.0.0.2), got `localhost`: `bind FD ADDR PORT`",
+    "bind 3 10.0.0.1 70000": "expected PORT (0 to 65535), got `70000`: `bind FD ADDR PORT`",
+    "bind 3 10.0.0.1 07": "expected PORT (0 to 65535), got `07`: `bind FD ADDR PORT`",
+    "bind 10.0.0.1 7": "expected FD (0 to 4294967295), got `10.0.0.1`: `bind FD ADDR PORT`",
+    "connect 3 10.0.0.1": "missing PORT (0 to 65535): `connect FD ADDR PORT`",
+    "sendto 3 10.0.0.2 7": "missing BYTES (digits, \"text\" or @N): `sendto FD ADDR PORT BYTES`",
+    "recvfrom 3": "missing LEN (1 to 65535): `recvfrom FD LEN`",
+    "recvfrom 3 0": "expected LEN (1 to 65535), got `0`: `recvfrom FD LEN`",
+    "recvfrom 3 9 9": "unexpected `9`: `recvfrom FD LEN`",
+    "setsockopt 3 nodelay 1": "expected OPT (broadcast, reuseport or rcvbuf), got `nodelay`: `setsockopt FD OPT ON`",
+    "setsockopt 3 broadcast on": "expected ON (1 or 0), got `on`: `setsockopt FD OPT ON`",
+    "setsockopt 3 broadcast 2": "expected ON (1 or 0), got `2`: `setsockopt FD OPT ON`",
+    "setsockopt 3 rcvbuf": "missing N (1 to 65535): `setsockopt FD rcvbuf N`",
+    "setsockopt 3 rcvbuf 0": "expected N (1 to 65535), got `0`: `setsockopt FD rcvbuf N`",
+    "setsockopt 3 rcvbuf 65536": "expected N (1 to 65535), got `65536`: `setsockopt FD rcvbuf N`",
+    "setsockopt 3 rcvbuf 1 1": "unexpected `1`: `setsockopt FD rcvbuf N`",
+    "setsockopt x rcvbuf 1": "expected FD (0 to 4294967295), got `x`: `setsockopt FD rcvbuf N`",
+    "close": "missing FD (0 to 4294967295): `close FD`",
+    "socket 3": "unexpected `3`: `socket`",
+    "tick 0": "expected N (1 to 65535), got `0`: `tick [N]`",
+    "tick 65536": "expected N (1 to 65535), got `65536`: `tick [N]`",
+    "show": "missing WHAT (sockets, unfinished, queue, counters or pool): `show WHAT`",
+    "show socket": "expected WHAT (sockets, unfinished, queue, counters or pool), got `socket`: `show WHAT`",
+    "=> ok": "missing command before `=>`",
     **dict.fromkeys(
         (f"rx pcap{it}" for it in ("", " a 0-3", " a 2-1", " a 1-", " a -1", " a 1", " a 01-2", " a 1-4294967296",
                                    " a ticks 1-2", " a ticks ticks", " a 1-2 ticks x")),
-        "it's written otherwise: `rx pcap FILE [N-M] [ticks]`",
+        "expected `rx pcap FILE [N-M] [ticks]`",
     ),
 }  # fmt: skip
 # Lines of a script for two hosts, and the error for each.
 WIRE = {
-    "socket": "`socket` is asked of a host: `NAME: socket`",
-    "bind 3 0.0.0.0 7": "`bind` is asked of a host: `NAME: bind FD ADDR PORT`",
-    "cary": "`cary` is no command (`carry`?)",
-    "carry al": "it's written otherwise: `carry [all] [N]`",
-    "drop": "it's written otherwise: `drop PLACE`",
-    "tick 0": "`0` is no N (1 to 65535): `tick [N]`",
-    "show sockets": "it's written otherwise: `show wire`",
-    "frame 00": "`frame` is asked of a host: `NAME: frame BYTES`",
-    "a: frame": "BYTES (digits, \"text\" or @N) is missing: `frame BYTES`",
-    "a: frame 00": "that is asked of a host on an Ethernet: `host NAME ether ..`",
-    "a: show link": "that is asked of a host on an Ethernet: `host NAME ether ..`",
-    "a: error x": "`x` is no FD (0 to 4294967295): `error FD`",
-    "a: show wire": "`wire` is no WHAT (sockets, unfinished, queue, counters, pool, neighbours, link): `show WHAT`",
-    "a: sokcet": "`sokcet` is no command (`socket`?)",
-    "a: carry": "`carry` is for many hosts and belongs to none: such a script begins with `host NAME`",
-    "a: setsockopt 3 rcvbuf on": "`on` is no N (1 to 65535): `setsockopt FD rcvbuf N`",
-    "setsockopt 3 rcvbuf 1": "`setsockopt` is asked of a host: `NAME: setsockopt FD OPT ON`",
-    "a: close": "FD (0 to 4294967295) is missing: `close FD`",
-    "a: rx pcap a.pcap": "no capture is played in to one of many hosts",
-    "a: --mtu 576": "a host's settings stand in its line `host`",
+    "socket": "`socket` needs a host: `NAME: socket`",
+    "bind 3 0.0.0.0 7": "`bind` needs a host: `NAME: bind FD ADDR PORT`",
+    "cary": "unknown command `cary` (`carry`?)",
+    "carry al": "expected `carry [all] [N]`",
+    "drop": "expected `drop PLACE`",
+    "tick 0": "expected N (1 to 65535), got `0`: `tick [N]`",
+    "show sockets": "expected `show wire`",
+    "frame 00": "`frame` needs a host: `NAME: frame BYTES`",
+    "a: frame": "missing BYTES (digits, \"text\" or @N): `frame BYTES`",
+    "a: frame 00": "this needs a host on an Ethernet: `host NAME ether ..`",
+    "a: show link": "this needs a host on an Ethernet: `host NAME ether ..`",
+    "a: error x": "expected FD (0 to 4294967295), got `x`: `error FD`",
+    "a: show wire": "expected WHAT (sockets, unfinished, queue, counters, pool, neighbours, link), got `wire`: `show WHAT`",
+    "a: sokcet": "unknown command `sokcet` (`socket`?)",
+    "a: carry": "`carry` needs hosts: begin the script with `host NAME`",
+    "a: setsockopt 3 rcvbuf on": "expected N (1 to 65535), got `on`: `setsockopt FD rcvbuf N`",
+    "setsockopt 3 rcvbuf 1": "`setsockopt` needs a host: `NAME: setsockopt FD OPT ON`",
+    "a: close": "missing FD (0 to 4294967295): `close FD`",
+    "a: rx pcap a.pcap": "`rx pcap` needs a script without hosts",
+    "a: --mtu 576": "a host's settings must be in its `host` line",
 }
 
 
@@ -118,8 +118,7 @@ WORDS = {
     "LINK": "probe",
 }  # fmt: skip
 ANSWERED = re.compile(
-    r"this asks for nothing|no command|is no |is missing: |too many: |otherwise: |asked of a host|"
-    r"unknown word|expected |not an? "
+    r"unknown |unexpected |expected |missing |needs a host|must be "
 )
 
 
@@ -164,18 +163,18 @@ def test_a_byte_order_mark_in_front_changes_nothing(script, bsdplay):
 
 
 def test_a_byte_order_mark_in_the_second_line_is_part_of_a_word(bsdplay):
-    same("socket", printed(bsdplay, ["", f"{MARK}socket"]), [f"-:2: `{MARK}socket` is no command"])
+    same("socket", printed(bsdplay, ["", f"{MARK}socket"]), [f"-:2: unknown command `{MARK}socket`"])
 
 
 # ---- hosts that can't join -----------------------------------------------------------------------------------------
 
 # The error for a third host after 10.0.0.1 and 10.0.0.2.
 JOINS = {
-    "host c --addr 10.0.0.2": "hosts differ in `--addr` (default 10.0.0.1), and none has another's as --bcast",
-    "host c --addr 10.0.0.255": "hosts differ in `--addr` (default 10.0.0.1), and none has another's as --bcast",
-    "host c --addr 10.0.0.3 --mtu 67": "bad config",
-    "host c --addr 10.0.0.3 --mbufs 0": "bad sizes",
-    "host c ether --addr 10.0.0.3": "either all hosts are on an Ethernet, or none is",
+    "host c --addr 10.0.0.2": "--addr (default 10.0.0.1) must differ from each other host's --addr and --bcast",
+    "host c --addr 10.0.0.255": "--addr (default 10.0.0.1) must differ from each other host's --addr and --bcast",
+    "host c --addr 10.0.0.3 --mtu 67": "--mtu must be 68 to 4352, --addr a host's address, --bcast another address",
+    "host c --addr 10.0.0.3 --mbufs 0": "--mbufs must be 1 to 65535, --clusters 0 to 4096",
+    "host c ether --addr 10.0.0.3": "all hosts must be on an Ethernet, or none",
 }
 
 
@@ -186,12 +185,12 @@ def test_a_host_that_cannot_join_is_explained(line, bsdplay):
 
 # Lines of many hosts where they can't be: the lines before, the line, and the rule.
 OUT_OF_PLACE = {
-    "a host after a call": (["socket"], "host a", "`host` is for many hosts and belongs to none"),
-    "a wire of one machine": (["socket"], "wire a b", "`wire` is for many hosts and belongs to none"),
-    "the same address": (["host a"], "host b", "hosts differ in `--addr` (default 10.0.0.1)"),
-    "a host after the wire": (["host a", "wire a"], "host b --addr 10.0.0.2", "hosts come before `wire`"),
-    "carry without a wire": (["host a"], "carry", "`wire NAME ..` joins the hosts"),
-    "a wire of some": (["host a", "host b --addr 10.0.0.2"], "wire a", "`wire` names each host once"),
+    "a host after a call": (["socket"], "host a", "`host` needs hosts: begin the script"),
+    "a wire of one machine": (["socket"], "wire a b", "`wire` needs hosts: begin the script"),
+    "the same address": (["host a"], "host b", "--addr (default 10.0.0.1) must differ"),
+    "a host after the wire": (["host a", "wire a"], "host b --addr 10.0.0.2", "define hosts before `wire`"),
+    "carry without a wire": (["host a"], "carry", "join the hosts with `wire NAME ..`"),
+    "a wire of some": (["host a", "host b --addr 10.0.0.2"], "wire a", "`wire` must name each host once"),
 }
 
 
@@ -204,7 +203,7 @@ def test_a_message_about_hosts_says_the_rule(name, bsdplay):
 
 def test_64_hosts_can_join(bsdplay):
     lines = [f"host h{it} --addr 10.0.0.{it}" for it in range(1, 66)]
-    same("the 65th host", advice(bsdplay, lines[:64], lines[64]), ["-:65: there are 64 hosts already"])
+    same("the 65th host", advice(bsdplay, lines[:64], lines[64]), ["-:65: at most 64 hosts are possible"])
 
 
 # ---- hosts on an Ethernet ------------------------------------------------------------------------------------------
@@ -214,22 +213,22 @@ LINK = "host a ether --addr 10.0.0.1"
 ETHER = {
     LINK: "ok",
     "host b ether mac 02:00:00:00:00:01 --addr 10.0.0.2": "another host has this hardware address",
-    "host b ether mac 03:00:00:00:00:02": "`mac` takes the hardware address of a host, such as 02:00:00:00:00:01",
-    "host b ether mac 2:0:0:0:0:2": "`mac` takes the hardware address of a host, such as 02:00:00:00:00:01",
-    "host b ether mac": "`mac` takes the hardware address of a host, such as 02:00:00:00:00:01",
-    "host b ether mask 255.0.255.0": "`mask` takes ones, then zeros, such as 255.255.255.0",
-    "host b ether gateway 10.0.1.1": "a gateway is another address of the host's network, by its mask",
-    "host b ether gateway x": "a gateway is another address of the host's network, by its mask",
-    "host b ether lladdr x": "a link is `mac M`, `mask M`, `gateway A` and `probe`, in front of settings",
-    "host b ether --mtu 1501": "a frame takes a packet of 1500 bytes at most: `--mtu`",
-    "host b --addr 10.0.0.2": "either all hosts are on an Ethernet, or none is",
+    "host b ether mac 03:00:00:00:00:02": "`mac` must be a host's hardware address, such as 02:00:00:00:00:01",
+    "host b ether mac 2:0:0:0:0:2": "`mac` must be a host's hardware address, such as 02:00:00:00:00:01",
+    "host b ether mac": "`mac` must be a host's hardware address, such as 02:00:00:00:00:01",
+    "host b ether mask 255.0.255.0": "`mask` must be ones, then zeros, such as 255.255.255.0",
+    "host b ether gateway 10.0.1.1": "`gateway` must be another address of the host's network, by its mask",
+    "host b ether gateway x": "`gateway` must be another address of the host's network, by its mask",
+    "host b ether lladdr x": "expected `mac M`, `mask M`, `gateway A` or `probe`, then settings",
+    "host b ether --mtu 1501": "--mtu must be at most 1500 on an Ethernet",
+    "host b --addr 10.0.0.2": "all hosts must be on an Ethernet, or none",
     "host b ether gateway 10.1.1.1 probe mask 255.0.0.0 --addr 10.0.0.2": "ok",
     "wire a b": "ok",
-    "a: rx 00": "a host on an Ethernet takes frames: `frame BYTES`, or `carry`",
-    'a: rx udp 10.0.0.2:5 > 10.0.0.1:7 "x"': "a host on an Ethernet takes frames: `frame BYTES`, or `carry`",
-    "a: tx": "a host on an Ethernet takes frames: `frame BYTES`, or `carry`",
-    "a: frame zz": "it's written otherwise: `frame BYTES`",
-    "a: tick 0": "`0` is no N (1 to 65535): `tick [N]`",
+    "a: rx 00": "a host on an Ethernet needs frames: use `frame BYTES` or `carry`",
+    'a: rx udp 10.0.0.2:5 > 10.0.0.1:7 "x"': "a host on an Ethernet needs frames: use `frame BYTES` or `carry`",
+    "a: tx": "a host on an Ethernet needs frames: use `frame BYTES` or `carry`",
+    "a: frame zz": "expected `frame BYTES`",
+    "a: tick 0": "expected N (1 to 65535), got `0`: `tick [N]`",
     "a: tick": "ok",
     "a: frame -": "ok counted ignored",
     "a: show link": "uses its address",
@@ -239,7 +238,7 @@ ETHER = {
 ETHER_LINES = list(ETHER)
 # Next hops that no host has, to which a host sends packets, and the lines below `show neighbours` then. The host keeps
 # eight packets.
-ASKED = "is asked for, 1 of 5 requests sent"
+ASKED = "is unresolved, 1 of 5 requests sent"
 HELD = {
     "none": ([], []),
     "one packet": (["10.0.0.9"], [f"10.0.0.9 {ASKED}, 1 packet waits"]),
@@ -437,8 +436,8 @@ def test_objects_are_whole_if_a_packet_reaches_many_hosts(bsdplay):
 
 # ---- lines that begin with a time ----------------------------------------------------------------------------------
 
-NO_TIME = "a time is +0.5s or +2s, and a line follows it"
-NO_DIGIT = 'not a hex digit (a text stands in quotes: "hi")'
+NO_TIME = "expected a time (+0.5s, +2s), then a line"
+NO_DIGIT = 'expected a hex digit (put text in quotes: "hi")'
 PART = 'rx udp 10.0.0.2:9 > 10.0.0.1:7 "x"*16 at 0 more'
 GONE = ["+29.5s show unfinished => 1 ..", "+0.5s show unfinished => 0 .."]
 # Scripts, and what is printed for them. A datagram waits 30 seconds for its fragments.
@@ -461,9 +460,9 @@ TIMED = {
     "a fragment times out, after ticks": ([PART, "tick 59", "+0s show unfinished => 1 ..", GONE[1]], []),
     "settings": (
         ["+0s --mtu 576 => ok", "+0.5s --mtu 576"],
-        ["-:2: settings stand in front of all lines that ask for something"],
+        ["-:2: settings must come before all other lines"],
     ),
-    "no command": (["+1s sokcet"], ["-:1: `sokcet` is no command (`socket`?)"]),
+    "no command": (["+1s sokcet"], ["-:1: unknown command `sokcet` (`socket`?)"]),
 }
 TIMED_HOSTS = {
     "halves of a second": (
@@ -472,7 +471,7 @@ TIMED_HOSTS = {
     ),
     "columns": (
         ["+1s a: sendto 3 10.0.0.2 9 hi", "+1s  a: zz", "a: +1s tx"],
-        [f"-:4:28: {NO_DIGIT}", "-:5: `zz` is no command", "-:6:4: bytes are missing"],
+        [f"-:4:28: {NO_DIGIT}", "-:5: unknown command `zz`", "-:6:4: missing bytes"],
     ),
     "a fragment times out": (
         ['b: rx udp 10.0.0.1:9 > 10.0.0.2:7 "x"*16 at 0 more', "+29.5s b: show unfinished => 1 ..",

@@ -67,7 +67,7 @@ def reply_to(data, first=1, last=None, ticks=False):
     if fault:
         return fault, 0
     if last is not None and last > len(read):
-        return "error it has fewer records", 0
+        return "error too few records", 0
     return played(read[first - 1 : last], link, ticks)
 
 
@@ -311,7 +311,7 @@ STATUS = {
     "whole.pcap => ok ..": 0,
     "whole.pcap => error ..": 1,
     "nosuch.pcap": 1,
-    "nosuch.pcap => error it can't be opened": 0,
+    "nosuch.pcap => error can't be opened": 0,
     "nosuch.pcap => ok ..": 1,
     "cut.pcap": 1,
     "cut.pcap => error ..": 0,
@@ -333,7 +333,7 @@ def test_status(line, words, bsdplay, tmp_path):
     same(f"rx pcap {line}: status", ended.returncode, STATUS[line])
 
 
-ONE, LOST = "ok 1 packets, 0 others, 0 ticks", "error it can't be opened"
+ONE, LOST = "ok 1 packets, 0 others, 0 ticks", "error can't be opened"
 PLACES = [('rx pcap "cafe"', ONE), ("rx pcap cafe", LOST), ("rx pcap ./cafe", ONE), ("rx pcap nowhere", LOST),
           ("rx pcap .", "error reading failed"), ("rx pcap", "")]  # fmt: skip
 
@@ -408,5 +408,5 @@ def test_a_capture_that_cannot_be_written(name, bsdplay):
     script = of_lines(WRITING[name])
     ended, without = run(bsdplay, "--pcap", "/dev/full", script=script), run(bsdplay, script=script)
     same("what is printed", ended.stdout, without.stdout)
-    wanted = (4, b"bsdplay: the capture isn't whole, since a write failed\n")
+    wanted = (4, b"bsdplay: write failed: the capture is incomplete\n")
     same("status, and what is said", (ended.returncode, ended.stderr), wanted)

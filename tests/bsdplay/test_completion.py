@@ -31,6 +31,14 @@ def test_bsdplay(bsdplay):
     assert "README.md" in completed(bsdplay, "why", "READ")
 
 
+def test_values_have_the_names_of_the_page(bsdplay):
+    page = (TOP / "docs/scripts.md").read_text(encoding="utf-8")
+    usage = re.search(r"(?m)^    bsdplay \[--quiet\](?:.*\n)+?\n", page)[0]
+    for words in ([], ["why"]):
+        values = re.findall(r"(--[a-z-]+) <([^>]+)>", run(bsdplay, *words, "--help").stdout.decode())
+        assert len(values) >= 7 and not [it for it in values if " ".join(it) not in usage]
+
+
 def test_bsdudp(bsdudp):
     assert completed(bsdudp, "") == {"run", "chain"}
     assert completed(bsdudp, "chain", "--") == {"--mbufs", "--clusters"}

@@ -67,7 +67,7 @@ def right():
     yield "numbered_error.txt", TEXT.replace("error EWOULDBLOCK", "error 35 EWOULDBLOCK"), WHOLE
     yield "more_right.txt", TEXT + "socket => ok 4\n#? Was it hard => no\n", WHOLE
     yield "punctuation.txt", changed({FIRST: KEY[FIRST] + ".", LAST: KEY[LAST] + ","}), WHOLE
-    yield "reads_files.txt", TEXT + "rx pcap /etc/hostname => error it can't be opened\n", WHOLE
+    yield "reads_files.txt", TEXT + "rx pcap /etc/hostname => error can't be opened\n", WHOLE
 
 
 def failed():
@@ -220,7 +220,7 @@ def test_a_key_that_is_wrong_itself_grades_nobody(name, graded_by, tmp_path):
         (tmp_path / name).write_text(content, encoding="ascii")
     ended = graded_by("--grade", "--key", name, "right.txt")
     same(f"key {name}: {ended.stderr}", (ended.returncode, ended.stdout), (status, b""))
-    assert b"no hand-in is graded" in ended.stderr, ended.stderr
+    assert b"no hand-in was graded" in ended.stderr, ended.stderr
 
 
 @pytest.mark.parametrize(
@@ -260,14 +260,14 @@ BARE += b"#? How many\n#? And now => 3\nstat => ..\n"
 def test_strict_finds_each_line_without_an_expectation(bsdplay, tmp_path):
     (tmp_path / "bare.txt").write_bytes(BARE)
     ended = run(bsdplay, "--quiet", "--strict", "bare.txt", cwd=tmp_path)
-    places = [int(it) for it in re.findall(rb"(?m)^bare\.txt:(\d+): nothing is expected", ended.stdout)]
+    places = [int(it) for it in re.findall(rb"(?m)^bare\.txt:(\d+): missing expected reply", ended.stdout)]
     same("status and lines", (ended.returncode, places), (1, [5, 6, 7, 9]))
 
 
 def test_strict_finds_them_behind_a_byte_order_mark_as_objects(bsdplay):
     ended = run(bsdplay, "--strict", "--json", "-", script=MARK + BARE)
     found = [json.loads(it) for it in ended.stdout.splitlines() if b'"fault"' in it]
-    numbers = [it["number"] for it in found if "nothing is expected" in it["fault"]]
+    numbers = [it["number"] for it in found if "missing expected reply" in it["fault"]]
     same("status and lines", (ended.returncode, numbers), (1, [5, 6, 7, 9]))
 
 
@@ -285,7 +285,7 @@ FRAGMENTS = "--mtu 576\nsocket => ok 3\nsendto 3 10.0.0.2 5000 @1400 => ok 1400\
         ("2 packets ..", "; 3 is right, not 2"),
         ("3 packets, the next of 576 bytes", "; 572 is right, not 576"),
         ("3 packets", "; the is missing"),
-        ("3 packets, the next of 572 bytes each", "; each is too much"),
+        ("3 packets, the next of 572 bytes each", "; each is extra"),
     ],
 )
 def test_punctuation_is_ignored_and_the_wrong_word_is_named(reply, note, bsdplay, tmp_path):
@@ -302,8 +302,8 @@ def test_punctuation_is_ignored_and_the_wrong_word_is_named(reply, note, bsdplay
     "reply, note",
     [
         ("3 packets, the next of 572 bytes", ""),
-        ("3 packets ..", "; this reply comes, but leaves out words that the key wants"),
-        ("3 packets, the next of _ bytes", "; this reply comes, but leaves out words that the key wants"),
+        ("3 packets ..", "; it matches the reply, but omits words that the key requires"),
+        ("3 packets, the next of _ bytes", "; it matches the reply, but omits words that the key requires"),
     ],
 )
 def test_the_key_says_which_words_count(reply, note, bsdplay, tmp_path):
@@ -322,7 +322,7 @@ def test_another_answer_to_a_question_is_named(bsdplay, tmp_path):
         text = FRAGMENTS.format("3 packets ..") + f"#? At which byte => {answer}\n"
         (tmp_path / name).write_text(text, encoding="utf-8")
     ended = run(bsdplay, "--grade", "--key", tmp_path / "key.txt", tmp_path / "ann.txt")
-    assert ended.stdout.decode().endswith("first at line 5 of the key; another answer than the key's\n"), ended
+    assert ended.stdout.decode().endswith("first at line 5 of the key; the answer differs from the key's\n"), ended
 
 
 @pytest.mark.parametrize("form", [[], ["--csv"]], ids=["text", "csv"])
@@ -332,7 +332,7 @@ def test_a_failed_write_is_no_mark(form, bsdplay, tmp_path):
     with open("/dev/full", "wb") as full:
         ended = subprocess.run(list(map(str, words)), stdout=full, stderr=subprocess.PIPE, check=False)
     same("status and message", (ended.returncode, ended.stderr),
-         (4, b"bsdplay: write failed: not all grades are printed\n"))  # fmt: skip
+         (4, b"bsdplay: write failed: some grades are missing\n"))  # fmt: skip
 
 
 def limited(kilobytes, *words):
@@ -396,7 +396,7 @@ def test_an_exercise_is_played_up_to_its_first_open_line(key, how, bsdplay, tmp_
     words = {"strict": ["--strict"], "json": ["--json"]}.get(how, [])
     ended = run(bsdplay, *words, script=text) if how == "input" else run(bsdplay, *words, tmp_path / "hand.txt")
     name = "-" if how == "input" else str(tmp_path / "hand.txt")
-    first = f"bsdplay: {name}:{replies[0]}: this reply is open: write what you expect instead of ?\n"
+    first = f"bsdplay: {name}:{replies[0]}: missing expected reply: replace the ?\n"
     counts = f"bsdplay: {name}: open replies: {len(replies)}, open questions: {len(questions)}\n"
     same("status and messages", (ended.returncode, ended.stderr.decode()), (1, first + counts))
     assert not re.search(rb"got|=> (?!ok$)[^?]", ended.stdout, re.M), ended.stdout
@@ -421,7 +421,7 @@ def test_lines_are_played_as_soon_as_they_are_written(bsdplay):
 
 def test_strict_finds_a_carry_without_an_expectation(bsdplay):
     ended = run(bsdplay, "--quiet", "--strict", script="host a\nwire a\na: socket => ok 3\ncarry\n")
-    same("status and lines", (ended.returncode, re.findall(rb"(?m)^-:(\d+): nothing", ended.stdout)), (1, [b"4"]))
+    same("status and lines", (ended.returncode, re.findall(rb"(?m)^-:(\d+): missing", ended.stdout)), (1, [b"4"]))
 
 
 @pytest.mark.parametrize("key", EACH_KEY)

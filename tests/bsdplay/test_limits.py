@@ -12,24 +12,24 @@ from tests.pcaps import header, record
 
 HOSTS = ["host a", "host b --addr 10.0.0.2", "wire a b"]
 EMPTY = "a: sendto 3 10.0.0.2 7 -"
-PLACE = "no packet under way has this place"
-CHANCE = "a chance is 10%, 0.1 or 1/10, and a delay 0-3"
-CARRY = "it's written otherwise: `carry [all] [N]`"
+PLACE = "no packet is under way at this place"
+CHANCE = "expected a chance (10%, 0.1 or 1/10) or a delay (0-3)"
+CARRY = "expected `carry [all] [N]`"
 # For each limit the lines before, the last line that is accepted with its reply or message, and the next with its own.
 LINES = {
     "a name": (
         [], (f"host {'a' * 32}", "ok"),
-        (f"host {'a' * 33}", "a name is a letter, then letters, digits and _, 32 at most"),
+        (f"host {'a' * 33}", "a name must be a letter, then letters, digits and _, at most 32"),
     ),
     "carries": (HOSTS, ("carry 1000000", "quiet"), ("carry 1000001", CARRY)),
     "carries at most": (HOSTS, ("carry all 1000000", "quiet"), ("carry all 1000001", CARRY)),
     "the decimals of a chance": (HOSTS, ("loss 0.000001", "ok"), ("loss 0.0000001", CHANCE)),
     "the fraction of a chance": (HOSTS, ("reorder 1/1000000", "ok"), ("reorder 1/1000001", CHANCE)),
     "the carries of a delay": (HOSTS, ("delay 0-1000000", "ok"), ("delay 0-1000001", CHANCE)),
-    "a place to lose": (HOSTS, ("drop 65535", PLACE), ("drop 65536", "it's written otherwise: `drop PLACE`")),
+    "a place to lose": (HOSTS, ("drop 65535", PLACE), ("drop 65536", "expected `drop PLACE`")),
     "a place to repeat": (HOSTS, ("repeat 65535", PLACE), ("repeat 65536", CHANCE)),
     "places to exchange": (
-        HOSTS, ("swap 0 65535", PLACE), ("swap 0 65536", "it's written otherwise: `swap PLACE PLACE`")
+        HOSTS, ("swap 0 65535", PLACE), ("swap 0 65536", "expected `swap PLACE PLACE`")
     ),
 }  # fmt: skip
 

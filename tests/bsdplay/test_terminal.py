@@ -80,7 +80,7 @@ def test_a_prompt_and_replies_without_the_line(terminal):
     same("bind", terminal.reply("bind 3 0.0.0.0 7"), "ok\n")
     said = terminal.reply('rx udp 10.0.0.2:5000 > 10.0.0.1:9 "hi"')
     same("rx", said, "dropped no socket has the port\n    udp 10.0.0.2:5000 > 10.0.0.1:9, 2 bytes, id 1\n")
-    same("a wrong line", terminal.reply("sokcet"), "line:6: `sokcet` is no command (`socket`?)\n")
+    same("a wrong line", terminal.reply("sokcet"), "line:6: unknown command `sokcet` (`socket`?)\n")
     same("a wrong reply", terminal.reply("tx => ok"), "none\nline:7: expected ok, got none\n")
 
 
@@ -125,7 +125,7 @@ def test_many_hosts(terminal):
 
 @pytest.mark.needs("pty")
 def test_no_prompt_in_a_pipe_and_for_programs(bsdplay):
-    assert printed(bsdplay, ["socket", "help"]) == ["1  socket => ok 3", "-:2: `help` is no command"]
+    assert printed(bsdplay, ["socket", "help"]) == ["1  socket => ok 3", "-:2: unknown command `help`"]
     opened = Terminal(bsdplay, "--quiet")
     try:
         opened.type("socket\n\4")
@@ -170,7 +170,7 @@ def test_bytes_that_change_a_terminal_are_printed_by_number(name, quiet, bsdplay
     script = b"socket\n" + raw + b'\nsendto 3 10.0.0.2 7 "' + raw + b'"\nsocket => ' + raw + b"\n"
     said = run(bsdplay, *["--quiet"] * quiet, script=script).stdout
     lines = said.splitlines()
-    assert b"-:2: `" + shown + b"` is no command" in lines
+    assert b"-:2: unknown command `" + shown + b"`" in lines
     assert b"-:4: expected " + shown + b", got ok 4" in lines
     assert (b'3  sendto 3 10.0.0.2 7 "' + shown + b'" => ' in said) != quiet
 
@@ -192,28 +192,28 @@ def test_a_files_name_changes_no_terminal(words, text, bsdplay, tmp_path):
 
 def test_its_own_colours_stay(bsdplay):
     said = run(bsdplay, "--color", "always", script=b"socket\n\x1b[2Jx\n").stdout
-    assert said == b"1  socket => \x1b[32mok 3\x1b[0m\n\x1b[31m-:2: `\\x1b[2Jx` is no command\x1b[0m\n"
+    assert said == b"1  socket => \x1b[32mok 3\x1b[0m\n\x1b[31m-:2: unknown command `\\x1b[2Jx`\x1b[0m\n"
 
 
 @pytest.mark.parametrize("seeds, last", [("1-20", "20 of 20"), ("7-7", "1 of 1")])
 def test_seeds_that_pass_are_counted(seeds, last, bsdplay):
     done = run(bsdplay, "--seeds", seeds, script=of_lines(["host a", "a: socket => ok 3"]))
-    assert (done.returncode, done.stdout.decode()) == (0, f"{last} seeds: each line did what it expects\n")
+    assert (done.returncode, done.stdout.decode()) == (0, f"{last} seeds passed\n")
 
 
 def test_seeds_that_fail_are_counted(bsdplay):
     done = run(bsdplay, "--seeds", "1-8", TOP / "examples/play/wire/lost_by_chance.txt")
     lines = done.stdout.decode().splitlines()
     assert done.returncode == 1 and [line.split(":")[0] for line in lines[:-1]] == ["seed 4", "seed 5"]
-    same("the last line", lines[-1], "6 of 8 seeds: each line did what it expects")
+    same("the last line", lines[-1], "6 of 8 seeds passed")
 
 
 @pytest.mark.parametrize(
     "words, script, said",
     [
-        (["--json"], "host a\n", "--json goes with --seed"),
-        (["--pcap", "/dev/null"], "host a\n", "--pcap goes with --seed"),
-        ([], "socket\n", "it has no hosts, so it has no seeds"),
+        (["--json"], "host a\n", "--json needs one seed"),
+        (["--pcap", "/dev/null"], "host a\n", "--pcap needs one seed"),
+        ([], "socket\n", "--seeds needs a script with hosts"),
     ],
 )
 def test_what_does_not_go_with_seeds_is_said(words, script, said, bsdplay):

@@ -165,7 +165,7 @@ def test_a_check_without_an_answer_says_so(name, hint, at_width):
         ("3 packets the next of 572 bytes.", "As expected."),
         ("2 packets ..", "Expected: 2 packets ..; “3” is right, not “2”."),
         ("3 packets", "Expected: 3 packets; “the” is missing."),
-        ("3 packets, the next of 572 bytes each", "“each” is too much."),
+        ("3 packets, the next of 572 bytes each", "“each” is extra."),
     ],
 )
 def test_a_guess_is_judged_by_its_words(guess, said, at_width):

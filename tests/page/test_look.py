@@ -383,7 +383,7 @@ def test_lines_that_cannot_be_played_are_marked_while_they_are_written(at_width)
         browser.run(f"getComputedStyle(byId('gutter').children[{n}]).backgroundColor") for n in (1, 3)
     )
     assert colour != other
-    assert browser.run("byId('faulty').textContent").startswith("Line 2: bnd is no command (bind?). 1 more line")
+    assert browser.run("byId('faulty').textContent").startswith("Line 2: unknown command bnd (bind?). 1 more line")
     assert browser.run("faultsOf(tryLayout)") == []
     browser.run("byId('script').value = 'socket\\nbind 3 0.0.0.0 7\\n'; later(); clearTimeout(timer); replay(0)")
     assert browser.run(marked) == [False, False] and not browser.run("byId('faulty').textContent")

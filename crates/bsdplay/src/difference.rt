@@ -55,7 +55,7 @@ fn put_words(note: &mut Vec<u8>, wanted: &[u8], got: &[u8]) -> Result<(), AllocE
                 if word == b"..".as_slice() {
                     break;
                 }
-                return put(note, word, b" is too much", b"");
+                return put(note, word, b" is extra", b"");
             }
             (Some(wanted), Some(got)) => {
                 let (word, more) = first_word(wanted);

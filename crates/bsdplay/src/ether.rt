@@ -355,7 +355,7 @@ impl Linked {
             Linked::Packet { .. } | Linked::Elsewhere => None,
             Linked::OtherMac => Some(b"dropped by the link: to another hardware address"),
             Linked::OtherType => Some(b"dropped by the link: not the type of IPv4"),
-            Linked::Martian => Some(b"dropped by the link: addresses that can't come from it"),
+            Linked::Martian => Some(b"dropped by the link: addresses that can't come from a link"),
             Linked::Echo => Some(b"handled by ICMP: the host sends an echo reply"),
             Linked::Error => Some(b"handled by ICMP: an error for a datagram of the host"),
             Linked::Answered => Some(b"the host replies with its hardware address"),
@@ -369,7 +369,7 @@ impl Linked {
     pub(crate) fn rule(self) -> Option<&'static [u8]> {
         match self {
             Linked::OtherMac => Some(
-                b"a host takes frames to its own hardware address and to ff:ff:ff:ff:ff:ff (volume 2, chapter 4)",
+                b"a host accepts frames to its own hardware address and to ff:ff:ff:ff:ff:ff (volume 2, chapter 4)",
             ),
             Linked::OtherType => Some(b"the type is 0x0800 for IPv4, without a VLAN tag (RFC 894)"),
             Linked::Martian => Some(

@@ -27,11 +27,11 @@ fn has_colours(rt: &HostRuntime, when: Option<&str>) -> Option<bool> {
 pub(crate) fn form_of(rt: &HostRuntime, found: &ArgMatches<'_>) -> Result<Form, &'static str> {
     let quiet = found.get_flag("quiet");
     let Some(colours) = has_colours(rt, found.get_str("WHEN")) else {
-        return Err("--color takes auto, always or never");
+        return Err("--color must be auto, always or never");
     };
     if found.get_flag("json") {
         return if quiet {
-            Err("--json tells all of each line, so it goes without --quiet")
+            Err("--json can't be combined with --quiet")
         } else {
             Ok(Form::Json)
         };

@@ -168,10 +168,10 @@ fn put_key_fault(
     } else if let Some(first) = verdict.marks.first {
         writeln!(
             out,
-            "{shown}:{first}: nothing is expected of this line, or it's a question without an answer"
+            "{shown}:{first}: missing expected reply, or missing answer to a question"
         )
     } else {
-        writeln!(out, "{shown}: nothing is expected in it")
+        writeln!(out, "{shown}: it expects no reply")
     }
 }
 
@@ -196,23 +196,23 @@ fn refused_key(
         &verdict,
         first_fault(grader.written.as_slice(), name.as_bytes()),
     ) {
-        let status = fail_on(rt, name, "no memory: no hand-in is graded", NO_MEMORY)?;
+        let status = fail_on(rt, name, "no memory: no hand-in was graded", NO_MEMORY)?;
         return Ok(Some(status));
     }
     put_key_fault(&mut rt.stderr(), name, &verdict, grader.written.as_slice())?;
-    let text = "no hand-in is graded, since the key itself doesn't pass";
+    let text = "the key itself fails: no hand-in was graded";
     let status = fail_on(rt, name, text, FAILED)?;
     Ok(Some(status))
 }
 
 /// Says that a report can't be written, and returns the status.
 fn report_unwritten(rt: &HostRuntime) -> io::Result<u8> {
-    fail(rt, "write failed: not all grades are printed", UNREAD)
+    fail(rt, "write failed: some grades are missing", UNREAD)
 }
 
 /// Says that a hand-in isn't graded, and returns the status.
 fn report_refused(rt: &HostRuntime, name: &str) -> io::Result<Option<u8>> {
-    let status = fail_on(rt, name, "no memory: it isn't graded", NO_MEMORY)?;
+    let status = fail_on(rt, name, "no memory: not graded", NO_MEMORY)?;
     Ok(Some(status))
 }
 
@@ -233,9 +233,9 @@ fn reason_of(key: Option<&[u8]>, marks: Marks) -> &'static [u8] {
         }
     }
     if left.starts_with(b"#?") {
-        b"another answer than the key's"
+        b"the answer differs from the key's"
     } else {
-        b"this reply comes, but leaves out words that the key wants"
+        b"it matches the reply, but omits words that the key requires"
     }
 }
 
@@ -301,7 +301,7 @@ fn grade_all<W: Write + Drop>(
     found: &ArgMatches<'_>,
 ) -> io::Result<u8> {
     let Some(names) = found.get_strs("FILE") else {
-        return fail(rt, "--grade wants the files of the hand-ins", USAGE);
+        return fail(rt, "--grade needs FILE, the hand-ins", USAGE);
     };
     let (mut worst, mut all, mut passed) = (0, 0u64, 0u64);
     for name in names {
@@ -367,7 +367,7 @@ pub(crate) fn grade(rt: &HostRuntime, found: &ArgMatches<'_>) -> io::Result<u8> 
         Ok(file) => grade_by(rt, Some((name, unmarked(file.as_slice()))), found),
         Err(why) => {
             let name = Shown(name);
-            eprintln!(rt; "bsdplay: {name}: {why}: no hand-in is graded without its key")?;
+            eprintln!(rt; "bsdplay: {name}: {why}: no hand-in was graded")?;
             Ok(if why.as_bytes() == REFUSED.as_bytes() {
                 NO_MEMORY
             } else {

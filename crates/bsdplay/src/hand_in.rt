@@ -17,21 +17,21 @@ pub(crate) const REFUSED: &str = "no memory";
 /// Reads a file that is graded. On error, returns the message.
 pub(crate) fn load(rt: &HostRuntime, name: &str) -> Result<Vec<u8>, &'static str> {
     let Ok(file) = fs::open(rt, name) else {
-        return Err("it can't be opened");
+        return Err("can't be opened");
     };
     match read_whole(rt.alloc(), &mut Silent(file)) {
         Ok(file) => {
             if file.len() > LONGEST {
                 Err("longer than 65536 bytes")
             } else if is_wide(file.as_slice()) {
-                Err("it's in UTF-16: save it as UTF-8")
+                Err("UTF-16: save it as UTF-8")
             } else {
                 Ok(file)
             }
         }
         Err(CaptureFault::TooLong) => Err("longer than 65536 bytes"),
         Err(CaptureFault::Memory) => Err(REFUSED),
-        Err(_) => Err("it can't be read"),
+        Err(_) => Err("can't be read"),
     }
 }
 

@@ -46,6 +46,6 @@ pub(crate) fn status_of(rt: &HostRuntime, status: u8, kept: bool) -> io::Result<
     if kept {
         return Ok(status);
     }
-    let text = "the capture isn't whole, since a write failed";
+    let text = "write failed: the capture is incomplete";
     fail(rt, text, UNWRITTEN)
 }

@@ -82,7 +82,7 @@ fn command<'a>(alloc: Global, lines: &'a str) -> Result<Command<'a>, AllocError>
     with_options(alloc, command, &OPTIONS)?
         .arg(
             Arg::new(alloc, "FILE")
-                .help("Scripts, each played on a new machine; '-' or none: standard input")
+                .help("Scripts, each played on new hosts; '-' or none: standard input")
                 .action(ArgAction::Append),
         )?
         .subcommand(why_command(alloc)?)
@@ -116,11 +116,11 @@ pub(crate) struct Manner<'a> {
 
 /// Returns how the options say to play scripts. `None` if a seed isn't valid.
 fn manner_of<'a>(found: &'a ArgMatches<'_>, form: Form) -> Option<Manner<'a>> {
-    let seed = match found.get_str("seed") {
+    let seed = match found.get_str("N") {
         Some(word) => seed_in(word)?,
         None => 1,
     };
-    let seeds = match found.get_str("seeds") {
+    let seeds = match found.get_str("A-B") {
         Some(word) => Some(seeds_in(word)?),
         None => None,
     };
@@ -145,21 +145,13 @@ fn play_seeds<R: Read + Drop>(
     seeds: Seeds,
 ) -> io::Result<u8> {
     if !reader.has_hosts() {
-        return fail_on(rt, name, "it has no hosts, so it has no seeds", USAGE);
+        return fail_on(rt, name, "--seeds needs a script with hosts", USAGE);
     }
     if manner.capture.is_some() {
-        return fail(
-            rt,
-            "a capture is of one seed: --pcap goes with --seed",
-            USAGE,
-        );
+        return fail(rt, "--pcap needs one seed: use --seed, not --seeds", USAGE);
     }
     if matches!(manner.form, Form::Json) {
-        return fail(
-            rt,
-            "seeds are listed for people: --json goes with --seed",
-            USAGE,
-        );
+        return fail(rt, "--json needs one seed: use --seed, not --seeds", USAGE);
     }
     let mut script = Vec::new(rt.alloc());
     reader.read_to_end(&mut script)?;
@@ -193,7 +185,7 @@ fn play_wired_to<R: Read + Drop>(
         None => play_uncaptured(rt, style, manner.seed, reader, writer),
         Some(path) => match play_captured(rt, style, (manner.seed, path), reader, writer) {
             Some(done) => done,
-            None => return fail_on(rt, path, "it can't be written", UNREAD),
+            None => return fail_on(rt, path, "can't be written", UNREAD),
         },
     };
     report(rt, name, &done.played)?;
@@ -268,9 +260,7 @@ fn report_capture(rt: &HostRuntime, name: &str) -> io::Result<u8> {
 fn report_open(rt: &HostRuntime, name: &str, open: Open) -> io::Result<bool> {
     let name = Shown(name);
     if let Some(first) = open.first {
-        eprintln!(rt;
-            "bsdplay: {name}:{first}: this reply is open: write what you expect instead of ?"
-        )?;
+        eprintln!(rt; "bsdplay: {name}:{first}: missing expected reply: replace the ?")?;
     }
     if open.replies == 0 && open.questions == 0 {
         return Ok(false);
@@ -340,7 +330,7 @@ fn play_file(rt: &HostRuntime, name: &str, manner: Manner<'_>) -> io::Result<u8>
         return play_stdin(rt, manner);
     }
     let Ok(file) = fs::open(rt, name) else {
-        return fail_on(rt, name, "it can't be opened", UNREAD);
+        return fail_on(rt, name, "can't be opened", UNREAD);
     };
     play_input(rt, file, name, manner)
 }
@@ -352,7 +342,7 @@ fn play_all(rt: &HostRuntime, found: &ArgMatches<'_>) -> io::Result<u8> {
         Err(text) => return fail(rt, text, USAGE),
     };
     let Some(manner) = manner_of(found, form) else {
-        let text = "--seed takes a number, and --seeds takes two, such as 1-1000";
+        let text = "--seed must be a number, and --seeds a range, such as 1-1000";
         return fail(rt, text, USAGE);
     };
     let Some(names) = found.get_strs("FILE") else {
@@ -362,7 +352,7 @@ fn play_all(rt: &HostRuntime, found: &ArgMatches<'_>) -> io::Result<u8> {
     let mut worst = 0;
     for name in names {
         if captured {
-            let text = "it isn't played, since a capture is of one script";
+            let text = "not played: --pcap needs one script";
             return fail_on(rt, name, text, USAGE);
         }
         captured = manner.capture.is_some();
@@ -378,13 +368,13 @@ fn play_all(rt: &HostRuntime, found: &ArgMatches<'_>) -> io::Result<u8> {
 fn misfit(found: &ArgMatches<'_>) -> Option<&'static str> {
     let graded = found.get_flag("grade");
     if !graded && (found.get_str("KEY").is_some() || found.get_flag("csv")) {
-        return Some("--key and --csv go with --grade");
+        return Some("--key and --csv need --grade");
     }
     if graded && (found.get_flag("json") || found.get_flag("strict")) {
-        return Some("--grade prints verdicts alone, so it goes without --json and --strict");
+        return Some("--grade can't be combined with --json or --strict");
     }
-    if graded && (found.get_str("PCAP").is_some() || found.get_str("seeds").is_some()) {
-        return Some("--grade plays each hand-in once, so it goes without --pcap and --seeds");
+    if graded && (found.get_str("PCAP").is_some() || found.get_str("A-B").is_some()) {
+        return Some("--grade can't be combined with --pcap or --seeds");
     }
     None
 }

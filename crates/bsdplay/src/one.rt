@@ -53,7 +53,7 @@ pub(crate) fn play_one<R: Read + Drop>(
         return play_to(rt, manner, (name, Nowhere), reader);
     };
     let Ok(file) = fs::create(rt, path) else {
-        return fail_on(rt, path, "it can't be written", UNWRITTEN);
+        return fail_on(rt, path, "can't be written", UNWRITTEN);
     };
     play_to(rt, manner, (name, Silent(file)), reader)
 }

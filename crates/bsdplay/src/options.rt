@@ -44,15 +44,15 @@ pub(crate) static OPTIONS: [LongOption; 15] = [
         action: ArgAction::Set,
     },
     LongOption {
-        id: "seed",
+        id: "N",
         long: "seed",
-        help: "The seed of the wire, if the script has none (default: 1)",
+        help: "The wire's seed, if the script sets none (default: 1)",
         action: ArgAction::Set,
     },
     LongOption {
-        id: "seeds",
+        id: "A-B",
         long: "seeds",
-        help: "A-B: play the script for each of these seeds, and list those that fail",
+        help: "Play the script for each seed from A to B, and list those that fail",
         action: ArgAction::Set,
     },
     LongOption {
@@ -70,13 +70,13 @@ pub(crate) static OPTIONS: [LongOption; 15] = [
     LongOption {
         id: "PCAP",
         long: "pcap",
-        help: "Write the packets received and sent, or those on the wire of many hosts, to this file",
+        help: "Write a capture of the packets received and sent, or of those on the wire, to this file",
         action: ArgAction::Set,
     },
     LongOption {
         id: "strict",
         long: "strict",
-        help: "Report each call and each question for which nothing is expected",
+        help: "Report each call and each question without an expected reply",
         action: ArgAction::SetTrue,
     },
     LongOption {
@@ -100,7 +100,7 @@ pub(crate) static OPTIONS: [LongOption; 15] = [
     LongOption {
         id: "SOLVED",
         long: "blank",
-        help: "Print this key as an exercise, with ? instead of what it expects",
+        help: "Print this solved script as an exercise, with ? for each expected reply",
         action: ArgAction::Set,
     },
     LongOption {
@@ -134,7 +134,7 @@ pub(crate) static WHY_OPTIONS: [LongOption; 12] = [
     LongOption {
         id: "B",
         long: "bcast",
-        help: "The broadcast address of its network (default: that of 256 addresses)",
+        help: "The broadcast address of its network (default: that of a network of 256 addresses)",
         action: ArgAction::Set,
     },
     LongOption {
@@ -164,19 +164,19 @@ pub(crate) static WHY_OPTIONS: [LongOption; 12] = [
     LongOption {
         id: "ether",
         long: "ether",
-        help: "Judge as a host on an Ethernet: hardware addresses, ARP and ICMP, and not the stack alone",
+        help: "Judge as a host on an Ethernet: hardware addresses, ARP and ICMP too",
         action: ArgAction::SetTrue,
     },
     LongOption {
         id: "MAC",
         long: "mac",
-        help: "With --ether: the host's hardware address (default: that with which it sends)",
+        help: "With --ether: the host's hardware address (default: the source address of its first frame)",
         action: ArgAction::Set,
     },
     LongOption {
         id: "dropped",
         long: "dropped",
-        help: "Print only packets that were dropped",
+        help: "Print only packets that were dropped, refused or never completed",
         action: ArgAction::SetTrue,
     },
     LongOption {
@@ -188,7 +188,7 @@ pub(crate) static WHY_OPTIONS: [LongOption; 12] = [
     LongOption {
         id: "WHAT",
         long: "fail-on",
-        help: "Status 1 if there is such a case: packet, stack, offload, cut, unfinished, or several with commas",
+        help: "End with status 1 for packet, stack, offload, cut or unfinished, or several with commas",
         action: ArgAction::Set,
     },
     LongOption {

@@ -22,10 +22,7 @@ fn print_each(
         printer.next_line(line);
         if marker.lacks(line) {
             text.clear();
-            printer.put_fault(
-                text,
-                b"nothing is expected of this line, and --strict wants a reply behind =>",
-            );
+            printer.put_fault(text, b"missing expected reply: --strict needs one after =>");
             rt.stdout().write_all(text.as_slice())?;
         }
         let Some(more) = more else {

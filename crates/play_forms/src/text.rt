@@ -42,15 +42,13 @@ fn add_form(text: &mut Buffer<ADVICE>, front: &[u8], asked: Command) {
 /// Appends what may be meant by a word that isn't a command of the line's player: one of many hosts, or one that it's
 /// near to.
 fn add_unknown(text: &mut Buffer<ADVICE>, word: &[u8], near: Option<Command>) {
-    add_word(text, word);
     if named(word, &wire_commands()).is_some() {
-        add(
-            text,
-            b" is for many hosts and belongs to none: such a script begins with `host NAME`",
-        );
+        add_word(text, word);
+        add(text, b" needs hosts: begin the script with `host NAME`");
         return;
     }
-    add(text, b" is no command");
+    add(text, b"unknown command ");
+    add_word(text, word);
     if let Some(near) = near {
         add(text, b" (`");
         add(text, near.row().name.as_bytes());
@@ -63,26 +61,29 @@ fn add_unknown(text: &mut Buffer<ADVICE>, word: &[u8], near: Option<Command>) {
 pub fn put_advice(text: &mut Buffer<ADVICE>, advice: &Advice<'_>) {
     text.clear();
     match *advice {
-        Advice::Empty => add(text, b"no command stands in front of `=>`"),
+        Advice::Empty => add(text, b"missing command before `=>`"),
         Advice::Unknown(word, near) => add_unknown(text, word, near),
         Advice::OfHost(asked) => {
             add_word(text, asked.row().name.as_bytes());
-            add_form(text, b" is asked of a host: `NAME: ", asked);
+            add_form(text, b" needs a host: `NAME: ", asked);
         }
         Advice::Wrong(word, wanted, asked) => {
-            add_word(text, word);
-            add(text, b" is no ");
+            add(text, b"expected ");
             add(text, wanted.label().as_bytes());
+            add(text, b", got ");
+            add_word(text, word);
             add_form(text, b": `", asked);
         }
         Advice::Missing(wanted, asked) => {
+            add(text, b"missing ");
             add(text, wanted.label().as_bytes());
-            add_form(text, b" is missing: `", asked);
+            add_form(text, b": `", asked);
         }
         Advice::More(word, asked) => {
+            add(text, b"unexpected ");
             add_word(text, word);
-            add_form(text, b" is one word too many: `", asked);
+            add_form(text, b": `", asked);
         }
-        Advice::Otherwise(asked) => add_form(text, b"it's written otherwise: `", asked),
+        Advice::Otherwise(asked) => add_form(text, b"expected `", asked),
     }
 }

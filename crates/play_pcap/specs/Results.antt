@@ -15,11 +15,11 @@ why_words RecordCut = codes "record header cut short"
 why_words BytesCut = codes "record cut short"
 
 abbrev pub capture_fault_words : CaptureFault → List ℕ
-capture_fault_words NotOpened = codes "it can't be opened"
+capture_fault_words NotOpened = codes "can't be opened"
 capture_fault_words NotRead = codes "reading failed"
 capture_fault_words TooLong = codes "longer than 16777216 bytes"
 capture_fault_words Memory = codes "no memory"
-capture_fault_words TooFew = codes "it has fewer records"
+capture_fault_words TooFew = codes "too few records"
 capture_fault_words (Bad fault) = why_words fault.why
 
 -- the offset of the fault in a bad file

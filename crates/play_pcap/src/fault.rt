@@ -43,11 +43,11 @@ impl CaptureFault {
         ensures short { length result.now ≤ 32 }
     {
         match self {
-            CaptureFault::NotOpened => "it can't be opened",
+            CaptureFault::NotOpened => "can't be opened",
             CaptureFault::NotRead => "reading failed",
             CaptureFault::TooLong => "longer than 16777216 bytes",
             CaptureFault::Memory => "no memory",
-            CaptureFault::TooFew => "it has fewer records",
+            CaptureFault::TooFew => "too few records",
             CaptureFault::Bad(fault) => words_for(fault.why),
         }
     }

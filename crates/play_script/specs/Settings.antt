@@ -9,14 +9,14 @@ use Rattle.play_script.specs.declared.setting.Setting.{Setting}
 use Rattle.play_script.specs.declared.setting.Setting.TheVariants as setting
 
 abbrev pub fault_words : SettingFault → List ℕ
-fault_words Late = codes "settings stand in front of all lines that ask for something"
-fault_words Unknown = codes "no such setting"
-fault_words NoValue = codes "a value is missing"
-fault_words NotAddress = codes "not an address"
-fault_words NotNumber = codes "not a number that the setting can have"
-fault_words OtherNetwork = codes "--addr is outside the network of the broadcast address: set --bcast too"
-fault_words BadSizes = codes "bad sizes"
-fault_words BadConfig = codes "bad config"
+fault_words Late = codes "settings must come before all other lines"
+fault_words Unknown = codes "unknown setting"
+fault_words NoValue = codes "missing value"
+fault_words NotAddress = codes "expected an address, such as 10.0.0.2"
+fault_words NotNumber = codes "expected a number, at most 65535 for --mtu and --id"
+fault_words OtherNetwork = codes "--addr must be in the network of --bcast: set --bcast too"
+fault_words BadSizes = codes "--mbufs must be 1 to 65535, --clusters 0 to 4096"
+fault_words BadConfig = codes "--mtu must be 68 to 4352, --addr a host's address, --bcast another address"
 fault_words Memory = codes "no memory"
 
 -- a line of settings begins with two dashes

@@ -32,15 +32,16 @@ impl SettingFault {
         ensures short { length result.now ≤ 80 }
     {
         match self {
-            SettingFault::Late => "settings stand in front of all lines that ask for something",
-            SettingFault::Unknown => "no such setting",
-            SettingFault::NoValue => "a value is missing",
-            SettingFault::NotAddress => "not an address",
-            SettingFault::NotNumber => "not a number that the setting can have",
+            SettingFault::Late => "settings must come before all other lines",
+            SettingFault::Unknown => "unknown setting",
+            SettingFault::NoValue => "missing value",
+            SettingFault::NotAddress => "expected an address, such as 10.0.0.2",
+            SettingFault::NotNumber => "expected a number, at most 65535 for --mtu and --id",
             SettingFault::OtherNetwork =>
-                "--addr is outside the network of the broadcast address: set --bcast too",
-            SettingFault::BadSizes => "bad sizes",
-            SettingFault::BadConfig => "bad config",
+                "--addr must be in the network of --bcast: set --bcast too",
+            SettingFault::BadSizes => "--mbufs must be 1 to 65535, --clusters 0 to 4096",
+            SettingFault::BadConfig =>
+                "--mtu must be 68 to 4352, --addr a host's address, --bcast another address",
             SettingFault::Memory => "no memory",
         }
     }

@@ -25,7 +25,7 @@ arp_words a =
 abbrev pub arp_text : List ℕ → List ℕ
 arp_text body =
     if is_arp body then arp_words (arp_of body)
-    else codes "ARP of " ++ amount (length body) (codes "byte") ++ codes ", no request or reply for IPv4"
+    else codes "ARP of " ++ amount (length body) (codes "byte") ++ codes ", not a request or reply for IPv4"
 
 -- another type, in four digits
 abbrev pub other_type_text : ℕ → ℕ → List ℕ

@@ -102,7 +102,7 @@ fn put_arp<const N: usize>(text: &mut Buffer<N>, body: &[u8])
             &[
                 Text(b"ARP of "),
                 Amount(body.len() as u32, b"byte"),
-                Text(b", no request or reply for IPv4"),
+                Text(b", not a request or reply for IPv4"),
             ],
         );
     }

@@ -63,32 +63,32 @@ impl Fault {
     {
         match self {
             Fault::Nothing => "",
-            Fault::NoHost => "no host has this name",
-            Fault::NoName => "a name is a letter, then letters, digits and _, 32 at most",
-            Fault::NameTaken => "a host has this name already",
+            Fault::NoHost => "unknown host",
+            Fault::NoName => "a name must be a letter, then letters, digits and _, at most 32",
+            Fault::NameTaken => "another host has this name",
             Fault::Setting(fault) => fault.words(),
-            Fault::TooManyHosts => "there are 64 hosts already",
+            Fault::TooManyHosts => "at most 64 hosts are possible",
             Fault::AddressTaken =>
-                "hosts differ in `--addr` (default 10.0.0.1), and none has another's as --bcast",
-            Fault::NoWire => "there is no wire yet: `wire NAME ..` joins the hosts",
-            Fault::Wired => "there is a wire already: hosts come before `wire`",
-            Fault::NotAll => "`wire` names each host once, after all lines `host`",
-            Fault::NoChance => "a chance is 10%, 0.1 or 1/10, and a delay 0-3",
-            Fault::NoPacket => "no packet under way has this place",
-            Fault::NoCapture => "no capture is played in to one of many hosts",
-            Fault::NoSettings => "a host's settings stand in its line `host`",
+                "--addr (default 10.0.0.1) must differ from each other host's --addr and --bcast",
+            Fault::NoWire => "missing wire: join the hosts with `wire NAME ..`",
+            Fault::Wired => "there is a wire already: define hosts before `wire`",
+            Fault::NotAll => "`wire` must name each host once, after all `host` lines",
+            Fault::NoChance => "expected a chance (10%, 0.1 or 1/10) or a delay (0-3)",
+            Fault::NoPacket => "no packet is under way at this place",
+            Fault::NoCapture => "`rx pcap` needs a script without hosts",
+            Fault::NoSettings => "a host's settings must be in its `host` line",
             Fault::NoLinkWord => {
-                "a link is `mac M`, `mask M`, `gateway A` and `probe`, in front of settings"
+                "expected `mac M`, `mask M`, `gateway A` or `probe`, then settings"
             }
-            Fault::BadMac =>
-                "`mac` takes the hardware address of a host, such as 02:00:00:00:00:01",
-            Fault::BadMask => "`mask` takes ones, then zeros, such as 255.255.255.0",
-            Fault::BadGateway => "a gateway is another address of the host's network, by its mask",
-            Fault::BadMtu => "a frame takes a packet of 1500 bytes at most: `--mtu`",
+            Fault::BadMac => "`mac` must be a host's hardware address, such as 02:00:00:00:00:01",
+            Fault::BadMask => "`mask` must be ones, then zeros, such as 255.255.255.0",
+            Fault::BadGateway =>
+                "`gateway` must be another address of the host's network, by its mask",
+            Fault::BadMtu => "--mtu must be at most 1500 on an Ethernet",
             Fault::MacTaken => "another host has this hardware address",
-            Fault::OtherLink => "either all hosts are on an Ethernet, or none is",
-            Fault::NoLink => "that is asked of a host on an Ethernet: `host NAME ether ..`",
-            Fault::OnEthernet => "a host on an Ethernet takes frames: `frame BYTES`, or `carry`",
+            Fault::OtherLink => "all hosts must be on an Ethernet, or none",
+            Fault::NoLink => "this needs a host on an Ethernet: `host NAME ether ..`",
+            Fault::OnEthernet => "a host on an Ethernet needs frames: use `frame BYTES` or `carry`",
         }
     }
 

@@ -32,7 +32,7 @@ fn add_known(text: &mut Buffer<SHOWN>, it: &Neighbour, waiting: usize) {
         None => add(
             text,
             &[
-                Text(b" is asked for, "),
+                Text(b" is unresolved, "),
                 Number(u32::from(it.tries)),
                 Text(b" of "),
                 Number(u32::from(ARP_TRIES)),
