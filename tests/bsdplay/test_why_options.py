@@ -97,6 +97,40 @@ def test_what_the_capture_cut_is_not_filled_in(bsdplay, tmp_path):
     assert run(bsdplay, "why", "--fail-on", "cut", file).returncode == 1
 
 
+def test_what_the_capture_cut_is_no_drop(bsdplay, tmp_path):
+    """The checks of what it kept are named: none, the header's, and the UDP length's, which may be wrong."""
+    file = tmp_path / "it.pcap"
+    wrong = datagram(bytes(100), ident=4)
+    wrong = wrong[:24] + struct.pack("!H", 109) + wrong[26:]
+    for packet, kept, told in [
+        (datagram(bytes(100)), 28, "; its header and header checksum are right, and so is the UDP length"),
+        (datagram(bytes(100)), 27, "; its header and header checksum are right"),
+        (fragment(datagram(bytes(100), ident=3), 0, 5), 30, "; its header and header checksum are right"),
+        (wrong, 60, "; its header and header checksum are right; wrong datagram length: length 109, 108 are carried"),
+        (datagram(b"hi"), 19, ""),
+    ]:
+        file.write_bytes(cut([packet], kept))
+        ended = run(bsdplay, "why", "--json", "--addr", HERE, "--fail-on", "packet,stack", file)
+        row, *_, last = [json.loads(it) for it in ended.stdout.splitlines()]
+        assert (ended.returncode, row["verdict"], row["fault"]) == (0, "cut", "capture")
+        assert [last["summary"][it] for it in ("cut", "dropped", "causes")] == [1, 0, []]
+        text = run(bsdplay, "why", "--addr", HERE, file).stdout.decode()
+        told = f"the capture kept {kept} of its {len(packet)} bytes (snap length){told}\n"
+        assert " => cut: " in text and told in text and "Cut by the capture: 1. Dropped: 0." in text, text
+        assert run(bsdplay, "why", "--dropped", "--addr", HERE, file).stdout.count(b" => ") == 0
+
+
+def test_a_cut_packet_with_a_wrong_header_is_dropped(bsdplay, tmp_path):
+    """The checks before the length find it."""
+    file = tmp_path / "it.pcap"
+    wrong = bytearray(datagram(bytes(100)))
+    wrong[10] ^= 1
+    file.write_bytes(cut([bytes(wrong)], 60))
+    ended = run(bsdplay, "why", "--json", "--addr", HERE, "--fail-on", "packet", file)
+    row = json.loads(ended.stdout.splitlines()[0])
+    assert (ended.returncode, row["verdict"], row["fault"]) == (1, "dropped", "packet")
+
+
 def cut(packets, kept):
     """Returns a capture of packets that kept so many bytes of each."""
     return header() + b"".join(record("<", 0, at, it[:kept], original=len(it)) for at, it in enumerate(packets))
@@ -113,11 +147,13 @@ def test_what_this_stack_lacks_is_no_fault_of_the_packet(bsdplay, tmp_path):
     packets = [datagram(b"hi"), *LACKING]
     ended = why(bsdplay, tmp_path, packets, "--json", "--fail-on", "packet,offload,cut,unfinished")
     rows = [json.loads(it) for it in ended.stdout.splitlines()]
-    assert (ended.returncode, [it["verdict"] for it in rows[:6]]) == (0, ["delivered", *["dropped"] * 5])
+    assert (ended.returncode, [(it["verdict"], it["fault"]) for it in rows[:6]]) == (
+        0, [("delivered", ""), *[("dropped", "stack")] * 5])  # fmt: skip
     assert rows[-2] == {"apart": {"stack": 5, "copies": 0, "repeats": 0}}
     assert why(bsdplay, tmp_path, packets, "--fail-on", "stack").returncode == 1
     text = why(bsdplay, tmp_path, packets).stdout.decode()
     assert "    5 of the dropped need what this stack lacks: no fault of the packets (first: record 2)\n" in text, text
+    assert text.count("    not the packet's fault: this stack ") == 5 and "    rule: " not in text, text
 
 
 @pytest.mark.parametrize("what, status", [("packet", 0), ("stack", 1)])
@@ -318,6 +354,15 @@ def test_records_of_an_unknown_link_type_are_counted(bsdplay):
 
 
 # ---- time ------------------------------------------------------------------------------------------------------------
+
+
+def test_nanoseconds_are_printed_if_there_are_some(bsdplay, tmp_path):
+    """In a file with this resolution, by its magic number (pcap-savefile(5))."""
+    file = tmp_path / "it.pcap"
+    head = struct.pack("<I", 0xA1B23C4D) + header()[4:]
+    file.write_bytes(head + b"".join(record("<", 5, at, datagram(b"hi")) for at in (0, 7, 12_000, 1_234_567)))
+    lines = run(bsdplay, "why", "--addr", HERE, file).stdout.decode().splitlines()
+    assert [it.split("  ")[1] for it in lines if " => " in it] == ["0.000000", "0.000000007", "0.000012", "0.001234567"]
 
 
 @pytest.mark.parametrize("last", [datagram(b"hi", between=(PEER, "10.0.0.9")), framed(0x0806, bytes(28))])

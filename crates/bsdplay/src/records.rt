@@ -246,40 +246,6 @@ fn is_blamed(verdict: &Verdict, blame: Blame) -> bool {
     found
 }
 
-/// Returns whether this stack drops a packet for what other hosts have: protocols, IP options, longer receive queues
-/// and more buffers.
-fn is_of_stack(why: Why) -> bool {
-    matches!(
-        why,
-        Why::Options | Why::NoProtocol | Why::UdpFullSocket | Why::NoBufs
-    )
-}
-
-/// Returns whether a packet is dropped for what this stack lacks.
-fn is_lacking(verdict: &Verdict) -> bool {
-    let mut found = false;
-    for finding in verdict.findings {
-        if let Some(finding) = finding {
-            found = found || is_of_stack(finding.why);
-        }
-    }
-    found
-}
-
-/// Returns whether the packet itself is to blame for a drop. It isn't for what this stack lacks, nor for bytes that
-/// came before: it's a copy then.
-fn is_at_fault(verdict: &Verdict) -> bool {
-    let mut found = false;
-    for finding in verdict.findings {
-        if let Some(finding) = finding {
-            let is_copy = matches!(finding.why, Why::FragmentDropped);
-            let is_packet = finding.blame == Blame::Packet;
-            found = found || (is_packet && !is_copy && !is_of_stack(finding.why));
-        }
-    }
-    found
-}
-
 /// What is printed below a datagram for which a host on an Ethernet sends an ICMP error.
 static REPORTED: &[u8] =
     b"    the host sends the ICMP error \"port unreachable\" (RFC 1122, section 4.1.3.1)\n";
@@ -413,12 +379,13 @@ impl<'a> Play<'a> {
     fn note(&mut self, verdict: &Verdict) {
         let fail_on = self.choice.fail_on;
         let is_dropped = matches!(verdict.outcome, Outcome::Dropped);
-        let is_packet = fail_on.packet && is_dropped && is_at_fault(verdict);
-        let is_stack = fail_on.stack && is_dropped && is_lacking(verdict);
+        let is_packet = fail_on.packet && is_dropped && is_blamed(verdict, Blame::Packet);
+        let is_lacking = is_dropped && is_blamed(verdict, Blame::Stack);
+        let is_stack = fail_on.stack && is_lacking;
         let is_offload = fail_on.offload && (verdict.filled || is_blamed(verdict, Blame::Card));
         let is_cut = fail_on.cut && is_blamed(verdict, Blame::Capture);
         self.counts.fails = self.counts.fails || is_packet || is_stack || is_offload || is_cut;
-        if is_dropped && is_lacking(verdict) {
+        if is_lacking {
             self.lacking.add(verdict.number);
         }
     }
@@ -604,6 +571,8 @@ impl<'a> Play<'a> {
             packet,
             filled: false,
             refused: self.refusals.record_for(record.number, packet),
+            source_port: None,
+            destination_port: None,
         };
         self.play_packet(&arrival, linked, out)
     }

@@ -22,7 +22,7 @@ use Rattle.play_why.specs.declared.judge.Judge.{Judge}
 use Rattle.play_why.specs.declared.judge.Totals.{Totals}
 use Rattle.play_why.specs.declared.layout.Layout.{Layout}
 use Rattle.play_why.specs.declared.outcome.Outcome.{Outcome}
-use Rattle.play_why.specs.declared.outcome.Outcome.TheVariants.{Delivered, Kept, Refused, Offload, Dropped}
+use Rattle.play_why.specs.declared.outcome.Outcome.TheVariants.{Delivered, Kept, Refused, Offload, Cut, Dropped}
 use Rattle.play_why.specs.declared.parts.Loss.{Loss}
 use Rattle.play_why.specs.declared.parts.Lost.{Lost}
 use Rattle.play_why.specs.declared.parts.Parts.{Parts}
@@ -74,7 +74,7 @@ ticks_to time passed = min (ticks_due time - passed) 61
 -- ---- all records
 
 abbrev pub none_came : Totals
-none_came = record { packets = 0; delivered = 0; kept = 0; refused = 0; offload = 0; dropped = 0 }
+none_came = record { packets = 0; delivered = 0; kept = 0; refused = 0; offload = 0; cut = 0; dropped = 0 }
 
 -- a judge before the first record; if `only` has a port, only this port may be bound
 pub record IsNew (form : Layout) (ours broadcast : ℕ) (only : Option ℕ) (judge : Judge) : Type 0 where
@@ -103,6 +103,7 @@ counted_as Delivered t = record t { packets = more_by 1 t.packets; delivered = m
 counted_as Kept t = record t { packets = more_by 1 t.packets; kept = more_by 1 t.kept }
 counted_as Refused t = record t { packets = more_by 1 t.packets; refused = more_by 1 t.refused }
 counted_as Offload t = record t { packets = more_by 1 t.packets; offload = more_by 1 t.offload }
+counted_as Cut t = record t { packets = more_by 1 t.packets; cut = more_by 1 t.cut }
 counted_as Dropped t = record t { packets = more_by 1 t.packets; dropped = more_by 1 t.dropped }
 
 -- ---- a record
@@ -116,6 +117,8 @@ pub record IsOf (r : Arrival) (parts : Parts) (seen : Seen) : Type 0 where
   pub whole : seen.whole.now ≡ parts.whole.bytes
   pub filled : seen.filled ≡ r.filled
   pub refused : seen.refused ≡ r.refused
+  pub source_port : seen.source_port ≡ r.source_port
+  pub destination_port : seen.destination_port ≡ r.destination_port
 
 -- The ticks passed that were due at a time. If datagrams expired, their fragments are lost.
 pub record HasPassed (old : Judge) (time : ℕ) (new : Judge) : Type 0 where

@@ -8,13 +8,13 @@ use Rattle.play_text.specs.Strings.{string_text}
 use Rattle.play_text.specs.Times.{time_text}
 use Rattle.play_text.specs.Words.{cause_words}
 use Rattle.play_why.specs.declared.blame.Blame.{Blame}
-use Rattle.play_why.specs.declared.blame.Blame.TheVariants.{Packet, Capture, Card, Host}
+use Rattle.play_why.specs.declared.blame.Blame.TheVariants.{Packet, Stack, Copy, Capture, Card, Host}
 use Rattle.play_why.specs.declared.ends.Ends.{Ends}
 use Rattle.play_why.specs.declared.finding.Finding.{Finding}
 use Rattle.play_why.specs.declared.layout.Layout.{Layout}
 use Rattle.play_why.specs.declared.layout.Layout.TheVariants.{Lines, Objects}
 use Rattle.play_why.specs.declared.outcome.Outcome.{Outcome}
-use Rattle.play_why.specs.declared.outcome.Outcome.TheVariants.{Delivered, Kept, Refused, Offload, Dropped}
+use Rattle.play_why.specs.declared.outcome.Outcome.TheVariants.{Delivered, Kept, Refused, Offload, Cut, Dropped}
 use Rattle.play_why.specs.declared.values.Value.{Value}
 use Rattle.play_why.specs.declared.values.Value.TheVariants as value
 use Rattle.play_why.specs.declared.verdict.Verdict.{Verdict}
@@ -30,6 +30,8 @@ causes_in = flat_map cause_in
 -- who is to blame for each
 abbrev pub blame_words : Blame → List ℕ
 blame_words Packet = codes "packet"
+blame_words Stack = codes "stack"
+blame_words Copy = codes "copy"
 blame_words Capture = codes "capture"
 blame_words Card = codes "card"
 blame_words Host = codes "host"
@@ -47,6 +49,7 @@ outcome_words Delivered = codes "delivered"
 outcome_words Kept = codes "kept"
 outcome_words Refused = codes "refused"
 outcome_words Offload = codes "offload"
+outcome_words Cut = codes "cut"
 outcome_words Dropped = codes "dropped"
 
 -- where the packet comes from and where it goes

@@ -11,7 +11,7 @@ use Rattle.play_text.specs.declared.table.Row.{Row}
 use Rattle.play_text.specs.declared.table.Table.{Table}
 use Rattle.play_why.specs.Findings.{blame_of}
 use Rattle.play_why.specs.declared.blame.Blame.{Blame}
-use Rattle.play_why.specs.declared.blame.Blame.TheVariants.{Packet, Capture, Card, Host}
+use Rattle.play_why.specs.declared.blame.Blame.TheVariants.{Packet, Stack, Copy, Capture, Card, Host}
 use Rattle.play_why.specs.declared.parts.Loss.{Loss}
 use Rattle.play_why.specs.declared.parts.Loss.TheVariants.{Expired, Reclaimed}
 use Rattle.play_why.specs.declared.seen.Seen.{Seen}
@@ -20,21 +20,12 @@ use Rattle.play_why.specs.declared.table.Verdicts.{Verdicts}
 
 abbrev pub same_blame : Blame → Blame → Bool
 same_blame Packet Packet = true
-same_blame Packet Capture = false
-same_blame Packet Card = false
-same_blame Packet Host = false
-same_blame Capture Packet = false
+same_blame Stack Stack = true
+same_blame Copy Copy = true
 same_blame Capture Capture = true
-same_blame Capture Card = false
-same_blame Capture Host = false
-same_blame Card Packet = false
-same_blame Card Capture = false
 same_blame Card Card = true
-same_blame Card Host = false
-same_blame Host Packet = false
-same_blame Host Capture = false
-same_blame Host Card = false
 same_blame Host Host = true
+same_blame _ _ = false
 
 -- the packet was dropped for this cause, with this to blame
 abbrev pub is_blamed : Blame → Seen → Counters → Counters → Why → Bool
@@ -49,9 +40,18 @@ blamed_by blame r a b (why ∷ whys) c =
 unfoldable pub blamed_on : Blame → Seen → Counters → Counters → Count → Count
 blamed_on blame r a b c = blamed_by blame r a b all_causes c
 
+-- a drop counts in the table if the packet, this stack or nobody is to blame
+abbrev pub is_in_table : Blame → Bool
+is_in_table Packet = true
+is_in_table Stack = true
+is_in_table Copy = true
+is_in_table _ = false
+
 abbrev pub row_judged : Seen → Counters → Counters → Row → Row
 row_judged r a b row =
-    if is_blamed Packet r a b row.why then record row { count = once_more r.number row.count } else row
+    if rose (counter_of row.why) a b && is_in_table (blame_of r row.why)
+    then record row { count = once_more r.number row.count }
+    else row
 
 unfoldable pub causes_judged : Seen → Counters → Counters → Table → Table
 causes_judged r a b t = record { rows = map (row_judged r a b) t.rows }

@@ -1,4 +1,4 @@
-//! Who is to blame for a drop: the packet, the capture, the sender's card or the host.
+//! Who is to blame for a drop: the packet, this stack, a copy, the capture, the sender's card or the host.
 ghost use Rattle.std.specs.Prelude.{◌≡◌, ◌≤◌, length};
 ghost use Rattle.params.specs.declared.TheConstants.{IP_MAX_PACKET};
 ghost use Rattle.play_why.specs.Findings as findings;
@@ -15,6 +15,10 @@ use params::{IP_HEADER, UDP_HEADER};
 pub enum Blame {
     /// The packet, as it was on the wire.
     Packet,
+    /// This stack, which lacks what other hosts have: protocols, IP options, longer receive queues and more buffers.
+    Stack,
+    /// Nobody: fragments that arrived before have all bytes of this one.
+    Copy,
     /// The capture, which kept only a part of the record.
     Capture,
     /// The sender's card, which should have filled in the checksum after the packet was captured.
@@ -51,7 +55,7 @@ pub(crate) fn datagram_of<'a>(seen: &Seen<'a>) -> &'a [u8]
 }
 
 /// Returns who is to blame for a packet that is shorter than its header says.
-fn blame_short(seen: &Seen<'_>) -> Blame
+pub(crate) fn blame_short(seen: &Seen<'_>) -> Blame
     ensures { result ≡ findings.blame_short seen.now }
 {
     if seen.captured < seen.original {
@@ -95,6 +99,8 @@ pub(crate) fn blame_of(seen: &Seen<'_>, why: Why) -> Blame
         Why::TooSmall | Why::TooShort => blame_short(seen),
         Why::UdpBadSum => blame_sum(seen.packet, datagram_of(seen)),
         Why::UdpNoPort => blame_port(seen.refused),
+        Why::Options | Why::NoProtocol | Why::UdpFullSocket | Why::NoBufs => Blame::Stack,
+        Why::FragmentDropped => Blame::Copy,
         _ => Blame::Packet,
     }
 }

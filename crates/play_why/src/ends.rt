@@ -14,7 +14,8 @@ pub struct Ends {
     pub protocol: u8,
     /// Its identification.
     pub id: u16,
-    /// The ports, if the packet has the front of a UDP datagram after an IP header without options.
+    /// The ports, if the packet has the front of a UDP datagram after an IP header without options, or those of its
+    /// datagram that the caller knew.
     pub source_port: Option<u16>,
     pub destination_port: Option<u16>,
 }
@@ -30,9 +31,20 @@ fn source_port(destination: Option<u16>, packet: &[u8]) -> Option<u16>
     }
 }
 
-/// Returns the ends of a packet with a header of 20 bytes or more.
-pub(crate) fn ends_of(packet: &[u8]) -> Option<Ends>
-    ensures { result ≡ findings.ends_of packet.now }
+/// Returns the port that a packet shows, or the one that is known.
+fn shown_or(shown: Option<u16>, known: Option<u16>) -> Option<u16>
+    ensures { result ≡ findings.shown_or shown known }
+{
+    match shown {
+        Some(port) => Some(port),
+        None => known,
+    }
+}
+
+/// Returns the ends of a packet with a header of 20 bytes or more. `source` and `destination` are the ports of its
+/// datagram, if they are known.
+pub(crate) fn ends_of(packet: &[u8], source: Option<u16>, destination: Option<u16>) -> Option<Ends>
+    ensures { result ≡ findings.ends_of packet.now source destination }
 {
     if packet.len() < IP_HEADER as usize {
         return None;
@@ -43,7 +55,7 @@ pub(crate) fn ends_of(packet: &[u8]) -> Option<Ends>
         destination: u32_at(packet, 16),
         protocol: packet[9],
         id: u16_at(packet, 4),
-        source_port: source_port(port, packet),
-        destination_port: port,
+        source_port: shown_or(source_port(port, packet), source),
+        destination_port: shown_or(port, destination),
     })
 }

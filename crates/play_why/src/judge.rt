@@ -55,6 +55,9 @@ pub struct Arrival<'a> {
     pub filled: bool,
     /// The record of the ICMP error with which the host refused it, if there is one.
     pub refused: Option<u64>,
+    /// The ports of its datagram, if they are known from another fragment.
+    pub source_port: Option<u16>,
+    pub destination_port: Option<u16>,
 }
 
 /// What happened to all packets.
@@ -65,6 +68,7 @@ struct Totals {
     kept: u64,
     refused: u64,
     offload: u64,
+    cut: u64,
     dropped: u64,
 }
 
@@ -144,6 +148,8 @@ fn seen_by<'a>(parts: &'a Parts, arrival: &Arrival<'_>, packet: &'a [u8]) -> See
         whole: parts.bytes(),
         filled: arrival.filled,
         refused: arrival.refused,
+        source_port: arrival.source_port,
+        destination_port: arrival.destination_port,
     }
 }
 
@@ -215,6 +221,7 @@ impl Totals {
             Outcome::Kept => totals.kept = self.kept.saturating_add(1),
             Outcome::Refused => totals.refused = self.refused.saturating_add(1),
             Outcome::Offload => totals.offload = self.offload.saturating_add(1),
+            Outcome::Cut => totals.cut = self.cut.saturating_add(1),
             Outcome::Dropped => totals.dropped = self.dropped.saturating_add(1),
         }
         totals
@@ -248,6 +255,9 @@ impl Totals {
         if self.offload != 0 {
             add(text, &[Text(b". Left to the card: "), Long(self.offload)]);
         }
+        if self.cut != 0 {
+            add(text, &[Text(b". Cut by the capture: "), Long(self.cut)]);
+        }
         add(
             text,
             &[Text(b". Dropped: "), Long(self.dropped), Text(b".\n")],
@@ -274,6 +284,8 @@ impl Totals {
             &[
                 Text(b",\"offload\":"),
                 Long(self.offload),
+                Text(b",\"cut\":"),
+                Long(self.cut),
                 Text(b",\"dropped\":"),
                 Long(self.dropped),
             ],
@@ -323,6 +335,7 @@ impl Judge {
                 kept: 0,
                 refused: 0,
                 offload: 0,
+                cut: 0,
                 dropped: 0,
             },
             losses: Losses::none(),

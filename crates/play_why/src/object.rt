@@ -48,6 +48,8 @@ fn words_of_blame(blame: Blame) -> &'static str
 {
     match blame {
         Blame::Packet => "packet",
+        Blame::Stack => "stack",
+        Blame::Copy => "copy",
         Blame::Capture => "capture",
         Blame::Card => "card",
         Blame::Host => "host",

@@ -4,7 +4,7 @@ ghost use Rattle.net_stack.specs.Stack.{state_of};
 ghost use Rattle.play_why.specs.Findings as findings;
 ghost use Rattle.play_why.specs.Objects.{outcome_words};
 
-use crate::blame::{Blame, blame_of};
+use crate::blame::{Blame, blame_of, blame_short};
 use crate::finding::Counted;
 use crate::seen::Seen;
 use flat_model::Why;
@@ -22,6 +22,8 @@ pub enum Outcome {
     Refused,
     /// It was dropped only for its UDP checksum, which the sender's card should have filled in after it was captured.
     Offload,
+    /// The stack dropped it only because the capture kept a part of it.
+    Cut,
     /// It was dropped.
     Dropped,
 }
@@ -41,14 +43,32 @@ fn is_offload(seen: &Seen<'_>, counted: &Counted<'_>) -> bool
         && is_card(blame_of(seen, Why::UdpBadSum))
 }
 
-/// Returns the outcome of a packet that was delivered, kept, refused or left to the card; the first of these counts.
+/// Returns whether the capture is to blame.
+fn is_capture(blame: Blame) -> bool
+    ensures { result ≡ findings.is_capture blame }
+{
+    matches!(blame, Blame::Capture)
+}
+
+/// Returns whether a packet was dropped because the capture has only a part of it.
+fn is_cut(seen: &Seen<'_>, counted: &Counted<'_>) -> bool
+    ensures { result ≡ findings.is_cut seen.now counted.now.before.now counted.now.after.now }
+{
+    (rose(Why::TooSmall.counter(), counted.before, counted.after)
+        || rose(Why::TooShort.counter(), counted.before, counted.after))
+        && is_capture(blame_short(seen))
+}
+
+/// Returns the outcome of a packet that was delivered, kept, refused, left to the card or cut; the first of these
+/// counts.
 fn outcome_by(
     is_delivered: bool,
     kept_as_fragment: bool,
     refused: Option<u64>,
     is_left: bool,
+    is_cut: bool,
 ) -> Outcome
-    ensures { result ≡ findings.outcome_by is_delivered kept_as_fragment refused is_left }
+    ensures { result ≡ findings.outcome_by is_delivered kept_as_fragment refused is_left is_cut }
 {
     if is_delivered {
         return Outcome::Delivered;
@@ -61,6 +81,8 @@ fn outcome_by(
         None => {
             if is_left {
                 Outcome::Offload
+            } else if is_cut {
+                Outcome::Cut
             } else {
                 Outcome::Dropped
             }
@@ -77,6 +99,7 @@ pub(crate) fn outcome_of(seen: &Seen<'_>, counted: &Counted<'_>, here: &Stack) -
         is_kept(counted.before, counted.after),
         seen.refused,
         is_offload(seen, counted),
+        is_cut(seen, counted),
     )
 }
 
@@ -91,6 +114,7 @@ impl Outcome {
             Outcome::Kept => "kept",
             Outcome::Refused => "refused",
             Outcome::Offload => "offload",
+            Outcome::Cut => "cut",
             Outcome::Dropped => "dropped",
         }
     }

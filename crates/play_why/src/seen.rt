@@ -19,6 +19,9 @@ pub(crate) struct Seen<'a> {
     pub(crate) filled: bool,
     /// The record of the ICMP error with which the host refused it, if there is one.
     pub(crate) refused: Option<u64>,
+    /// The ports of its datagram, if they are known from another fragment.
+    pub(crate) source_port: Option<u16>,
+    pub(crate) destination_port: Option<u16>,
     ghost packet_len: { length packet.now ≤ IP_MAX_PACKET },
     ghost whole_len: { length whole.now ≤ IP_MAX_PACKET },
 }

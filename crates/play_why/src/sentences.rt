@@ -7,12 +7,13 @@ use crate::blame::Blame;
 use crate::finding::Finding;
 use crate::listed::{Listed, add_listed};
 use crate::outcome::Outcome;
+use crate::ports::port_in;
 use crate::seen::Seen;
 use crate::values::Value;
 use crate::verdict::Verdict;
 use crate::words::rule_for;
 use flat_plain::{u16_at, u32_at};
-use params::IP_HEADER;
+use params::{IP_HEADER, UDP_HEADER};
 use play_text::Piece::{Address, Amount, Long, Number, Range, Text};
 use play_text::{Fate, add, add_packet, add_time, words_for};
 use script_loop::Buffer;
@@ -198,15 +199,41 @@ fn add_refusal<const N: usize>(text: &mut Buffer<N>, verdict: &Verdict) {
 fn add_drop<const N: usize>(text: &mut Buffer<N>, finding: Finding, refused: Option<u64>) {
     let cause = Text(words_for(finding.why).as_bytes());
     match finding.blame {
-        Blame::Packet | Blame::Capture => {
+        Blame::Packet | Blame::Stack | Blame::Copy => {
             add(text, &[Text(b" => dropped: "), cause, Text(b": ")]);
         }
+        Blame::Capture => add(text, &[Text(b" => cut: "), cause, Text(b": ")]),
         Blame::Card => add(text, &[Text(b" => left to the card: "), cause, Text(b": ")]),
         Blame::Host => add(text, &[Text(b" => refused by the host: ")]),
     }
     add_value(text, finding.value);
     if let (Blame::Host, Some(number)) = (finding.blame, refused) {
         add(text, &[Text(b" (record "), Long(number), Text(b")")]);
+    }
+}
+
+/// Adds which checks a packet passed of which the capture has only a part, and the UDP length if that is wrong.
+fn add_checked(text: &mut Buffer<FATE>, packet: &[u8])
+    requires { length packet.now ≤ IP_MAX_PACKET }
+{
+    if packet.len() < IP_HEADER as usize {
+        return;
+    }
+    add(text, &[Text(b"; its header and header checksum are right")]);
+    if port_in(packet).is_none() || u16_at(packet, 6) % 16_384 != 0 {
+        return;
+    }
+    let named = u16_at(packet, 24);
+    let carried = u16_at(packet, 2).saturating_sub(IP_HEADER as u16);
+    if UDP_HEADER as u16 <= named && named <= carried {
+        add(text, &[Text(b", and so is the UDP length")]);
+    } else {
+        let (named, carried) = (Number(u32::from(named)), Number(u32::from(carried)));
+        let (front, end) = (
+            Text(b"; wrong datagram length: length "),
+            Text(b" are carried"),
+        );
+        add(text, &[front, named, Text(b", "), carried, end]);
     }
 }
 
@@ -217,16 +244,27 @@ fn add_reason(text: &mut Buffer<FATE>, seen: &Seen<'_>, finding: Finding) {
             let rule = Text(rule_for(finding.why).as_bytes());
             add(text, &[Text(b"    rule: "), rule, Text(b"\n")]);
         }
-        Blame::Capture => add(
-            text,
-            &[
-                Text(b"    not the packet's fault: the capture kept "),
-                Number(seen.captured),
-                Text(b" of its "),
-                Amount(seen.original, b"byte"),
-                Text(b" (snap length)\n"),
-            ],
-        ),
+        Blame::Stack | Blame::Copy => {
+            let rule = Text(rule_for(finding.why).as_bytes());
+            add(
+                text,
+                &[Text(b"    not the packet's fault: "), rule, Text(b"\n")],
+            );
+        }
+        Blame::Capture => {
+            add(
+                text,
+                &[
+                    Text(b"    not the packet's fault: the capture kept "),
+                    Number(seen.captured),
+                    Text(b" of its "),
+                    Amount(seen.original, b"byte"),
+                    Text(b" (snap length)"),
+                ],
+            );
+            add_checked(text, seen.packet);
+            add(text, &[Text(b"\n")]);
+        }
         Blame::Card => add(
             text,
             &[
@@ -244,11 +282,25 @@ fn add_reason(text: &mut Buffer<FATE>, seen: &Seen<'_>, finding: Finding) {
     }
 }
 
+/// Adds three more digits of a time, unless it's a number of microseconds.
+fn add_nanoseconds(text: &mut Buffer<FATE>, time: u64) {
+    let rest = (time % 1000) as u32;
+    if rest != 0 {
+        let digits = [
+            48 + (rest / 100 % 10) as u8,
+            48 + (rest / 10 % 10) as u8,
+            48 + (rest % 10) as u8,
+        ];
+        add(text, &[Text(&digits)]);
+    }
+}
+
 /// Puts the line of a record into a buffer, with a line below it for each cause for which its packet was dropped.
 pub(crate) fn put_lines(text: &mut Buffer<FATE>, report: &Report<'_>) {
     text.clear();
     add(text, &[Long(report.seen.number), Text(b"  ")]);
     add_time(text, report.time);
+    add_nanoseconds(text, report.time);
     add(text, &[Text(b"  ")]);
     add_headers(text, report.seen.packet);
     add_became(text, report);

@@ -17,7 +17,7 @@ use script_loop::Buffer;
 /// For which causes packets were dropped.
 #[derive(Clone, Copy)]
 pub struct Verdicts {
-    /// By causes, the packets that were wrong on the wire.
+    /// By causes, the packets that were dropped, apart from those below.
     pub causes: Table,
     /// The packets that were dropped because the capture kept only a part of them.
     pub cut: Count,
@@ -36,6 +36,8 @@ fn is_blamed(blame: Blame, seen: &Seen<'_>, before: &Counters, after: &Counters,
     rose(why.counter(), before, after)
         && match (blame, blame_of(seen, why)) {
             (Blame::Packet, Blame::Packet) => true,
+            (Blame::Stack, Blame::Stack) => true,
+            (Blame::Copy, Blame::Copy) => true,
             (Blame::Capture, Blame::Capture) => true,
             (Blame::Card, Blame::Card) => true,
             (Blame::Host, Blame::Host) => true,
@@ -63,11 +65,18 @@ fn blamed(blame: Blame, seen: &Seen<'_>, before: &Counters, after: &Counters, co
     now
 }
 
+/// Returns whether a drop counts in the table if this is to blame.
+fn is_in_table(blame: Blame) -> bool
+    ensures { result ≡ verdicts.is_in_table blame }
+{
+    matches!(blame, Blame::Packet | Blame::Stack | Blame::Copy)
+}
+
 /// Returns a row after a record.
 fn row_judged(row: Row, seen: &Seen<'_>, before: &Counters, after: &Counters) -> Row
     ensures { result ≡ verdicts.row_judged seen.now before.now after.now row }
 {
-    if is_blamed(Blame::Packet, seen, before, after, row.why) {
+    if rose(row.why.counter(), before, after) && is_in_table(blame_of(seen, row.why)) {
         Row {
             why: row.why,
             count: row.count.once_more(seen.number),
@@ -117,10 +126,10 @@ impl Verdicts {
     /// Appends a line for each cause for which a packet was dropped, and those for packets that are apart from drops.
     pub(crate) fn put(&self, text: &mut Buffer<FATE>) {
         add_table(text, &self.causes);
-        add_count(
+        add_apart(
             text,
             self.cut,
-            b"cut by the capture's snap length: no fault of the packet",
+            b" cut by the capture's snap length: no fault of the packet (first: record ",
         );
         add_apart(
             text,
@@ -147,8 +156,6 @@ impl Verdicts {
             let words = Text(words_for(row.why).as_bytes());
             is_first = add_member(text, is_first, row.count, words);
         }
-        let words = Text(b"cut by the capture's snap length");
-        let _ = add_member(text, is_first, self.cut, words);
         add(text, &[Text(b"]")]);
     }
 }

@@ -50,7 +50,7 @@ impl Verdict {
             number: seen.number,
             fate: fate_of(counted.before, counted.after),
             outcome: outcome_of(seen, counted, &host.stack),
-            ends: ends_of(seen.packet),
+            ends: ends_of(seen.packet, seen.source_port, seen.destination_port),
             filled: seen.filled,
             refused: seen.refused,
             delivered: deliveries_of(&host.stack),
