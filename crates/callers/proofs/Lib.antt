@@ -1,3 +1,4 @@
 mod Calls
 mod LimitedCalls
 mod RunCalls
+mod Rounds

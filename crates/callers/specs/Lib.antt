@@ -1,3 +1,4 @@
 pub mod Limited
 pub mod Received
+pub mod Rounds
 pub mod Runs

@@ -8,7 +8,7 @@ use Rattle.flat_model.specs.Machine.Event.{Reply, Comes, Done, Given}
 use Rattle.flat_model.specs.Machine.Fate.{Tells}
 use Rattle.flat_model.specs.Machine.Ledger.{exact_ledger}
 use Rattle.flat_model.specs.Machine.Sending.{Sending, packet_for}
-use Rattle.flat_model.specs.Machine.State.{IsConfig, State, boot, unfinished_at}
+use Rattle.flat_model.specs.Machine.State.{IsConfig, State, unfinished_at}
 use Rattle.flat_model.specs.Machine.Calls.{is_ours}
 use Rattle.flat_model.specs.Runs.Consistent.{IsConsistent}
 use Rattle.flat_model.specs.Runs.Run.{Turn}
@@ -25,8 +25,6 @@ use Rattle.flat_wire.specs.Wire.{ComesFrom, packet_in}
 use Rattle.flat_ether.specs.Ever.{ArePassed, PassedAct, steps_of_acts, turns_of_acts}
 use Rattle.flat_ether.specs.Hosts.{AreHostActs, Host, HostAct, host_up}
 use Rattle.flat_ether.specs.declared.link.Link.{Link}
-use Rattle.net_stack.specs.Runs.{AreCalls, AreCallsOf, PassedCall, steps_of}
-use Rattle.net_stack.specs.Stack.{StackView, state_of}
 
 -- Unless a counter has stopped, the packet has a place that agrees with its fate, and each cause counts what the place
 -- counts for it.
@@ -68,24 +66,6 @@ IsReceivedUnlessLacking first second old new = (p : AreTwoParts old first second
     → value_of Nobufs new.counters ≡ value_of Nobufs old.counters
     → value_of IpReclaimed new.counters < 2 ^ 64 - 1 → value_of Nobufs new.counters < 2 ^ 64 - 1
     → IsCompleted exact_ledger p.sending old new (arrives second ∷ arrives first ∷ [])
-
--- two stacks on one wire, as in `AreOnOneWireForEver`, with a premise that a user can check
-pub record AreOnOnePacedWire (first second : Config) (sent : List PassedCall) (came : List Turn) (s t : StackView)
-    (born made : ℕ → ℕ) (life pace : ℕ) : Type 0 where
-  pub first_boots : IsConfig first
-  pub second_boots : IsConfig second
-  pub first_start : StackView
-  pub second_start : StackView
-  pub first_starts : state_of first_start ≡ boot first
-  pub second_starts : state_of second_start ≡ boot second
-  pub first_calls : AreCallsOf first_start sent s
-  pub second_calls : AreCalls second_start came t
-  pub not_addr : first.addr ≢ second.addr
-  pub not_bcast : first.addr ≢ second.bcast
-  pub wire : (before after : List Turn) (turn : Turn) (packet : List ℕ) → came ≡ before ++ turn ∷ after
-      → packet_in turn ≡ Some packet → ComesFrom first.addr packet
-      → IsMadeBySend (steps_of sent) (born (length before)) packet
-  pub paced : ArePaced first.addr came born made life pace
 
 -- two hosts on one Ethernet, as in `AreOnEthernetForEver`, with a premise that a user can check
 pub record AreOnPacedEthernet (c d : Config) (l m : Link) (sent : List PassedAct) (came : List HostAct) (s t : Host)

@@ -1,21 +1,19 @@
 //! Two stacks on a wire that loses, repeats and exchanges packets, and the laws of their runs.
-ghost use Rattle.std.specs.Prelude.{◌≡◌, ◌≤◌, ◌∷◌, [], length, take, Contains, IfOk, All, List, Some, ℕ, ◌<◌};
+ghost use Rattle.std.specs.Prelude.{◌≡◌, ◌≤◌, ◌∷◌, [], length, take, true, Contains, IfOk, IfSome, All, List, Some, ℕ, ◌<◌};
 ghost use Rattle.flat_model.specs.Machine.Event.{Reply};
 ghost use Rattle.flat_model.specs.Machine.Replies.{received_reply, given_reply};
-ghost use Rattle.net_stack.specs.Runs.{AreCalls, PassedCall, turns_of_calls};
-ghost use Rattle.callers.specs.Received.{HasGiven, IsReceivedInOrder, packet_comes, send_event};
+ghost use Rattle.net_stack.specs.Runs.{AreCalls};
+ghost use Rattle.callers.specs.Received.{HasGiven, IsReceivedInOrder, packet_comes, receives, send_event};
 ghost use Rattle.params.specs.declared.TheConstants.{IP_MAX_PACKET, MAX_MTU, OUTPUT_QUEUE_PACKETS};
 ghost use Rattle.flat_model.specs.Machine.State.{Datagram, Socket, Unfinished};
 ghost use Rattle.flat_model.specs.declared.config.Config.{Config};
-ghost use Rattle.flat_model.specs.Machine.Ledger.{exact_ledger};
-ghost use Rattle.flat_model.specs.Runs.Run.{Turn};
-ghost use Rattle.flat_wire.specs.Ever.{AreAllSent};
 ghost use Rattle.flat_ether.specs.Ever.{PassedAct, acts_passed};
 ghost use Rattle.flat_ether.specs.Hosts.{Host, HostAct};
 ghost use Rattle.flat_ether.specs.Laws.{WasSentOnEthernet};
 ghost use Rattle.flat_ether.specs.declared.link.Link.{Link};
-ghost use Rattle.net_stack.specs.Stack.{StackView, state_of};
-ghost use Rattle.callers.specs.Runs.{AreFirstGiven, AreOnOnePacedWire, AreOnPacedEthernet, AreTwoParts, IsAccountedFor, IsReceivedUnlessLacking};
+ghost use Rattle.net_stack.specs.Stack.{state_of};
+ghost use Rattle.callers.specs.Rounds.{AreRounds, IsIdle, IsOneOfBoth, IsRound};
+ghost use Rattle.callers.specs.Runs.{AreFirstGiven, AreOnPacedEthernet, AreTwoParts, IsAccountedFor, IsReceivedUnlessLacking};
 
 use flat_ether::hosts_on_an_ethernet_for_ever;
 use flat_model::{Addr, Config, Counter, Counters, Errno, Fate, states_are_consistent};
@@ -226,20 +224,93 @@ pub fn pass_both(stack: &mut Stack, first: &[u8], second: &[u8])
     progress_law();
 }
 
-/// Two stacks on a wire, of which the first paces its sends: the most sends in the life of a packet, and the most in 60
-/// of the second's ticks, are together at most 65,536. Then what waits in the second's queues was sent, for ever: by
-/// `pace_law` and `stacks_on_a_wire_for_ever`.
-pub fn paced_stacks()
-    ensures { (first second : Config) (sent : List PassedCall) (came : List Turn) (s t : StackView) (born made : ℕ → ℕ)
-        (life pace : ℕ) → AreOnOnePacedWire first second sent came s t born made life pace
-        → AreAllSent exact_ledger first second (turns_of_calls sent) (state_of s) (state_of t) }
+/// Reads a datagram, if one waits.
+fn read(stack: &mut Stack, buffer: &mut [u8])
+    ensures { (most : ℕ) × (reply : Reply) × AreCalls stack.old (receives most reply ∷ []) stack.new }
 {
-    pace_law();
-    stacks_on_a_wire_for_ever();
+    let _ = stack.recvfrom(SOCKET, buffer);
 }
 
-/// Two hosts on an Ethernet, of which the first paces its sends, as in `paced_stacks`. Then what waits in the second's
-/// queues was sent, for ever: by `pace_law` and `hosts_on_an_ethernet_for_ever`.
+/// One round. The second host reads a datagram, if one waits. The first sends `bytes`, and two of its packets go to the
+/// second, the later one first. Then the second's clock ticks. Returns whether nothing waits for the link.
+fn round(first: &mut Stack, second: &mut Stack, bytes: &[u8]) -> bool
+    requires { IsIdle first.old }
+    ensures { result ≡ true → IsRound bytes.now first.old second.old first.new second.new }
+{
+    let mut late = [0; ROOM];
+    let mut early = [0; ROOM];
+    read(second, &mut late);
+    send(first, bytes);
+    let late_len = give(first, &mut late);
+    let early_len = give(first, &mut early);
+    hand_over(second, &early[..early_len]);
+    hand_over(second, &late[..late_len]);
+    second.tick();
+    first.laws();
+    queue_law();
+    match first.tx(&mut late) {
+        Some(_) => false,
+        None => true,
+    }
+}
+
+/// Rounds with one datagram and the other in turn. Returns whether each datagram was one or two packets.
+fn all_rounds(first: &mut Stack, second: &mut Stack, rounds: u64, one: &[u8], other: &[u8]) -> bool
+    requires { IsIdle first.old }
+    ensures { result ≡ true → AreRounds one.now other.now first.old second.old first.new second.new }
+{
+    for _ in 0..rounds {
+        if !round(first, second, one) {
+            return false;
+        }
+        if !round(first, second, other) {
+            return false;
+        }
+    }
+    true
+}
+
+/// Boots two hosts on one wire, and sends two datagrams in turn from the first to the second, `rounds` times each, with
+/// the same 65,536 identifications again and again. The wire exchanges the fragments of each. Returns the reply of the
+/// second's last `recvfrom`, or `None` if a datagram was more than two packets.
+///
+/// What is received with the first's address is the front of one of the two, and never a mixture, for any number of
+/// rounds. The second's clock ticks once a round, so at most 60 sends lie between two fragments that can meet:
+/// `pace_law` and `stacks_on_a_wire_for_ever`.
+///
+/// # Errors
+///
+/// `Memory` if the host memory for one of them can't be allocated.
+pub fn send_in_turn(
+    alloc: Global,
+    rounds: u64,
+    one: &[u8],
+    other: &[u8],
+    buffer: &mut [u8],
+) -> Result<Option<Result<(Addr, usize), Errno>>, BootFault>
+    ensures { IfOk result (λ done. IfSome done (λ answer. IfOk answer (λ got. got.0.ip ≡ FIRST.addr
+        → IsOneOfBoth one.now other.now (length buffer.old) (take got.1 buffer.new)))) }
+{
+    let mut first = Stack::boot(alloc, FIRST)?;
+    let Ok(mut second) = Stack::boot(alloc, SECOND) else {
+        let _ = first.end();
+        return Err(BootFault::Memory);
+    };
+    let _ = first.socket();
+    let _ = second.socket();
+    let _ = second.bind(SOCKET, Addr { ip: 0, port: PORT });
+    let done = all_rounds(&mut first, &mut second, rounds, one, other);
+    let answer = second.recvfrom(SOCKET, buffer);
+    pace_law();
+    stacks_on_a_wire_for_ever();
+    let _ = first.end();
+    let _ = second.end();
+    if done { Ok(Some(answer)) } else { Ok(None) }
+}
+
+/// Two hosts on an Ethernet, of which the first paces its sends: the most sends in the life of a packet, and the most
+/// in 60 of the second's ticks, are together at most 65,536. Then what waits in the second's queues was sent, for ever:
+/// by `pace_law` and `hosts_on_an_ethernet_for_ever`.
 pub fn paced_hosts()
     ensures { (c d : Config) (l m : Link) (sent : List PassedAct) (came : List HostAct) (s t : Host) (born made : ℕ → ℕ)
         (life pace : ℕ) (socket : Socket) (datagram : Datagram)
