@@ -142,6 +142,10 @@ TOOLS = {
     "aarch64-linux-gnu": Tool(command("aarch64-linux-gnu-gcc"), "gcc-aarch64-linux-gnu libc6-dev-arm64-cross"),
     "riscv64-linux-gnu": Tool(command("riscv64-linux-gnu-gcc"), "gcc-riscv64-linux-gnu libc6-dev-riscv64-cross"),
     "s390x-linux-gnu": Tool(command("s390x-linux-gnu-gcc"), "gcc-s390x-linux-gnu libc6-dev-s390x-cross"),
+    "wine64": Tool(
+        lambda: os.access("/usr/lib/wine/wine64", os.X_OK) and command("x86_64-w64-mingw32-gcc")(),
+        what="wine64 or gcc-mingw-w64-x86-64 isn't installed (700 MB)",
+    ),
     "qemu-user": Tool(command("qemu-arm"), "qemu-user"),
     "debootstrap": Tool(command("debootstrap"), "debootstrap"),
     "ip": Tool(command("ip"), "iproute2"),

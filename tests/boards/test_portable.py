@@ -1,9 +1,12 @@
 """bsdudp_portable.c, the library as one C99 file. Two builds are identical. It compiles in an empty folder, calls four
 functions of the C library, and has no variable. Every call, its checks of accesses, the examples and random scripts
-are tested with sanitizers, with another compiler, on 32-bit hosts, and on a big-endian host."""
+are tested with sanitizers, with another compiler, on 32-bit hosts, and on a big-endian host, and the calls as programs
+of Windows, by Wine."""
+import os
 import re
 import shutil
 import subprocess
+import tempfile
 from typing import NamedTuple
 
 import pytest
@@ -14,7 +17,9 @@ from tests.made import made
 
 pytestmark = [pytest.mark.slow, pytest.mark.needs("rt", "wasm-opt", "wasm2c", "cc")]
 ASKED = set("memcpy memmove memset memcmp _GLOBAL_OFFSET_TABLE_".split())
-PROGRAMS = {it: f"tests/{it}.c" for it in ("calls", "ether", "rehost", "mark", "fates")} | {"wire": "examples/wire.c"}
+PROGRAMS = {it: f"tests/{it}.c" for it in ("calls", "ether", "rehost", "mark", "fates")}
+PROGRAMS |= {it: f"examples/{it}.c" for it in ("first", "wire")}
+WINE = ["env", "WINEDEBUG=-all", f"WINEPREFIX={tempfile.gettempdir()}/wine-{os.getuid()}", "/usr/lib/wine/wine64"]
 
 
 class Build(NamedTuple):
@@ -35,6 +40,7 @@ BUILDS = {
     "s390x": (
         Build(["s390x-linux-gnu-gcc", "-static"], ["-O1"], [], ["qemu-s390x"], 50), ["s390x-linux-gnu", "qemu-user"],
     ),
+    "windows": (Build(["x86_64-w64-mingw32-gcc", "-static"], ["-O1"], runs_by=WINE), ["wine64"]),
 }  # fmt: skip
 
 
@@ -54,7 +60,7 @@ def builds(portable_c, compiled, once):
         folder = once(
             f"portable-{of}", lambda scratch: made(*words, *how.of_file, "-c", portable_c, "-o", scratch / "portable.o")
         )
-        return [*how.runs_by, compiled(name, *words, *sources, folder / "portable.o")]
+        return [*how.runs_by, compiled(f"{name}.exe", *words, *sources, folder / "portable.o")]
 
     return build
 
@@ -106,7 +112,8 @@ def test_shows_what_the_header_has(symbols):
 @pytest.mark.parametrize(
     "of, name",
     [row("tested", "calls"), row("tested", "ether"), row("tested", "rehost"), row("tested", "mark"),
-     row("tested", "wire"), row("untested", "calls"), row("untested", "ether"), row("untested", "rehost")],
+     row("tested", "wire"), row("untested", "calls"), row("untested", "ether"), row("untested", "rehost"),
+     *(row("windows", it) for it in ("first", "wire", "calls", "ether", "rehost", "mark", "fates"))],
 )  # fmt: skip
 def test_calls(of, name, builds, runs):
     runs(*builds(of, name, PROGRAMS[name]))
@@ -119,6 +126,7 @@ def test_accesses(portable_c, compiled, runs):
     runs(compiled("access", CC, *words))
 
 
-@pytest.mark.parametrize("of", map(row, BUILDS))
+# On Windows a line of standard output ends with \r\n.
+@pytest.mark.parametrize("of", [row(it) for it in BUILDS if it != "windows"])
 def test_scripts(of, builds, plays):
     plays(builds(of, "driver", "-O1", *DRIVER), BUILDS[of][0].scripts)
