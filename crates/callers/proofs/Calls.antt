@@ -4,7 +4,7 @@ use Rattle.std.specs.Prelude.{All, Contains, filter_map}
 use Rattle.std.specs.List.{AllByRecursion as Each, cons_option}
 use Rattle.std.proofs.lemmas.List.Elements.{All-from_recursion, filter_map-append}
 use Rattle.flat_model.specs.Machine.Count.{value_of}
-use Rattle.flat_model.specs.Machine.Event.{Event, Reply, IsBytes, Open, Bind, Receive, Comes, Transmit, Received, Counted}
+use Rattle.flat_model.specs.Machine.Event.{Event, Reply, IsBytes, IsEvent, Open, Bind, Receive, Comes, Transmit, Received, Counted}
 use Rattle.flat_model.specs.Machine.Ledger.{exact_ledger}
 use Rattle.flat_model.specs.Machine.State.{IsConfig, boot}
 use Rattle.flat_model.specs.Machine.Step.{Step}
@@ -14,9 +14,9 @@ use Rattle.flat_model.specs.declared.config.Config.{Config}
 use Rattle.flat_model.specs.declared.counter.Counter.TheVariants.{IpLocalout}
 use Rattle.flat_model.specs.declared.counters.Counters.{Counters}
 use Rattle.flat_wire.specs.Ever.{IsShortSend}
-use Rattle.flat_wire.specs.Wire.{ComesFrom, WasSent, packet_in, packet_out}
+use Rattle.flat_wire.specs.Wire.{ComesFrom, WasSent, given, packet_in, packet_out}
 use Rattle.net_stack.specs.Stack.{StackView, state_of}
-use Rattle.net_stack.specs.Runs.{AreCalls}
+use Rattle.net_stack.specs.Runs.{AreCalls, IsTurnOf}
 use Rattle.net_stack.specs.Wire.{AreOnOneWire, AreOnOneWireWhole}
 use Rattle.callers.specs.declared.laws_on_a_wire.TheConstants.{FIRST, SECOND, SOCKET, PORT}
 use Rattle.callers.specs.Received.{AreShort, HasGiven, IsReceivedInOrder, packet_comes, events, receives, send_event}
@@ -24,6 +24,19 @@ use Rattle.callers.specs.Received.{AreShort, HasGiven, IsReceivedInOrder, packet
 pub then_calls : (a b c : StackView) (xs ys : List Turn) → AreCalls a xs b → AreCalls b ys c → AreCalls a (xs ++ ys) c
 then_calls a b c [] ys same later = subst (λ (s : StackView). AreCalls s ys c) same later
 then_calls a b c (x ∷ xs) ys (is, mid, call, rest) later = (is, mid, call, then_calls mid b c xs ys rest later)
+
+pub one_call : (s u : StackView) (turn : Turn) → AreCalls s (turn ∷ []) u → IsEvent turn.event × IsTurnOf s turn u
+one_call s u turn (is, mid, step, same) = (is, subst (λ m. IsTurnOf s turn m) (sym same) step)
+
+-- the step of a `tx`, and the packet in its reply
+pub given_step : (a b : StackView) (p : List ℕ) (g : HasGiven a b p)
+    → Step (state_of a) Transmit g.turn.reply (state_of b)
+given_step a b p g =
+    subst (λ event. Step (state_of a) event g.turn.reply (state_of b)) g.is_tx (one_call a b g.turn g.calls).1
+
+pub given_packet : (a b : StackView) (p : List ℕ) (g : HasGiven a b p) → 16 ≤ length p
+    → given Transmit g.turn.reply ≡ Some p
+given_packet a b p g long = subst (λ event. given event g.turn.reply ≡ Some p) g.is_tx (g.out long)
 
 -- a packet that one turn gave to the link is among those of all turns, whatever the turns before it gave
 pub given_here : (turn : Turn) (turns : List Turn) (packet : List ℕ) → packet_out turn ≡ Some packet

@@ -2,3 +2,4 @@ mod Calls
 mod LimitedCalls
 mod RunCalls
 mod Rounds
+mod Parts

@@ -9,7 +9,7 @@ use Rattle.std.proofs.lemmas.List.{append_assoc, length-append, map-append}
 use Rattle.std.proofs.lemmas.Option.{none-some, same_Some}
 use Rattle.flat_model.specs.Amounts.Layout.{Need}
 use Rattle.flat_model.specs.Amounts.Weight.{Item, Weight, nothing}
-use Rattle.flat_model.specs.Machine.Event.{Event, Reply, IsEvent, Open, Bind, Connect, Send, Receive, Close, Set_option, Set_limit, Comes, Transmit, Tick, Ask_counters, Ask_usage, Done, Given, Received, Sent}
+use Rattle.flat_model.specs.Machine.Event.{Event, Reply, Open, Bind, Connect, Send, Receive, Close, Set_option, Set_limit, Comes, Transmit, Tick, Ask_counters, Ask_usage, Done, Given, Received, Sent}
 use Rattle.flat_model.specs.Machine.Arrival.{AllArrive}
 use Rattle.flat_model.specs.Machine.Calls.{GetsPort, read_addr, source_for}
 use Rattle.flat_model.specs.Machine.Ledger.{HasBuffers, exact_ledger}
@@ -29,13 +29,13 @@ use Rattle.flat_wire.specs.Ever.{ArePaced, CanMeet, IsMadeBySend, PaceLaw, uses_
 use Rattle.flat_wire.specs.Queue.{KeepsOrder, QueueLaw, packets_in_queue}
 use Rattle.flat_wire.specs.Trail.{PassedStep}
 use Rattle.flat_wire.specs.Wire.{ComesFrom, WasSent, came_in as packet_of_event, given, packet_in}
-use Rattle.net_stack.specs.Runs.{AreCalls, AreCallsOf, IsTurnOf, PassedCall, steps_of, turns_of_calls}
+use Rattle.net_stack.specs.Runs.{AreCalls, AreCallsOf, PassedCall, steps_of, turns_of_calls}
 use Rattle.net_stack.specs.Stack.{StackView, state_of}
 use Rattle.net_stack.specs.Wire.{AreOnOneWireForEver}
 use Rattle.callers.specs.declared.laws_on_a_wire.TheConstants.{FIRST, SECOND, SOCKET, PORT}
 use Rattle.callers.specs.Received.{HasGiven, packet_comes, receives, send_event}
 use Rattle.callers.specs.Rounds.{AreRounds, IsFine, IsIdle, IsOneOfBoth, IsRound, IsSendOf, Round, came_in_rounds, sent_in_rounds, clock_ticks}
-use Rattle.callers.proofs.Calls.{then_calls}
+use Rattle.callers.proofs.Calls.{given_packet, given_step, one_call, then_calls}
 
 -- how many sends used an identification in the first n rounds
 abbrev pub sends_before : List Round → ℕ → ℕ
@@ -359,9 +359,6 @@ another n m e = go (eqb_tells n m)
 
 -- ---- the calls of one round
 
-one_call : (s u : StackView) (turn : Turn) → AreCalls s (turn ∷ []) u → IsEvent turn.event × IsTurnOf s turn u
-one_call s u turn (is, mid, step, same) = (is, subst (λ m. IsTurnOf s turn m) (sym same) step)
-
 module _ (old new : State) (reply : Reply) (p : List ℕ) where
   -- a packet that the link takes waited
   took : Transmits old.output old reply new → given Transmit reply ≡ Some p
@@ -435,13 +432,6 @@ module _ (law : QueueLaw exact_ledger) (bytes : List ℕ) (s one two three new_s
       ∷ record { old = two; turn = gave_early.turn; new = three }
       ∷ record { old = three; turn = last; new = new_s } ∷ []
 
-  taken : (a b : StackView) (p : List ℕ) (g : HasGiven a b p) → Step (state_of a) Transmit g.turn.reply (state_of b)
-  taken a b p g =
-      subst (λ event. Step (state_of a) event g.turn.reply (state_of b)) g.is_tx (one_call a b g.turn g.calls).1
-
-  gave : (a b : StackView) (p : List ℕ) (g : HasGiven a b p) → 16 ≤ length p → given Transmit g.turn.reply ≡ Some p
-  gave a b p g long = subst (λ event. given event g.turn.reply ≡ Some p) g.is_tx (g.out long)
-
   abbrev Sent' : Type 0
   Sent' = ((state_of one).config ≡ FIRST)
       × (((state_of one).output ≡ []) ⊎ ((state_of one).next_id ≡ ((state_of s).next_id + 1) % 65536))
@@ -493,8 +483,9 @@ module _ (law : QueueLaw exact_ledger) (bytes : List ℕ) (s one two three new_s
         count_cons uses_id c (d ∷ []),
         count_cons uses_id d [],
         at_most (uses_id a),
-        uses_none b (id_kept (state_of one) (state_of two) gave_late.turn.reply (taken one two late gave_late)),
-        uses_none c (id_kept (state_of two) (state_of three) gave_early.turn.reply (taken two three early gave_early)),
+        uses_none b (id_kept (state_of one) (state_of two) gave_late.turn.reply (given_step one two late gave_late)),
+        uses_none c
+            (id_kept (state_of two) (state_of three) gave_early.turn.reply (given_step two three early gave_early)),
         uses_none d (id_kept (state_of three) (state_of new_s) (Given None) gave_all),
       )
 
@@ -510,12 +501,12 @@ module _ (law : QueueLaw exact_ledger) (bytes : List ℕ) (s one two three new_s
     );
     few = few;
     early = λ from.
-        made early (waited (state_of one) (state_of two) gave_late.turn.reply early (taken one two late gave_late)
-        (took (state_of two) (state_of three) gave_early.turn.reply early (taken two three early gave_early)
-        (gave two three early gave_early from.long)));
+        made early (waited (state_of one) (state_of two) gave_late.turn.reply early (given_step one two late gave_late)
+        (took (state_of two) (state_of three) gave_early.turn.reply early (given_step two three early gave_early)
+        (given_packet two three early gave_early from.long)));
     late = λ from.
-        made late (took (state_of one) (state_of two) gave_late.turn.reply late (taken one two late gave_late)
-        (gave one two late gave_late from.long));
+        made late (took (state_of one) (state_of two) gave_late.turn.reply late (given_step one two late gave_late)
+        (given_packet one two late gave_late from.long));
   }
 
   pub is_round : (t begun mid later new_t : StackView) (most : ℕ) (read : Reply)
@@ -550,8 +541,8 @@ module _ (law : QueueLaw exact_ledger) (bytes : List ℕ) (s one two three new_s
     idle = (
       none_left (state_of three) (state_of new_s) gave_all,
       config_kept (state_of three) (state_of new_s) (Given None) gave_all
-          ∙ config_kept (state_of two) (state_of three) gave_early.turn.reply (taken two three early gave_early)
-          ∙ config_kept (state_of one) (state_of two) gave_late.turn.reply (taken one two late gave_late)
+          ∙ config_kept (state_of two) (state_of three) gave_early.turn.reply (given_step two three early gave_early)
+          ∙ config_kept (state_of one) (state_of two) gave_late.turn.reply (given_step one two late gave_late)
           ∙ has_sent.0,
     );
   }

@@ -1,10 +1,10 @@
 //! Two stacks on a wire that loses, repeats and exchanges packets, and the laws of their runs.
-ghost use Rattle.std.specs.Prelude.{◌≡◌, ◌≤◌, ◌∷◌, [], length, take, true, Contains, IfOk, IfSome, All, List, Some, ℕ, ◌<◌};
+ghost use Rattle.std.specs.Prelude.{◌≡◌, ◌≤◌, ◌∷◌, [], length, take, true, Contains, IfOk, IfSome, All, List, None, Some, ℕ, ◌<◌};
 ghost use Rattle.flat_model.specs.Machine.Event.{Reply};
 ghost use Rattle.flat_model.specs.Machine.Replies.{received_reply, given_reply};
 ghost use Rattle.net_stack.specs.Runs.{AreCalls};
 ghost use Rattle.callers.specs.Received.{HasGiven, IsReceivedInOrder, packet_comes, receives, send_event};
-ghost use Rattle.params.specs.declared.TheConstants.{IP_MAX_PACKET, MAX_MTU, OUTPUT_QUEUE_PACKETS};
+ghost use Rattle.params.specs.declared.TheConstants.{IP_MAX_PACKET, MAX_MTU};
 ghost use Rattle.flat_model.specs.Machine.State.{Datagram, Socket, Unfinished};
 ghost use Rattle.flat_model.specs.declared.config.Config.{Config};
 ghost use Rattle.flat_ether.specs.Ever.{PassedAct, acts_passed};
@@ -12,6 +12,9 @@ ghost use Rattle.flat_ether.specs.Hosts.{Host, HostAct};
 ghost use Rattle.flat_ether.specs.Laws.{WasSentOnEthernet};
 ghost use Rattle.flat_ether.specs.declared.link.Link.{Link};
 ghost use Rattle.net_stack.specs.Stack.{state_of};
+ghost use Rattle.flat_model.specs.Machine.Event.{Given, Transmit};
+ghost use Rattle.flat_model.specs.Machine.Step.{Step};
+ghost use Rattle.callers.specs.Parts.{HasSocket, IsDatagramPassed, IsFresh, IsUnchanged};
 ghost use Rattle.callers.specs.Rounds.{AreRounds, IsIdle, IsOneOfBoth, IsRound};
 ghost use Rattle.callers.specs.Runs.{AreFirstGiven, AreOnPacedEthernet, AreTwoParts, IsAccountedFor, IsReceivedUnlessLacking};
 
@@ -180,7 +183,6 @@ pub fn take_two(
 ) -> (Option<usize>, Option<usize>)
     requires room { MAX_MTU ≤ length one.old }
     requires more_room { MAX_MTU ≤ length two.old }
-    requires short { length (state_of stack.old).output ≤ OUTPUT_QUEUE_PACKETS }
     requires packet { length packet.now ≤ IP_MAX_PACKET }
     ensures { AreFirstGiven (state_of stack.old).output (given_reply result.0 one.new) (given_reply result.1 two.new) }
 {
@@ -224,6 +226,80 @@ pub fn pass_both(stack: &mut Stack, first: &[u8], second: &[u8])
     progress_law();
 }
 
+/// Returns whether no packet waits for the link; if one does, it's taken.
+fn is_drained(stack: &mut Stack) -> bool
+    ensures { result ≡ true → Step (state_of stack.old) Transmit (Given None) (state_of stack.new) }
+{
+    let mut rest = [0; ROOM];
+    stack.laws();
+    match stack.tx(&mut rest) {
+        Some(_) => false,
+        None => true,
+    }
+}
+
+/// Returns whether a counter is the same, and hasn't stopped.
+fn is_unchanged(counter: Counter, before: &Counters, after: &Counters) -> bool
+    ensures { result ≡ true → IsUnchanged counter before.now after.now }
+{
+    let count = after.value(counter);
+    count == before.value(counter) && count < u64::MAX
+}
+
+/// Sends a datagram from the first host, and passes its packets to the second, the later one first. Returns whether
+/// they were two and no buffers lacked.
+fn pass_parts(first: &mut Stack, second: &mut Stack, bytes: &[u8]) -> bool
+    requires first { HasSocket first.old }
+    requires second { IsFresh second.old }
+    ensures { result ≡ true → IsDatagramPassed bytes.now }
+{
+    let mut one = [0; ROOM];
+    let mut two = [0; ROOM];
+    send(first, bytes);
+    let one_len = give(first, &mut one);
+    let two_len = give(first, &mut two);
+    if !is_drained(first) {
+        return false;
+    }
+    if one_len < 16 || two_len < 16 {
+        return false;
+    }
+    let before = second.counters();
+    second.laws();
+    pass_both(second, &one[..one_len], &two[..two_len]);
+    let after = second.counters();
+    if !is_unchanged(Counter::IpReclaimed, &before, &after) {
+        return false;
+    }
+    is_unchanged(Counter::Nobufs, &before, &after)
+}
+
+/// Boots two hosts, and sends a datagram of two packets from the first to the second, which gets the later one first.
+/// Returns whether they were two and no buffers lacked. Then one of the two arrivals completed the datagram: the socket
+/// that matches has it, or it was counted, by `pass_both`.
+///
+/// # Errors
+///
+/// `Memory` if the host memory for one of them can't be allocated.
+pub fn deliver_parts(alloc: Global, bytes: &[u8]) -> Result<bool, BootFault>
+    ensures { IfOk result (λ done. done ≡ true → IsDatagramPassed bytes.now) }
+{
+    let mut first = Stack::boot(alloc, FIRST)?;
+    let Ok(mut second) = Stack::boot(alloc, SECOND) else {
+        let _ = first.end();
+        return Err(BootFault::Memory);
+    };
+    let _ = second.socket();
+    let _ = second.bind(SOCKET, Addr { ip: 0, port: PORT });
+    let done = match first.socket() {
+        Ok(_) => pass_parts(&mut first, &mut second, bytes),
+        Err(_) => false,
+    };
+    let _ = first.end();
+    let _ = second.end();
+    Ok(done)
+}
+
 /// Reads a datagram, if one waits.
 fn read(stack: &mut Stack, buffer: &mut [u8])
     ensures { (most : ℕ) × (reply : Reply) × AreCalls stack.old (receives most reply ∷ []) stack.new }
@@ -246,12 +322,8 @@ fn round(first: &mut Stack, second: &mut Stack, bytes: &[u8]) -> bool
     hand_over(second, &early[..early_len]);
     hand_over(second, &late[..late_len]);
     second.tick();
-    first.laws();
     queue_law();
-    match first.tx(&mut late) {
-        Some(_) => false,
-        None => true,
-    }
+    is_drained(first)
 }
 
 /// Rounds with one datagram and the other in turn. Returns whether each datagram was one or two packets.
