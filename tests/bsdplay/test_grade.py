@@ -373,6 +373,14 @@ def test_settings_without_memory_end_with_status_3(kilobytes, front, line, words
     assert (ended.returncode, b"no memory" in ended.stdout) == (3, True), ended
 
 
+@pytest.mark.proved
+def test_seeds_of_a_host_without_memory_end_with_status_3(bsdplay, tmp_path):
+    script = tmp_path / "large.txt"
+    script.write_text("host a --addr 10.0.0.1\nhost b --addr 10.0.0.2 --mbufs 65535\n", encoding="utf-8")
+    ended = limited(38_000, bsdplay, "--seeds", "1-2", script)
+    assert (ended.returncode, ended.stdout.count(b"no memory")) == (3, 2), ended
+
+
 def test_a_line_about_memory_is_no_want_of_it(bsdplay):
     """Neither an expected reply nor a text that says so."""
     script = 'socket => error no memory\nsendto 3 10.0.0.2 7 "x: no memory"\n'

@@ -3,16 +3,18 @@ use crate::difference::put_difference;
 use crate::hand_in::{REFUSED, load, play_quietly, unmarked};
 use crate::messages::{Shown, fail, fail_on};
 use crate::sweep::first_fault;
-use crate::watched::{NO_MEMORY, is_lack};
 use crate::{UNREAD, USAGE};
 use clap::ArgMatches;
 use csv::Writer;
 use play_grade::{Marker, Marks, Verdict, first_line};
-use play_script::RunFault;
+use play_script::{Played, RunFault};
 use std::io::{self, Write};
 
 /// The status if a hand-in doesn't pass, or the key itself doesn't.
 const FAILED: u8 = 1;
+
+/// The status if there is no memory to play a hand-in or a key.
+const NO_MEMORY: u8 = 3;
 
 /// The report on a hand-in.
 #[derive(Clone, Copy)]
@@ -177,8 +179,8 @@ fn put_key_fault(
 
 /// Whether host memory was refused while a script was played: to the player, or to a machine of its settings. Then its
 /// replies aren't marked.
-fn lacks_memory(verdict: &Verdict, fault: &[u8]) -> bool {
-    matches!(verdict.played.outcome, Err(RunFault::Memory)) || is_lack(fault)
+fn lacks_memory(played: &Played) -> bool {
+    played.lacks || matches!(played.outcome, Err(RunFault::Memory))
 }
 
 /// Returns the status if a key doesn't pass itself, after saying why. `None`: it passes.
@@ -192,10 +194,7 @@ fn refused_key(
     if verdict.is_passed() {
         return Ok(None);
     }
-    if lacks_memory(
-        &verdict,
-        first_fault(grader.written.as_slice(), name.as_bytes()),
-    ) {
+    if lacks_memory(&verdict.played) {
         let status = fail_on(rt, name, "no memory: no hand-in was graded", NO_MEMORY)?;
         return Ok(Some(status));
     }
@@ -267,10 +266,10 @@ fn grade_file<W: Write + Drop>(
         }
     };
     let verdict = grader.grade(rt, key, name, unmarked(file.as_slice()));
-    let fault = first_fault(grader.written.as_slice(), name.as_bytes());
-    if lacks_memory(&verdict, fault) {
+    if lacks_memory(&verdict.played) {
         return report_refused(rt, name);
     }
+    let fault = first_fault(grader.written.as_slice(), name.as_bytes());
     let mut note = Vec::new(rt.alloc());
     note.extend_from_slice(fault)?;
     put_difference(&mut note, fault)?;

@@ -26,7 +26,6 @@ mod strict;
 mod sweep;
 mod typed;
 mod unsolved;
-mod watched;
 mod why;
 
 use choice::Ahead;
@@ -41,17 +40,16 @@ use hosts::{play_captured, play_uncaptured, status_of};
 use messages::{Shown, fail, fail_on};
 use one::play_one;
 use options::{OPTIONS, with_options};
-use play_script::{Form, Played, RunFault, Style};
+use play_script::{Form, Played, Style};
 use screen::Screen;
 use std::alloc::{AllocError, Global};
-use std::io::{IsTerminal, Read, Stdout};
+use std::io::{IsTerminal, Read};
 use std::process::ExitCode;
 use std::{env, fs, io};
 use strict::{print_blank, print_lacks};
 use sweep::{Seeds, seed_in, seeds_in, sweep};
 use typed::{TYPED, Typed, is_typed};
 use unsolved::{Open, Unsolved};
-use watched::Watched;
 use why::{print_why, why_command};
 
 /// The status if the command line can't be read.
@@ -159,39 +157,6 @@ fn play_seeds<R: Read + Drop>(
     sweep(rt, script.as_slice(), name, seeds, progress)
 }
 
-/// Says that there is no memory to play a script, and returns the status.
-pub(crate) fn report_no_memory(rt: &HostRuntime, name: &str) -> io::Result<u8> {
-    let played = Played {
-        outcome: Err(RunFault::Memory),
-        sound: true,
-    };
-    report(rt, name, &played)?;
-    Ok(played.status())
-}
-
-/// Plays a script of many machines to a screen.
-fn play_wired_to<R: Read + Drop>(
-    rt: &HostRuntime,
-    reader: &mut Ahead<R>,
-    name: &str,
-    manner: Manner<'_>,
-    writer: &mut Watched<Screen<Stdout>>,
-) -> io::Result<u8> {
-    let style = Style {
-        form: manner.form,
-        name: name.as_bytes(),
-    };
-    let done = match manner.capture {
-        None => play_uncaptured(rt, style, manner.seed, reader, writer),
-        Some(path) => match play_captured(rt, style, (manner.seed, path), reader, writer) {
-            Some(done) => done,
-            None => return fail_on(rt, path, "can't be written", UNREAD),
-        },
-    };
-    report(rt, name, &done.played)?;
-    status_of(rt, writer.status_of(&done.played), done.kept)
-}
-
 /// Plays a script of many machines.
 fn play_wired<R: Read + Drop>(
     rt: &HostRuntime,
@@ -202,11 +167,20 @@ fn play_wired<R: Read + Drop>(
     if manner.summary {
         reader.ask_for_summary();
     }
-    let screen = Screen::over(rt.stdout(), manner.form, manner.typed);
-    match Watched::over(rt.alloc(), screen) {
-        Ok(mut writer) => play_wired_to(rt, reader, name, manner, &mut writer),
-        Err(_) => report_no_memory(rt, name),
-    }
+    let mut screen = Screen::over(rt.stdout(), manner.form, manner.typed);
+    let style = Style {
+        form: manner.form,
+        name: name.as_bytes(),
+    };
+    let done = match manner.capture {
+        None => play_uncaptured(rt, style, manner.seed, reader, &mut screen),
+        Some(path) => match play_captured(rt, style, (manner.seed, path), reader, &mut screen) {
+            Some(done) => done,
+            None => return fail_on(rt, path, "can't be written", UNREAD),
+        },
+    };
+    report(rt, name, &done.played)?;
+    status_of(rt, done.played.status(), done.kept)
 }
 
 /// Plays a script like [`play_source`], after it was read completely, and then prints the lines without an expectation.

@@ -4,10 +4,11 @@ use crate::folder::HostFolder;
 use crate::hosts::{UNWRITTEN, status_of};
 use crate::messages::fail_on;
 use crate::screen::Screen;
-use crate::watched::Watched;
-use crate::{Manner, report, report_no_memory};
+use crate::{Manner, report};
 use play_pcap::Nowhere;
-use play_script::{Captured, DEFAULTS, Silent, Sink, Source, Start, Style, Trace, play_captured};
+use play_script::{
+    Captured, DEFAULTS, Played, RunFault, Silent, Sink, Source, Start, Style, Trace, play_captured,
+};
 use script_loop::Buffer;
 use std::fs;
 use std::io::{self, Read};
@@ -19,9 +20,10 @@ fn play_to<R: Source, S: Sink + Drop>(
     (name, sink): (&str, S),
     reader: &mut R,
 ) -> io::Result<u8> {
-    let screen = Screen::over(rt.stdout(), manner.form, manner.typed);
-    let (Ok(room), Ok(writer)) = (Buffer::new(rt.alloc()), Watched::over(rt.alloc(), screen)) else {
-        return report_no_memory(rt, name);
+    let Ok(room) = Buffer::new(rt.alloc()) else {
+        let played = Played::unplayed(RunFault::Memory);
+        report(rt, name, &played)?;
+        return Ok(played.status());
     };
     let start = Start {
         config: DEFAULTS,
@@ -32,14 +34,12 @@ fn play_to<R: Source, S: Sink + Drop>(
         form: manner.form,
         name: name.as_bytes(),
     };
-    let mut writer = writer;
-    let Captured { played, trace } = play_captured(rt.alloc(), start, style, reader, &mut writer);
-    let status = writer.status_of(&played);
-    drop(writer);
+    let mut screen = Screen::over(rt.stdout(), manner.form, manner.typed);
+    let Captured { played, trace } = play_captured(rt.alloc(), start, style, reader, &mut screen);
     let kept = trace.is_whole();
     drop(trace.end());
     report(rt, name, &played)?;
-    status_of(rt, status, kept)
+    status_of(rt, played.status(), kept)
 }
 
 /// Plays a script on one machine, and writes a capture to a new file if it's wanted.

@@ -42,6 +42,7 @@ play_of machine traced config head printer = record {
   head = head;
   number = printer.number;
   sound = printer.sound;
+  lacks = printer.lacks;
   texts = printer.texts;
   form = printer.form;
   name = printer.name;

@@ -11,7 +11,7 @@ use Rattle.play_line.specs.Time.{TimedView, timed}
 use Rattle.play_line.specs.declared.fault.SyntaxError.{SyntaxError}
 use Rattle.play_text.specs.Texts.{fault_text, line_error_text, outcome_text}
 use Rattle.play_text.specs.declared.form.Form.{Form}
-use Rattle.play_script.specs.Settings.{IsSet, fault_words}
+use Rattle.play_script.specs.Settings.{IsSet, fault_words, is_lack}
 use Rattle.play_script.specs.declared.fault.SettingFault.{SettingFault}
 use Rattle.play_script.specs.declared.fault.SettingFault.TheVariants as settings
 use Rattle.play_show.specs.Changes.{IsSnapshot}
@@ -27,8 +27,8 @@ use Rattle.play_script.specs.Plays.{IsPlayed, CapturedView, captured_of}
 
 -- The state of a player: its machine, the capture of its packets, and the configuration that the machine was booted
 -- with; whether settings are still accepted; how many lines it has seen; whether all of them could be read and all
--- expectations were met; whether one of them contains a text in quotes; the form in which it prints, and the script's
--- name for errors.
+-- expectations were met; whether there was no memory for the settings of one of them; whether one of them contains a
+-- text in quotes; the form in which it prints, and the script's name for errors.
 pub record Play : Type 0 where
   pub machine : State
   pub traced : Traced
@@ -36,6 +36,7 @@ pub record Play : Type 0 where
   pub head : Bool
   pub number : ℕ
   pub sound : Bool
+  pub lacks : Bool
   pub texts : Bool
   pub form : Form
   pub name : List ℕ
@@ -49,6 +50,7 @@ started machine traced form name = record {
   head = true;
   number = 0;
   sound = true;
+  lacks = false;
   texts = false;
   form = form;
   name = name;
@@ -107,7 +109,8 @@ ReportsSettled now shown wanted (Ok c) text new =
     (text ≡ reply_line_text now.form now.texts now.name now.number shown wanted (codes "ok") [])
     × (new ≡ record now { machine = boot c; config = c; sound = now.sound && is_sound wanted (codes "ok") })
 ReportsSettled now shown wanted (Err fault) text new =
-    (text ≡ fault_text now.form now.name now.number (fault_words fault)) × (new ≡ record now { sound = false })
+    (text ≡ fault_text now.form now.name now.number (fault_words fault))
+    × (new ≡ record now { sound = false; lacks = now.lacks || is_lack fault })
 
 abbrev pub ReportsSettings : Play → List ℕ → List (List ℕ) → Option (List ℕ) → List ℕ → Play → Type 0
 ReportsSettings now shown named wanted text new =
@@ -214,8 +217,9 @@ play_fault_status Write = 4
 play_fault_status TooManyLines = 4
 
 -- 0 if all lines were served, all of them made requests, all captures were played that weren't expected to fail, and
--- all expectations were met; otherwise another number
-abbrev pub play_status : Result Unit RunFault → Bool → ℕ
-play_status (Ok done) true = 0
-play_status (Ok done) false = 1
-play_status (Err fault) sound = play_fault_status fault
+-- all expectations were met; otherwise another number: 3 if there was no memory for the settings of a line
+abbrev pub play_status : Result Unit RunFault → Bool → Bool → ℕ
+play_status (Ok done) sound true = 3
+play_status (Ok done) true false = 0
+play_status (Ok done) false false = 1
+play_status (Err fault) sound lacks = play_fault_status fault

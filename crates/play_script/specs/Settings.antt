@@ -19,6 +19,11 @@ fault_words BadSizes = codes "--mbufs must be 1 to 65535, --clusters 0 to 4096"
 fault_words BadConfig = codes "--mtu must be 68 to 4352, --addr a host's address, --bcast another address"
 fault_words Memory = codes "no memory"
 
+-- the host refused memory
+abbrev pub is_lack : SettingFault → Bool
+is_lack Memory = true
+is_lack _ = false
+
 -- a line of settings begins with two dashes
 abbrev pub has_dashes : List ℕ → Bool
 has_dashes plain = (get_or plain 0 0 == 45) && (get_or plain 1 0 == 45)

@@ -1,6 +1,6 @@
 //! Errors in settings.
-ghost use Rattle.std.specs.Prelude.{◌≡◌, ◌≤◌, length};
-ghost use Rattle.play_script.specs.Settings.{fault_words};
+ghost use Rattle.std.specs.Prelude.{◌≡◌, ◌≤◌, bytes_eq, codes, length};
+ghost use Rattle.play_script.specs.Settings.{fault_words, is_lack};
 
 /// The first error in the settings of a line (this project's own).
 #[derive(Clone, Copy, Debug, PartialEq, Eq)]
@@ -29,6 +29,7 @@ impl SettingFault {
     /// Returns the error message, at most 80 bytes.
     pub fn words(self) -> &'static str
         ensures is { result.now ≡ fault_words self }
+        ensures lack { bytes_eq result.now (codes "no memory") ≡ is_lack self }
         ensures short { length result.now ≤ 80 }
     {
         match self {
@@ -44,5 +45,12 @@ impl SettingFault {
                 "--mtu must be 68 to 4352, --addr a host's address, --bcast another address",
             SettingFault::Memory => "no memory",
         }
+    }
+
+    /// Returns whether the host refused memory.
+    pub fn is_lack(self) -> bool
+        ensures { result ≡ is_lack self }
+    {
+        matches!(self, SettingFault::Memory)
     }
 }

@@ -100,7 +100,10 @@ impl<T: Sink, F: Folder> Player<T, F> {
                 self.report.set_ok();
                 self.printer.put_reply_line(text, &self.line, &self.report);
             }
-            Err(fault) => self.printer.put_fault(text, fault.words().as_bytes()),
+            Err(fault) => {
+                self.printer.put_fault(text, fault.words().as_bytes());
+                self.printer.note_lack(fault.is_lack());
+            }
         }
     }
 

@@ -35,6 +35,8 @@ pub struct Printer {
     pub number: u64,
     /// Whether all of them could be read, and all expectations were met.
     pub sound: bool,
+    /// Whether there was no memory for the settings of one of them.
+    pub lacks: bool,
     /// Whether one of them contains a text in quotes.
     pub texts: bool,
 }
@@ -69,7 +71,7 @@ impl Printer {
     /// Returns the printer before the first line of a script of this style. The name is copied.
     pub fn new(alloc: Global, style: Style<'_>) -> Result<Printer, AllocError>
         ensures { IfOk result (λ p. (p.form ≡ style.entry.form) × (p.number ≡ 0)
-            × (p.name ≡ take NAME style.entry.name.now) × (p.sound ≡ true)
+            × (p.name ≡ take NAME style.entry.name.now) × (p.sound ≡ true) × (p.lacks ≡ false)
             × (p.texts ≡ false)) }
     {
         let mut name = Buffer::new(alloc)?;
@@ -79,6 +81,7 @@ impl Printer {
             name,
             number: 0,
             sound: true,
+            lacks: false,
             texts: false,
         })
     }
@@ -103,6 +106,13 @@ impl Printer {
     {
         play_text::put_fault(text, self.form, bytes_of(&self.name), self.number, what);
         self.sound = false;
+    }
+
+    /// Notes whether there was no memory for the settings of the line.
+    pub fn note_lack(&mut self, lacks: bool)
+        ensures { self.new ≡ record self.old { lacks = self.old.lacks || lacks } }
+    {
+        self.lacks = self.lacks || lacks;
     }
 
     /// Appends that the line is too long.

@@ -1,5 +1,5 @@
 //! The calls that play a script.
-ghost use Rattle.std.specs.Prelude.{◌≡◌, IfOk, false, take, true, vec_len};
+ghost use Rattle.std.specs.Prelude.{◌≡◌, Err, IfOk, false, take, true, vec_len};
 ghost use Rattle.params.specs.declared.TheConstants.{IP_MAX_PACKET};
 ghost use Rattle.play_pcap.specs.Traces.{Traced};
 ghost use Rattle.flat_model.specs.Machine.State.{boot};
@@ -38,16 +38,30 @@ pub struct Played {
     /// Whether all lines made requests, all captures were played that weren't expected to fail, and all expectations
     /// were met.
     pub sound: bool,
+    /// Whether there was no memory for the settings of a line.
+    pub lacks: bool,
 }
 
 impl Played {
+    /// The result of a script of which no line was played, for this reason.
+    pub fn unplayed(fault: RunFault) -> Played
+        ensures { result ≡ record { outcome = Err fault; sound = true; lacks = false } }
+    {
+        Played {
+            outcome: Err(fault),
+            sound: true,
+            lacks: false,
+        }
+    }
+
     /// Returns the exit status of the program: 0 if `sound` and the script was played to its end; 1 if not `sound`;
-    /// 3 if the machine can't be booted; 4 if reading or writing failed or the script has too many lines (this
-    /// project's own).
+    /// 3 if it `lacks` memory or the machine can't be booted; 4 if reading or writing failed or the script has too many
+    /// lines (this project's own).
     pub fn status(&self) -> u8
-        ensures { result ≡ play_status self.now.outcome self.now.sound }
+        ensures { result ≡ play_status self.now.outcome self.now.sound self.now.lacks }
     {
         match self.outcome {
+            Ok(()) if self.lacks => 3,
             Ok(()) if self.sound => 0,
             Ok(()) => 1,
             Err(RunFault::Memory | RunFault::BadSizes | RunFault::BadConfig) => 3,
@@ -70,7 +84,8 @@ struct Parts {
 /// Allocates all memory for playing a script.
 fn parts_for(alloc: Global, style: Style<'_>) -> Result<Parts, AllocError>
     ensures { IfOk result (λ p. (p.printer.form ≡ style.entry.form) × (p.printer.number ≡ 0)
-        × (p.printer.name ≡ take NAME style.entry.name.now) × (p.printer.sound ≡ true) × (p.printer.texts ≡ false)
+        × (p.printer.name ≡ take NAME style.entry.name.now) × (p.printer.sound ≡ true) × (p.printer.lacks ≡ false)
+        × (p.printer.texts ≡ false)
         × (vec_len p.buffer ≡ IP_MAX_PACKET) × (vec_len p.bytes ≡ IP_MAX_PACKET)) }
 {
     let buffer = zero_bytes(alloc, PACKET)?;
@@ -127,7 +142,7 @@ fn play_machine<R: Source, W: Sink, T: Sink, F: Folder>(
         (started (state_of booted.0) booted.1.trace style.entry.form (take NAME style.entry.name.now)) new
         (R.remaining reader.old) (R.remaining reader.new)
         (W.contents writer.old) (W.contents writer.new) result.played.outcome
-        × (result.played.sound ≡ new.sound) × (result.trace ≡ new.traced) }
+        × (result.played.sound ≡ new.sound) × (result.played.lacks ≡ new.lacks) × (result.trace ≡ new.traced) }
     ensures started { IsServed result.played.outcome }
 {
     let (
@@ -140,10 +155,7 @@ fn play_machine<R: Source, W: Sink, T: Sink, F: Folder>(
     ) = booted;
     let Ok(parts) = parts_for(alloc, style) else {
         let _ = stack.end();
-        let played = Played {
-            outcome: Err(RunFault::Memory),
-            sound: true,
-        };
+        let played = Played::unplayed(RunFault::Memory);
         return Captured { played, trace };
     };
     let mut player = Player {
@@ -163,10 +175,14 @@ fn play_machine<R: Source, W: Sink, T: Sink, F: Folder>(
         printer: parts.printer,
     };
     let outcome = serve_script(alloc, &mut player, reader, writer);
-    let sound = player.printer.sound;
+    let (sound, lacks) = (player.printer.sound, player.printer.lacks);
     let trace = player.end();
     Captured {
-        played: Played { outcome, sound },
+        played: Played {
+            outcome,
+            sound,
+            lacks,
+        },
         trace,
     }
 }
@@ -187,16 +203,13 @@ fn play_untraced<R: Source, W: Sink>(
         (started (state_of booted.0) traced style.entry.form (take NAME style.entry.name.now)) new
         (R.remaining reader.old) (R.remaining reader.new)
         (W.contents writer.old) (W.contents writer.new) result.outcome
-        × (result.sound ≡ new.sound) }
+        × (result.sound ≡ new.sound) × (result.lacks ≡ new.lacks) }
     ensures started { IsServed result.outcome }
 {
     let (machine, config) = booted;
     let Ok(buffer) = Buffer::new(alloc) else {
         let _ = machine.end();
-        return Played {
-            outcome: Err(RunFault::Memory),
-            sound: true,
-        };
+        return Played::unplayed(RunFault::Memory);
     };
     let start = Start {
         config,
@@ -244,14 +257,11 @@ pub fn play<R: Source, W: Sink>(
         (started (boot config) traced style.entry.form (take NAME style.entry.name.now)) new
         (R.remaining reader.old) (R.remaining reader.new)
         (W.contents writer.old) (W.contents writer.new) result.outcome
-        × (result.sound ≡ new.sound) }
+        × (result.sound ≡ new.sound) × (result.lacks ≡ new.lacks) }
 {
     match booted(alloc, config) {
         Ok(machine) => play_untraced(alloc, (machine, config), style, reader, writer),
-        Err(fault) => Played {
-            outcome: Err(fault),
-            sound: true,
-        },
+        Err(fault) => Played::unplayed(fault),
     }
 }
 
@@ -280,7 +290,7 @@ pub fn play_captured<R: Source, W: Sink, T: Sink, F: Folder>(
         (started (boot start.config) start.trace style.entry.form (take NAME style.entry.name.now)) new
         (R.remaining reader.old) (R.remaining reader.new)
         (W.contents writer.old) (W.contents writer.new) result.played.outcome
-        × (result.played.sound ≡ new.sound) × (result.trace ≡ new.traced) }
+        × (result.played.sound ≡ new.sound) × (result.played.lacks ≡ new.lacks) × (result.trace ≡ new.traced) }
 {
     let Start {
         config,
@@ -297,10 +307,7 @@ pub fn play_captured<R: Source, W: Sink, T: Sink, F: Folder>(
             play_machine(alloc, (machine, start), style, reader, writer)
         }
         Err(fault) => {
-            let played = Played {
-                outcome: Err(fault),
-                sound: true,
-            };
+            let played = Played::unplayed(fault);
             Captured { played, trace }
         }
     }

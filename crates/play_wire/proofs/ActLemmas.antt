@@ -1,6 +1,6 @@
 -- Acts, one after another.
 use Rattle.std.proofs.Common.{◌≡◌, ℕ, zero, suc, ◌+◌, add-one, Bool, true, false, List, [], ◌∷◌, ◌++◌, map, replicate, Some, None, refl, sym, ap, ap₂, ◌∙◌, subst}
-use Rattle.std.specs.Prelude.{◌&&◌, length, nat_lt, slice_get, slice_set, MatchResult, Option, Result, Ok, Err}
+use Rattle.std.specs.Prelude.{◌&&◌, length, nat_lt, slice_get, slice_set, MatchResult, Result, Ok, Err}
 use Rattle.flat_model.specs.Amounts.Choice.{Choice}
 use Rattle.flat_model.specs.Machine.Event.{Tick, Done}
 use Rattle.flat_model.specs.Runs.Run.{Turn}

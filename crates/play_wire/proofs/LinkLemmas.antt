@@ -1,7 +1,7 @@
 -- Lines that the link of a host executes.
-use Rattle.std.proofs.Common.{◌≡◌, ◌<◌, ◌≤◌, ◌⊎◌, inl, inr, ℕ, zero, suc, Bool, true, false, List, [], ◌∷◌, ◌++◌, map, replicate, Option, Some, None, refl, sym, ap, ap₂, ◌∙◌, subst, arith}
+use Rattle.std.proofs.Common.{◌≡◌, ◌<◌, ◌≤◌, ◌⊎◌, inl, inr, ℕ, zero, suc, Bool, true, false, List, [], ◌∷◌, ◌++◌, Option, Some, None, refl, sym, ap, ap₂, ◌∙◌, subst, arith}
 use Rattle.std.proofs.lemmas.Bool.{lt-ltb}
-use Rattle.std.specs.Prelude.{◌==◌, cond, if◌then◌else◌, not, codes, is_some, nat_lt, length, option_map, slice_get, ◌&&◌, IfSome, Result}
+use Rattle.std.specs.Prelude.{◌==◌, cond, if◌then◌else◌, codes, is_some, nat_lt, length, option_map, slice_get, ◌&&◌, IfSome, Result}
 use Rattle.flat_ether.specs.Claims.{address_state}
 use Rattle.flat_ether.specs.Links.{LinkState}
 use Rattle.flat_ether.specs.declared.claim.AddressState.{AddressState}
@@ -14,13 +14,12 @@ use Rattle.flat_model.specs.Scripts.Grammar.{words, IsHex}
 use Rattle.std.specs.List.{onto_first}
 use Rattle.flat_model.specs.declared.counters.Counters.{Counters}
 use Rattle.flat_model.specs.declared.errno.Errno.{Errno}
-use Rattle.net_stack.specs.Runs.{AreCalls}
 use Rattle.net_stack.specs.Stack.{StackView, state_of}
 use Rattle.segment.specs.Frames.{IsErrorQueried, HasReceived}
 use Rattle.segment.specs.Law.{Act, AreActs, QueriesError, Ether, ReceivesFrame}
 use Rattle.segment.specs.Segment.{SegmentView, is_linked}
-use Rattle.play_wire.specs.Acts.{IsMissing, IsStackLine, Outcome, Replied, Refused, call_turn}
-use Rattle.play_wire.specs.Inside.{HasCounted, HasNotCounted, IsAtHost, IsAtLink, IsAtStack, IsExchanged, IsKept, ReadsOfLink, bytes_asked, link_asks}
+use Rattle.play_wire.specs.Acts.{IsMissing, IsStackLine, Outcome, Replied, Refused}
+use Rattle.play_wire.specs.Inside.{HasCounted, HasNotCounted, IsAtHost, IsAtLink, IsAtStack, ReadsOfLink, bytes_asked, link_asks}
 use Rattle.play_wire.specs.LinkTexts.{error_text, received_text, neighbours_text, state_text}
 use Rattle.play_wire.specs.Links.{DoesLink, IsForStack, IsHostLine, AsksLink, AsksOfLink, LinkAsk, Frame, LastError, Neighbours, Counts, Ticks, Packets, WritesLink, is_for_link, is_of_link, ticks_at}
 use Rattle.play_wire.specs.Verbs.{IsOneNumber, IsTickCount}
@@ -32,7 +31,7 @@ use Rattle.std.specs.List.{find}
 use Rattle.play_wire.specs.declared.fault.Fault.TheVariants as fault
 use Rattle.play_wire.specs.declared.link_ask.LinkAsk.{LinkAsk as Asked}
 use Rattle.play_wire.specs.declared.report_link.Counts.{Counts as HostCounts}
-use Rattle.play_wire.proofs.ActLemmas.{acts_append, calls_are_acts, get_set, put_back}
+use Rattle.play_wire.proofs.ActLemmas.{get_set}
 
 -- ---- a line of a host
 

@@ -47,6 +47,7 @@ play_with segment names printer = record {
   names = names;
   number = printer.number;
   sound = printer.sound;
+  lacks = printer.lacks;
   texts = printer.texts;
   form = printer.form;
   name = printer.name;

@@ -9,23 +9,26 @@ use Rattle.play_text.specs.Texts.{fault_text, line_error_text}
 use Rattle.play_text.specs.Forms.{is_json}
 use Rattle.play_text.specs.declared.form.Form.{Form}
 use Rattle.play_script.specs.Reports.{is_sound, reply_line_text}
+use Rattle.play_script.specs.Settings.{is_lack}
 use Rattle.segment.specs.Law.{Act, AreActs, Loses, Repeats, Seeds, Swaps}
 use Rattle.segment.specs.Chances.{seeded}
 use Rattle.segment.specs.Segment.{SegmentView, is_quiet_segment, no_hosts}
 use Rattle.play_wire.specs.Acts.{IsMissing, Outcome, Replied, Refused}
 use Rattle.play_wire.specs.Links.{IsHostLine}
 use Rattle.play_wire.specs.Wires.{WireAsk, AsksWire, Host, Wire, Carry, Collect, Deliver, Tick, Seed, Drop, Repeat, Swap, Show}
+use Rattle.play_wire.specs.declared.fault.Fault.{Fault}
 use Rattle.play_wire.specs.declared.fault.Fault.TheVariants as fault
 use Rattle.play_wire.specs.declared.hosts.TheConstants.{PACKETS}
 
 -- The state of a player: its hosts and their wire, with the names of the hosts by their places; how many lines it has
--- seen; whether all of them could be read and all expectations were met; whether one of them contains a text in quotes;
--- and how it prints.
+-- seen; whether all of them could be read and all expectations were met; whether there was no memory for a host;
+-- whether one of them contains a text in quotes; and how it prints.
 pub record WirePlay : Type 0 where
   pub segment : SegmentView
   pub names : List (List ℕ)
   pub number : ℕ
   pub sound : Bool
+  pub lacks : Bool
   pub texts : Bool
   pub form : Form
   pub name : List ℕ
@@ -38,6 +41,7 @@ wire_started seed form name =
       names = [];
       number = 0;
       sound = true;
+      lacks = false;
       texts = false;
       form = form;
       name = name;
@@ -64,18 +68,33 @@ abbrev pub has_objects : Form → Option (List ℕ) → List ℕ → Bool
 has_objects form (Some host) plain = false
 has_objects form None plain = is_json form && moves_packets plain
 
+-- the host refused memory
+abbrev pub is_lacking : Fault → Bool
+is_lacking (fault.Setting why) = is_lack why
+is_lacking _ = false
+
+-- The words for a reason are "no memory" exactly if the host refused memory. Without a request, they are some advice.
+abbrev pub IsReason : Fault → List ℕ → Type 0
+IsReason fault.Nothing what = Unit {0}
+IsReason reason what = bytes_eq what (codes "no memory") ≡ is_lacking reason
+
 -- the output for a line
 abbrev pub IsText : WirePlay → Option (List ℕ) → List ℕ → List ℕ → Option (List ℕ) → Outcome → List ℕ → Type 0
 IsText now host shown plain wanted (Replied reply_line below) text =
     (objects : List ℕ) × (has_objects now.form host plain ≡ false → objects ≡ [])
     × (text ≡ reply_line_text now.form now.texts now.name now.number shown wanted reply_line below ++ objects)
 IsText now host shown plain wanted (Refused reason) text =
-    (what : List ℕ) × (text ≡ fault_text now.form now.name now.number what)
+    (what : List ℕ) × IsReason reason what × (text ≡ fault_text now.form now.name now.number what)
 
 -- it did something, and the reply meets the expectation, if there is one
 abbrev pub sound_of : Option (List ℕ) → Outcome → Bool
 sound_of wanted (Replied reply_line below) = is_sound wanted reply_line
 sound_of wanted (Refused reason) = false
+
+-- whether there was no memory for the host of a line, with this one
+abbrev pub lacks_after : Bool → Outcome → Bool
+lacks_after lacks (Replied reply_line below) = lacks
+lacks_after lacks (Refused reason) = lacks || is_lacking reason
 
 -- ---- steps
 
@@ -149,7 +168,12 @@ ReportsAsked now host shown plain wanted acts text new =
     (outcome : Outcome) × (segment : SegmentView) × (names : List (List ℕ))
     × IsDone now host plain acts outcome segment names
     × IsText now host shown plain wanted outcome text
-    × (new ≡ record now { segment = segment; names = names; sound = now.sound && sound_of wanted outcome })
+    × (new ≡ record now {
+      segment = segment;
+      names = names;
+      sound = now.sound && sound_of wanted outcome;
+      lacks = lacks_after now.lacks outcome;
+    })
 
 -- this many ticks of each host pass before a line, for which nothing is printed
 abbrev pub IsWaited : ℕ → SegmentView → List Act → SegmentView → Type 0

@@ -1,5 +1,6 @@
 //! Why a line of many machines does nothing.
-ghost use Rattle.std.specs.Prelude.{◌≤◌, length};
+ghost use Rattle.std.specs.Prelude.{◌≡◌, ◌≤◌, length};
+ghost use Rattle.play_wire.specs.Reports.{IsReason, is_lacking};
 
 use net_stack::BootFault;
 use play_script::SettingFault;
@@ -59,7 +60,8 @@ pub(crate) enum Fault {
 impl Fault {
     /// Returns the reason in words.
     pub(crate) fn words(self) -> &'static str
-        ensures { length result.now ≤ 80 }
+        ensures short { length result.now ≤ 80 }
+        ensures reason { IsReason self result.now }
     {
         match self {
             Fault::Nothing => "",
@@ -89,6 +91,16 @@ impl Fault {
             Fault::OtherLink => "all hosts must be on an Ethernet, or none",
             Fault::NoLink => "this needs a host on an Ethernet: `host NAME ether ..`",
             Fault::OnEthernet => "a host on an Ethernet needs frames: use `frame BYTES` or `carry`",
+        }
+    }
+
+    /// Returns whether the host refused memory.
+    pub(crate) fn is_lack(self) -> bool
+        ensures { result ≡ is_lacking self }
+    {
+        match self {
+            Fault::Setting(fault) => fault.is_lack(),
+            _ => false,
         }
     }
 

@@ -7,7 +7,7 @@ ghost use Rattle.play_script.specs.Views.{expected_on, plain_line};
 ghost use Rattle.play_script.specs.Lines.{reading_part};
 ghost use Rattle.play_wire.specs.Inside.{outcome_of, named_by};
 ghost use Rattle.play_wire.specs.Players.{wire_now};
-ghost use Rattle.play_wire.specs.Reports.{WirePlay, has_objects, moves_packets, IsDone, IsParted, Reports, ReportsAsked, ReportsPart};
+ghost use Rattle.play_wire.specs.Reports.{WirePlay, has_objects, moves_packets, IsDone, IsParted, IsReason, Reports, ReportsAsked, ReportsPart};
 
 use crate::fault::Fault;
 use crate::host_line::execute_host;
@@ -62,7 +62,9 @@ fn execute_words<T: Sink + Drop>(
 }
 
 /// Reports why a line did nothing; for a line without a request, what its author probably meant.
-fn report_reason(report: &mut Report, target: &Target, line: &mut Line, fault: Fault) {
+fn report_reason(report: &mut Report, target: &Target, line: &mut Line, fault: Fault)
+    ensures { IsReason fault report.new.advice }
+{
     let player = if target.named {
         Advised::Host
     } else {
@@ -146,6 +148,7 @@ impl<T: Sink + Drop> Player<T> {
             Err(fault) => {
                 report_reason(&mut self.report, &self.target, &mut self.line, fault);
                 self.printer.put_fault(text, bytes_of(&self.report.advice));
+                self.printer.note_lack(fault.is_lack());
             }
         }
     }

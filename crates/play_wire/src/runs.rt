@@ -37,7 +37,7 @@ struct Parts {
 fn parts_for(alloc: Global, style: Style<'_>) -> Result<Parts, AllocError>
     ensures { IfOk result (λ p. (p.printer.form ≡ style.entry.form) × (p.printer.number ≡ 0)
         × (p.printer.name ≡ take NAME style.entry.name.now) × (p.printer.sound ≡ true)
-        × (p.printer.texts ≡ false)) }
+        × (p.printer.lacks ≡ false) × (p.printer.texts ≡ false)) }
 {
     let printer = Printer::new(alloc, style)?;
     let target = Target::new(alloc)?;
@@ -156,7 +156,7 @@ pub fn play_hosts<R: Source, W: Sink, T: Sink + Drop>(
         × Serves Reports (wire_started start.seed style.entry.form (take NAME style.entry.name.now)) new
         (R.remaining reader.old) (R.remaining reader.new)
         (W.contents writer.old) (W.contents writer.new) result.played.outcome
-        × (result.played.sound ≡ new.sound) }
+        × (result.played.sound ≡ new.sound) × (result.played.lacks ≡ new.lacks) }
     // What is printed for lines is printed by acts for which the law of a wire holds.
     ensures lawful { (new : WirePlay) (lines : List (List ℕ)) (printed : List ℕ)
         → Prints Reports (wire_started start.seed style.entry.form (take NAME style.entry.name.now)) lines printed new
@@ -167,18 +167,19 @@ pub fn play_hosts<R: Source, W: Sink, T: Sink + Drop>(
     let Start { seed, capture } = start;
     let Some(mut player) = player_for(alloc, style, seed, capture) else {
         return PlayedHosts {
-            played: Played {
-                outcome: Err(RunFault::Memory),
-                sound: true,
-            },
+            played: Played::unplayed(RunFault::Memory),
             kept: true,
         };
     };
     let outcome = serve_script(alloc, &mut player, reader, writer);
-    let sound = player.printer.sound;
+    let (sound, lacks) = (player.printer.sound, player.printer.lacks);
     let kept = player.end();
     PlayedHosts {
-        played: Played { outcome, sound },
+        played: Played {
+            outcome,
+            sound,
+            lacks,
+        },
         kept,
     }
 }

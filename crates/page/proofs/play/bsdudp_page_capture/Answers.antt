@@ -6,7 +6,7 @@ use Rattle.page.proofs.play.bsdudp_page_capture.Goals as goal
 pub returns : goal.returns
 returns c =
     let s = rw c.config.ensures at c.play_captured-trace.ensures.served in
-    let same = s.3 in
+    let same = s.4 in
     record {
       kept = inl (record {
         outcome = _;

@@ -6,12 +6,12 @@ use Rattle.play_script.proofs.runs.play_captured.Goals as goal
 pub returns-in-Err-clause-served : goal.returns-in-Err-clause-served
 unfolding StackSteps
 returns-in-Err-clause-served g c =
-    Serves-unbooted StackSteps g.F.Folder.may_have c.args.start.config c.in-Err.fault c.args.start.trace
-    c.args.style.form _
-    _ _ c.in-Err.ensures
+    rw c.unplayed-played.ensures
+    (Serves-unbooted StackSteps g.F.Folder.may_have c.args.start.config c.in-Err.fault c.args.start.trace
+    c.args.style.form _ _ _ c.in-Err.ensures)
 
 pub returns-in-Ok-clause-served : goal.returns-in-Ok-clause-served
 unfolding StackSteps
 returns-in-Ok-clause-served g c =
-    Serves-captured StackSteps g.F.Folder.may_have (state_of c.in-Ok.machine) _ _ _ _ _ _ _ _ _ _ _ c.in-Ok.ensures.1
+    Serves-captured StackSteps g.F.Folder.may_have (state_of c.in-Ok.machine) _ _ _ _ _ _ _ _ _ _ _ _ c.in-Ok.ensures.1
     c.play_machine.ensures.served

@@ -1,11 +1,18 @@
-use Rattle.std.proofs.Common.{refl, subst}
+use Rattle.std.proofs.Common.{refl, subst, take}
+use Rattle.script_loop.proofs.Laws.{Moves-none}
 use Rattle.script_loop.specs.Serves.{Serves}
 use Rattle.segment.specs.Inside.{view}
 use Rattle.play_wire.specs.Inside.{play_with}
-use Rattle.play_wire.specs.Reports.{WirePlay, Reports}
+use Rattle.play_script.specs.declared.print.TheConstants.{NAME}
+use Rattle.play_wire.specs.Reports.{WirePlay, Reports, wire_started}
 use Rattle.play_wire.specs.declared.hosts.TheConstants.{PACKETS}
 use Rattle.play_wire.proofs.RunLemmas.{played}
 use Rattle.play_wire.proofs.runs.play_hosts.Goals as goal
+
+pub returns-in_default-clause-served : goal.returns-in_default-clause-served
+returns-in_default-clause-served g c =
+    let begun = wire_started c.args.start.seed c.args.style.form (take NAME c.args.style.name.now) in
+    rw c.unplayed.ensures (begun, (Moves-none _ _, refl), refl, refl)
 
 pub returns-in_default-clause-lawful : goal.returns-in_default-clause-lawful
 returns-in_default-clause-lawful g c new lines printed prints =
@@ -24,6 +31,7 @@ returns-clause-served g c = (
       (g.W.Write.contents c.args.writer.now) (g.W.Write.contents c.serve_script-outcome.new.writer)
       c.serve_script-outcome.result)
       c.in-Some.ensures c.serve_script-outcome.ensures.served,
+  refl,
   refl,
 )
 

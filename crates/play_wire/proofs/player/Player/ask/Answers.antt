@@ -1,4 +1,4 @@
-use Rattle.std.proofs.Common.{◌++◌, ◌∙◌, Bool, ap, refl}
+use Rattle.std.proofs.Common.{◌≡◌, ◌++◌, ◌∙◌, ◌||◌, Bool, List, ap, ap₂, false, refl, subst, sym, ℕ}
 use Rattle.std.proofs.lemmas.List.{append_assoc}
 use Rattle.play_text.specs.Texts.{fault_text}
 use Rattle.play_script.specs.Reports.{reply_line_text}
@@ -8,6 +8,7 @@ use Rattle.segment.specs.Inside.{view}
 use Rattle.play_wire.specs.Acts.{Replied, Refused}
 use Rattle.play_wire.specs.Inside.{play_with}
 use Rattle.play_wire.specs.Players.{wire_now}
+use Rattle.play_wire.specs.Reports.{IsReason, is_lacking}
 use Rattle.play_wire.proofs.PlayLemmas.{and_false}
 use Rattle.play_wire.proofs.player.Player.ask.Goals as goal
 
@@ -42,7 +43,13 @@ returns-in-Err g c =
     let p = wire_now now in
     let did = c.in-Err.ensures p refl refl in
     let segment = view c.execute_words.new.hosts.segment in
-    let names = c.execute_words.new.hosts.names.items in (
+    let names = c.execute_words.new.hosts.names.items in
+    let q = now.printer in
+    let lacks = q.lacks || is_lacking c.in-Err.fault in
+    let noted : c.note_lack.new.self ≡ record q { sound = false; lacks = lacks } =
+    c.note_lack.ensures
+    ∙ ap₂ (λ (p : Printer) (b : Bool). record p { lacks = p.lacks || b }) c.put_fault.ensures.printer
+    c.is_lack.ensures in (
       did.0,
       fault_text p.form p.name p.number c.bytes_of.result.now,
       (
@@ -50,9 +57,14 @@ returns-in-Err g c =
         segment,
         names,
         did.1,
-        (c.bytes_of.result.now, refl),
-        ap (λ (q : Printer). play_with segment names q) c.put_fault.ensures.printer
-            ∙ ap (λ (b : Bool). record p { segment = segment; names = names; sound = b }) (and_false now.printer.sound),
+        (
+          c.bytes_of.result.now,
+          subst (λ (what : List ℕ). IsReason c.in-Err.fault what) (sym c.bytes_of.ensures.is) c.report_reason.ensures,
+          refl,
+        ),
+        ap (λ (q : Printer). play_with segment names q) noted
+            ∙ ap (λ (b : Bool). record p { segment = segment; names = names; sound = b; lacks = lacks })
+            (and_false q.sound),
       ),
       c.put_fault.ensures.text,
     )
