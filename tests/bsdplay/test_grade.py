@@ -408,6 +408,9 @@ def test_an_exercise_is_played_up_to_its_first_open_line(key, how, bsdplay, tmp_
     counts = f"bsdplay: {name}: open replies: {len(replies)}, open questions: {len(questions)}\n"
     same("status and messages", (ended.returncode, ended.stderr.decode()), (1, first + counts))
     assert not re.search(rb"got|=> (?!ok$)[^?]", ended.stdout, re.M), ended.stdout
+    if how == "json":
+        fault = {"number": replies[0], "file": name, "column": None, "fault": "missing expected reply: replace the ?"}
+        same("the last object", json.loads(ended.stdout.splitlines()[-1]), fault)
 
 
 def test_open_questions_are_counted_if_all_replies_are_there(bsdplay):

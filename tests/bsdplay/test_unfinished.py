@@ -45,11 +45,13 @@ WAY = f"udp {PEER} > {HERE}"
 # Two fragments of a datagram, 40.5 seconds apart.
 LATE = [(0, piece(7, 0, 7, more=True)), (0.25, piece(8, 0, 7, more=True)), (40.5, piece(7, 8, 15, more=False))]
 LATE_LINES = [
-    "    unfinished: datagram 7 of udp 10.0.0.2 > 10.0.0.1 expired after 30 seconds, with record 1",
-    "    unfinished: datagram 8 of udp 10.0.0.2 > 10.0.0.1 expired after 30 seconds, with record 2",
+    *(f"    unfinished: datagram {it + 6} of {WAY} expired after 30 seconds, with record {it}; lacks all from byte 8 on"
+      for it in (1, 2)),
     "    2 dropped: kept fragment of a datagram that expired after 30 seconds (first: record 1)",
     "    unfinished: datagram 7 of udp 10.0.0.2 > 10.0.0.1 lacks bytes 0 to 7, with record 3",
 ]
+# The ports of the first fragments, whose bytes are zeros, and what their datagrams lack.
+FRONT = {"sport": 0, "dport": 0, "missing": [[8, None]]}
 
 
 def test_a_datagram_expires(bsdplay):
@@ -58,10 +60,11 @@ def test_a_datagram_expires(bsdplay):
     # It expires before the later record is printed.
     assert lines.index(LATE_LINES[1]) < next(at for at, it in enumerate(lines) if it.startswith("3  40.500000"))
     assert objects(bsdplay, LATE)[1] == [
-        {"datagram": f"{WAY}, id 7", "fate": "expired", "records": [1]},
-        {"datagram": f"{WAY}, id 8", "fate": "expired", "records": [2]},
-        {"datagram": f"{WAY}, id 7", "fate": "unfinished", "records": [3]},
-    ]
+        {"datagram": f"{WAY}, id 7", "fate": "expired", "records": [1], **FRONT},
+        {"datagram": f"{WAY}, id 8", "fate": "expired", "records": [2], **FRONT},
+        {"datagram": f"{WAY}, id 7", "fate": "unfinished", "records": [3], "sport": None, "dport": None,
+         "missing": [[0, 7]]},
+    ]  # fmt: skip
 
 
 @pytest.mark.parametrize("seconds, expires", [(LIFE - 0.5, False), (LIFE, True)])

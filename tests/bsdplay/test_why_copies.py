@@ -46,7 +46,8 @@ def test_a_fragment_that_comes_again_is_a_copy(later, fate, told, bsdplay):
     assert "    1 of those kept are copies: their datagram was whole before (first: record 3)\n" in text, text
     status, rows = objects(bsdplay, packets, "--fail-on", "unfinished")
     assert {"copy": 3, "whole": 2} in rows
-    assert {"datagram": f"{WAY}, id 9", "fate": fate, "records": [3], "copies": True} in rows
+    assert {"datagram": f"{WAY}, id 9", "fate": fate, "records": [3], "sport": None, "dport": None,
+            "missing": [[0, 31]], "copies": True} in rows  # fmt: skip
     assert (status, apart(rows)["copies"], rows[-1]["summary"]["unfinished"]) == (0, 1, 0)
 
 

@@ -255,6 +255,17 @@ def test_records_are_judged_as_they_come(bsdplay):
     assert b"Delivered: 2. Kept as fragments: 0. Refused by the host: 1. Dropped: 0." in rest, rest
 
 
+def test_a_reader_that_ends_first_is_no_fault(bsdplay, tmp_path):
+    """As `head -1` does. The lines of 5,000 packets don't fit into a pipe."""
+    file = tmp_path / "it.pcap"
+    file.write_bytes(capture([datagram(b"hi")] * 5000))
+    for words in ((), ("--json",)):
+        with subprocess.Popen([bsdplay, "why", *words, file], stdout=subprocess.PIPE, stderr=subprocess.PIPE) as program:
+            program.stdout.readline()
+            program.stdout.close()
+            assert (program.wait(60), program.stderr.read()) == (4, b"")
+
+
 # ---- captures without UDP --------------------------------------------------------------------------------------------
 
 TCP = ip(bytes(20), protocol=6)
@@ -300,7 +311,8 @@ def test_other_records_are_counted_by_kind(bsdplay, tmp_path):
               framed(0x88B5, bytes(20)), framed(0x0800, ip(bytes(8), protocol=1)), framed(0x0800, ip(b"", protocol=89)),
               bytes(5)]  # fmt: skip
     ended = why(bsdplay, tmp_path, frames, link=ETHERNET)
-    told = "8 records: 1 TCP, 1 ICMP, 1 other IPv4, 1 IPv6, 1 ARP, 1 PPPoE, 1 other frames, 1 cut in the link header."
+    told = "8 records: 1 TCP, 1 ICMP, 1 other IPv4, 1 IPv6, 1 ARP, 1 PPPoE, 1 other frame (protocol 0x88b5), "
+    told += "1 cut in the link header."
     assert (ended.returncode, ended.stdout.decode().splitlines()[0]) == (3, told)
     ended = why(bsdplay, tmp_path, [framed(0x0800, datagram(b"hi")), *frames[:3]], link=ETHERNET)
     assert ended.stdout.decode().splitlines()[-1] == (
@@ -321,7 +333,7 @@ def test_ppp_is_read(framing, bsdplay, tmp_path):
               framing + bytes(PPP(proto=0xC021)) + bytes(8), framing + bytes(PPP(proto=0x57)) + bytes(40), framing]  # fmt: skip
     text = why(bsdplay, tmp_path, frames, link=9).stdout.decode()
     assert text.count("udp 10.0.0.2:5000 > 10.0.0.1:7, 5 bytes, id 7 => delivered to port 7: 5 bytes") == 2, text
-    assert "Without IPv4: 3 (1 IPv6, 1 other frames, 1 cut in the link header)." in text, text
+    assert "Without IPv4: 3 (1 IPv6, 1 other frame (protocol 0xc021), 1 cut in the link header)." in text, text
 
 
 def table():
@@ -371,8 +383,8 @@ def test_time_passes_up_to_the_last_record(last, bsdplay, tmp_path):
     first = framed(0x0800, ip(bytes(16), ident=9, place=MORE))
     last = last if last[:6] == ADDRESSES[:6] else framed(0x0800, last)
     text = why(bsdplay, tmp_path, [(0, first), (100, last)], "--addr", HERE, link=ETHERNET).stdout.decode()
-    assert "datagram 9 of udp 10.0.0.2 > 10.0.0.1 expired after 30 seconds, with record 1" in text, text
-    assert "lacks" not in text
+    told = "datagram 9 of udp 10.0.0.2 > 10.0.0.1 expired after 30 seconds, with record 1; lacks all from byte 16 on\n"
+    assert told in text and text.count("lacks") == 1, text
 
 
 # ---- options ---------------------------------------------------------------------------------------------------------

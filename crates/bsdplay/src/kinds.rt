@@ -64,13 +64,13 @@ fn kind_of_frame(why: NoPacket) -> Kind {
     }
 }
 
-/// Returns the kind of a record.
-fn kind_of(record: Record, bytes: &[u8]) -> Kind {
+/// Returns the kind of a record, and why it has no IPv4.
+fn kind_of(record: Record, bytes: &[u8]) -> (Kind, Option<NoPacket>) {
     match record.link {
-        None => Kind::Link,
+        None => (Kind::Link, None),
         Some(link) => match ipv4_packet(link, bytes) {
-            Ok(packet) => kind_of_packet(packet),
-            Err(why) => kind_of_frame(why),
+            Ok(packet) => (kind_of_packet(packet), None),
+            Err(why) => (kind_of_frame(why), Some(why)),
         },
     }
 }
@@ -100,6 +100,8 @@ pub(crate) struct Kinds {
     counts: [u64; KINDS],
     /// The first link type that isn't read.
     link: u16,
+    /// Why the first of the other frames has no IPv4.
+    other: Option<NoPacket>,
 }
 
 /// The kinds of a range of indices.
@@ -119,15 +121,19 @@ impl Kinds {
             records: 0,
             counts: [0; KINDS],
             link: 0,
+            other: None,
         }
     }
 
     /// Counts a record.
     pub(crate) fn add(&mut self, record: Record, bytes: &[u8]) {
-        let kind = kind_of(record, bytes);
+        let (kind, why) = kind_of(record, bytes);
         self.records = self.records.saturating_add(1);
         if matches!(kind, Kind::Link) && self.count(Kind::Link) == 0 {
             self.link = record.link_number;
+        }
+        if matches!(kind, Kind::Other) && self.other.is_none() {
+            self.other = why;
         }
         if let Some(count) = self.counts.get_mut(kind.place()) {
             *count = count.saturating_add(1);
@@ -150,9 +156,15 @@ impl Kinds {
         for kind in part.from..part.to {
             let count = self.count_at(kind);
             if count != 0 {
-                let name = NAMES.get(kind).copied().unwrap_or("");
+                let name = match (kind, count) {
+                    (7, 1) => "other frame",
+                    _ => NAMES.get(kind).copied().unwrap_or(""),
+                };
                 write!(out, "{}{count} {name}", if is_first { "" } else { ", " })?;
                 is_first = false;
+                if kind == Kind::Other.place() {
+                    self.write_other(out, count)?;
+                }
             }
         }
         if part.to == KINDS && self.count(Kind::Link) != 0 {
@@ -162,6 +174,19 @@ impl Kinds {
             }
         }
         Ok(())
+    }
+
+    /// Writes the number by which the first of the other frames isn't IPv4, such as ` (protocol 0x88b5)`.
+    fn write_other(&self, out: &mut impl Write, count: u64) -> io::Result<()> {
+        let Some(why) = self.other else {
+            return Ok(());
+        };
+        let front = if count == 1 { "" } else { "first: " };
+        let tag = match why {
+            NoPacket::OtherProtocol(0x8100 | 0x88a8) => ", a third VLAN tag",
+            _ => "",
+        };
+        write!(out, " ({front}{why}{tag})")
     }
 
     /// Writes all counts, such as `4 records: 4 TCP.`.

@@ -7,6 +7,8 @@ mod copies;
 mod difference;
 mod ether;
 mod ether_text;
+mod first_reading;
+mod flow;
 mod folder;
 mod form;
 mod formats;
@@ -20,12 +22,14 @@ mod link_names;
 mod messages;
 mod one;
 mod options;
+mod pieces;
 mod records;
 mod screen;
 mod strict;
 mod sweep;
 mod typed;
 mod unsolved;
+mod vlan;
 mod why;
 
 use choice::Ahead;
@@ -46,7 +50,7 @@ use std::alloc::{AllocError, Global};
 use std::io::{IsTerminal, Read};
 use std::process::ExitCode;
 use std::{env, fs, io};
-use strict::{print_blank, print_lacks};
+use strict::{print_blank, print_lacks, print_open};
 use sweep::{Seeds, seed_in, seeds_in, sweep};
 use typed::{TYPED, Typed, is_typed};
 use unsolved::{Open, Unsolved};
@@ -231,9 +235,14 @@ fn report_capture(rt: &HostRuntime, name: &str) -> io::Result<u8> {
 }
 
 /// Says what is open in an exercise, and returns whether anything is.
-fn report_open(rt: &HostRuntime, name: &str, open: Open) -> io::Result<bool> {
+fn report_open(rt: &HostRuntime, name: &str, form: Form, open: Open) -> io::Result<bool> {
+    let style = Style {
+        form,
+        name: name.as_bytes(),
+    };
     let name = Shown(name);
     if let Some(first) = open.first {
+        print_open(rt, first, style)?;
         eprintln!(rt; "bsdplay: {name}:{first}: missing expected reply: replace the ?")?;
     }
     if open.replies == 0 && open.questions == 0 {
@@ -254,7 +263,7 @@ fn play_unsolved<R: Read + Drop>(
     manner: Manner<'_>,
 ) -> io::Result<u8> {
     let status = play_reader(rt, reader, name, manner)?;
-    let open = report_open(rt, name, reader.inner().open())?;
+    let open = report_open(rt, name, manner.form, reader.inner().open())?;
     Ok(if open && status == 0 { LACKS } else { status })
 }
 

@@ -124,7 +124,7 @@ pub(crate) static OPTIONS: [LongOption; 15] = [
 ];
 
 /// The options of `why`.
-pub(crate) static WHY_OPTIONS: [LongOption; 12] = [
+pub(crate) static WHY_OPTIONS: [LongOption; 13] = [
     LongOption {
         id: "A",
         long: "addr",
@@ -141,6 +141,12 @@ pub(crate) static WHY_OPTIONS: [LongOption; 12] = [
         id: "PORT",
         long: "port",
         help: "The only port that is bound (default: each port that a datagram goes to)",
+        action: ArgAction::Set,
+    },
+    LongOption {
+        id: "VLAN",
+        long: "vlan",
+        help: "The host's VLAN: 100, 100.7, or 0 for none (default: that of most packets for the host)",
         action: ArgAction::Set,
     },
     LongOption {

@@ -2,114 +2,35 @@
 ghost use Rattle.std.specs.Prelude.{◌≤◌, length, IfSome};
 
 use crate::copies::{Copies, Times};
-use crate::ether::{EtherEnd, LinkCounts, Linked, MacSeen};
+use crate::ether::{EtherEnd, LinkCounts, Linked};
 use crate::ether_text::{Frame, LINK_TEXT, put_frame_text, put_link_totals};
+use crate::flow::{FlowSums, is_of_flow};
 use crate::kinds::Kinds;
+use crate::pieces::{Key, Pieces};
+use crate::vlan::{Vlan, vlan_of};
 use crate::why::Choice;
 use capture::pcap::{LinkType, ipv4_packet};
 use capture::{Fault, Record, Records};
-use flat_ether::Mac;
 use flat_model::Why;
 use play_pcap::Range;
-use play_why::{
-    Addresses, Arrival, Blame, Busiest, Card, Judge, Layout, Outcome, Refusals, Verdict,
-};
+use play_text::Fate;
+use play_why::{Arrival, Blame, Card, Judge, Layout, Outcome, Refusals, Verdict};
 use script_loop::{Buffer, Source};
 use std::alloc::{AllocError, Global};
-use std::io::Write;
+use std::io::{self, Write};
 use std::net::Ipv4Addr;
 
 /// The most bytes of a packet.
 const MOST_BYTES: usize = 65_535;
 
 /// Returns the packet in a record of these bytes, if it has one that a machine accepts.
-fn packet_in(record: Record, bytes: &[u8]) -> Option<&[u8]>
+pub(crate) fn packet_in(record: Record, bytes: &[u8]) -> Option<&[u8]>
     ensures { IfSome result (λ p. length p.now ≤ 65535) }
 {
     match ipv4_packet(record.link?, bytes) {
         Ok(packet) if packet.len() <= MOST_BYTES => Some(packet),
         _ => None,
     }
-}
-
-/// What a first reading of a capture gives.
-#[derive(Drop)]
-pub(crate) struct Ahead {
-    addresses: Addresses,
-    refusals: Refusals,
-    kinds: Kinds,
-}
-
-impl Ahead {
-    /// Nothing was read.
-    fn new(alloc: Global) -> Ahead {
-        Ahead {
-            addresses: Addresses::new(alloc),
-            refusals: Refusals::new(alloc),
-            kinds: Kinds::new(),
-        }
-    }
-
-    /// Reads a record.
-    fn read(&mut self, record: Record, bytes: &[u8]) -> Result<(), AllocError> {
-        self.kinds.add(record, bytes);
-        if let Some(packet) = packet_in(record, bytes) {
-            self.addresses.count_packet(packet)?;
-            self.refusals.read_ahead(record.number, packet)?;
-        }
-        Ok(())
-    }
-
-    /// Returns the address to which most datagrams go, if one of them goes to a host.
-    pub(crate) fn busiest(&self) -> Option<Busiest> {
-        self.addresses.busiest()
-    }
-
-    /// Returns what the records contain.
-    pub(crate) fn kinds(&self) -> Kinds {
-        self.kinds
-    }
-
-    /// Returns the refusals.
-    pub(crate) fn into_refusals(self) -> Refusals {
-        self.refusals
-    }
-}
-
-/// Returns the hardware address of a host, by the frames of a capture, if one of them shows it.
-pub(crate) fn find_mac<S: Source>(records: &mut Records<S>, ours: u32) -> Option<Mac> {
-    let mut seen = MacSeen::new(ours);
-    for _ in 0..u64::MAX {
-        match records.next_record() {
-            Ok(Some(record)) => {
-                if matches!(record.link, Some(LinkType::Ethernet)) {
-                    seen.read(records.bytes());
-                }
-            }
-            Ok(None) | Err(_) => break,
-        }
-    }
-    seen.found()
-}
-
-/// Reads a capture ahead, up to its end or its first fault, which is returned too.
-pub(crate) fn read_ahead<S: Source>(
-    alloc: Global,
-    records: &mut Records<S>,
-) -> Result<(Ahead, Option<Fault>), AllocError> {
-    let mut ahead = Ahead::new(alloc);
-    let mut fault = None;
-    for _ in 0..u64::MAX {
-        match records.next_record() {
-            Ok(Some(record)) => ahead.read(record, records.bytes())?,
-            Ok(None) => break,
-            Err(found) => {
-                fault = Some(found);
-                break;
-            }
-        }
-    }
-    Ok((ahead, fault))
 }
 
 /// What a capture has besides the packets for the machine, and what `--fail-on` may name.
@@ -119,6 +40,8 @@ pub(crate) struct Counts {
     pub(crate) elsewhere: u64,
     /// Records without IPv4.
     pub(crate) without: u64,
+    /// Packets of other VLANs.
+    pub(crate) other_vlans: u64,
     /// Datagrams that are unfinished at the end.
     pub(crate) unfinished: u64,
     /// Frames that the link of a host on an Ethernet didn't give to its stack.
@@ -138,6 +61,8 @@ pub(crate) enum End {
     Fault(Fault),
     Memory,
     Unwritten,
+    /// The reader of the output has ended, as `head` does.
+    Closed,
 }
 
 /// The machine that judges: a stack, and a host on an Ethernet if frames are judged. It must be consumed by `end`.
@@ -158,6 +83,14 @@ impl Machine {
     }
 }
 
+/// What only the capture knows of a record.
+#[derive(Clone, Copy)]
+struct At {
+    /// When it was captured, in nanoseconds since 1970.
+    time: Option<u64>,
+    vlan: Vlan,
+}
+
 /// The records, played on a machine.
 #[derive(Drop)]
 pub(crate) struct Play<'a> {
@@ -168,8 +101,14 @@ pub(crate) struct Play<'a> {
     refusals: Refusals,
     /// Whether the refusals were read ahead.
     ahead: bool,
+    /// The host's VLAN, once it's known. A host on an Ethernet has none, and its link drops frames with tags.
+    vlan: Option<Vlan>,
+    /// The record that is played.
+    at: At,
     card: Card,
     copies: Copies,
+    pieces: Pieces,
+    flow: FlowSums,
     /// Packets that were dropped for what this stack lacks.
     lacking: Times,
     pub(crate) counts: Counts,
@@ -177,10 +116,7 @@ pub(crate) struct Play<'a> {
 
 /// Writes bytes to the output.
 fn put<W: Write>(out: &mut W, bytes: &[u8]) -> Result<(), End> {
-    match out.write_all(bytes) {
-        Ok(()) => Ok(()),
-        Err(_) => Err(End::Unwritten),
-    }
+    written(out.write_all(bytes))
 }
 
 /// Writes how many records are of a kind, and the first of them, if there are some.
@@ -189,10 +125,44 @@ fn put_times<W: Write>(times: Times, what: &str, out: &mut W) -> Result<(), End>
         return Ok(());
     }
     let (count, first) = (times.count, times.first);
-    match writeln!(out, "    {count} {what} (first: record {first})") {
-        Ok(()) => Ok(()),
-        Err(_) => Err(End::Unwritten),
+    written(writeln!(out, "    {count} {what} (first: record {first})"))
+}
+
+/// Returns whether the output was written.
+pub(crate) fn written(done: io::Result<()>) -> Result<(), End> {
+    let Err(error) = done else {
+        return Ok(());
+    };
+    Err(if error.kind() == io::ErrorKind::BrokenPipe {
+        End::Closed
+    } else {
+        End::Unwritten
+    })
+}
+
+/// Writes the records of a datagram's fragments, of which the last one completed it.
+fn write_records<W: Write>(earlier: &[u64], last: u64, out: &mut W) -> io::Result<()> {
+    out.write_all(b",\"records\":[")?;
+    for number in earlier {
+        write!(out, "{number},")?;
     }
+    write!(out, "{last}]")
+}
+
+/// Writes the members for what only the capture knows of a record, and the end of its object.
+fn write_at<W: Write>(at: At, out: &mut W) -> io::Result<()> {
+    match at.time {
+        Some(time) => write!(
+            out,
+            ",\"time_epoch\":\"{}.{:09}\"",
+            time / 1_000_000_000,
+            time % 1_000_000_000
+        )?,
+        None => out.write_all(b",\"time_epoch\":null")?,
+    }
+    out.write_all(b",\"vlan\":")?;
+    at.vlan.write_array(out)?;
+    out.write_all(b"}\n")
 }
 
 /// Returns whether a record is to be printed.
@@ -201,26 +171,6 @@ fn is_in(range: Option<Range>, number: u64) -> bool {
         None => true,
         Some(range) => u64::from(range.first) <= number && number <= u64::from(range.last),
     }
-}
-
-/// Returns whether a port is this one, or unknown.
-fn may_be(port: Option<u16>, wanted: u16) -> bool {
-    match port {
-        Some(port) => port == wanted,
-        None => true,
-    }
-}
-
-/// Returns whether a packet comes from this end or goes to it. A packet that shows no ports may.
-fn is_of_flow(choice: Choice, verdict: &Verdict) -> bool {
-    let Some(flow) = choice.flow else {
-        return true;
-    };
-    let Some(ends) = verdict.ends else {
-        return false;
-    };
-    (ends.source == flow.address && may_be(ends.source_port, flow.port))
-        || (ends.destination == flow.address && may_be(ends.destination_port, flow.port))
 }
 
 /// Returns whether a packet counts as dropped for `--dropped`.
@@ -232,7 +182,7 @@ fn is_dropped(outcome: Outcome) -> bool {
 fn is_wanted(choice: Choice, verdict: &Verdict) -> bool {
     is_in(choice.range, verdict.number)
         && (!choice.dropped || is_dropped(verdict.outcome))
-        && is_of_flow(choice, verdict)
+        && (choice.flow.is_none() || is_of_flow(choice, verdict))
 }
 
 /// Returns whether this is to blame for one of the causes of a verdict.
@@ -264,15 +214,16 @@ fn is_unclaimed(verdict: &Verdict) -> bool {
 }
 
 impl<'a> Play<'a> {
-    /// No record was played on the machine, which has just started. `refusals`: those that were read ahead, if the
-    /// capture was.
+    /// No record was played on the machine, which has just started. `ahead`: the refusals and the host's VLAN, if the
+    /// capture was read ahead.
     pub(crate) fn over(
         alloc: Global,
         choice: Choice,
         ours: u32,
         machine: &'a mut Machine,
-        refusals: Option<Refusals>,
+        ahead: (Option<Refusals>, Option<Vlan>),
     ) -> Result<Play<'a>, AllocError> {
+        let (refusals, vlan) = ahead;
         let (Ok(card), Ok(link_text)) = (Card::new(alloc), Buffer::new(alloc)) else {
             return Err(AllocError);
         };
@@ -286,12 +237,20 @@ impl<'a> Play<'a> {
                 Some(refusals) => refusals,
                 None => Refusals::new(alloc),
             },
+            vlan,
+            at: At {
+                time: None,
+                vlan: vlan_of(None, b""),
+            },
             card,
             copies: Copies::new(alloc),
+            pieces: Pieces::new(alloc),
+            flow: FlowSums::new(),
             lacking: Times::never(),
             counts: Counts {
                 elsewhere: 0,
                 without: 0,
+                other_vlans: 0,
                 unfinished: 0,
                 link: LinkCounts::new(),
                 kinds: Kinds::new(),
@@ -304,43 +263,94 @@ impl<'a> Play<'a> {
 
     /// Notes that a datagram isn't completed. `are_copies`: only copies of its fragments came, so that's no case that
     /// `--fail-on` names.
-    fn note_unfinished(&mut self, are_copies: bool) {
+    fn note_unfinished(&mut self, key: Option<Key>, are_copies: bool) {
+        if !are_copies && self.may_be_of_flow(key) {
+            self.flow.add_unfinished();
+        }
         let fails = self.choice.fail_on.unfinished && !are_copies;
         self.counts.fails = self.counts.fails || fails;
     }
 
-    /// Prints the judge's text on a datagram that isn't completed, and that only copies came if that is so.
-    fn put_datagram<W: Write>(&self, are_copies: bool, out: &mut W) -> Result<(), End> {
-        let text = self.machine.judge.text();
-        if !are_copies {
-            return put(out, text);
+    /// Returns whether a datagram that isn't completed may be of the flow that is selected.
+    fn may_be_of_flow(&self, key: Option<Key>) -> bool {
+        match (self.choice.flow, key) {
+            (Some(flow), Some(key)) => self.pieces.may_be_of(key, (flow.address, flow.port)),
+            _ => true,
         }
-        if let Some(rest) = text.strip_prefix(b"    unfinished: ") {
+    }
+
+    /// Prints the judge's line on a datagram that isn't completed: only copies came, or which bytes are missing of one
+    /// that was dropped.
+    fn put_line<W: Write>(
+        &self,
+        lost: Option<Key>,
+        are_copies: bool,
+        out: &mut W,
+    ) -> Result<(), End> {
+        let text = self.machine.judge.text();
+        if are_copies && let Some(rest) = text.strip_prefix(b"    unfinished: ") {
             put(out, b"    only copies: ")?;
             return put(out, rest);
         }
-        match text.strip_suffix(b"}\n") {
-            Some(front) => {
+        let (Some(front), Some(key)) = (text.strip_suffix(b"\n"), lost) else {
+            return put(out, text);
+        };
+        put(out, front)?;
+        put(out, b"; lacks")?;
+        written(self.pieces.write_missing(key, Layout::Lines, out))?;
+        put(out, b"\n")
+    }
+
+    /// Prints the judge's object on a datagram that isn't completed, with its ports and what is missing.
+    fn put_object<W: Write>(
+        &self,
+        key: Option<Key>,
+        are_copies: bool,
+        out: &mut W,
+    ) -> Result<(), End> {
+        let text = self.machine.judge.text();
+        let Some(front) = text.strip_suffix(b"}\n") else {
+            return put(out, text);
+        };
+        put(out, front)?;
+        if let Some(key) = key {
+            written(self.pieces.write_members(key, out))?;
+        }
+        put(
+            out,
+            if are_copies {
+                b",\"copies\":true}\n"
+            } else {
+                b"}\n"
+            },
+        )
+    }
+
+    /// Prints the judge's text on a record. An object has members for what only the capture knows.
+    fn put_judged<W: Write>(&self, verdict: &Verdict, out: &mut W) -> Result<(), End> {
+        let text = self.machine.judge.text();
+        match (self.choice.layout, text.strip_suffix(b"}\n")) {
+            (Layout::Objects, Some(front)) => {
                 put(out, front)?;
-                put(out, b",\"copies\":true}\n")
+                if matches!(verdict.fate, Fate::Whole) {
+                    let records = self.machine.judge.records();
+                    written(write_records(records, verdict.number, out))?;
+                }
+                written(write_at(self.at, out))
             }
-            None => put(out, text),
+            _ => put(out, text),
         }
     }
 
     /// Prints that a fragment came again after its datagram was whole.
     fn put_copy<W: Write>(&self, number: u64, whole: u64, out: &mut W) -> Result<(), End> {
-        let written = match self.choice.layout {
+        written(match self.choice.layout {
             Layout::Lines => writeln!(
                 out,
                 "    a copy: its datagram was whole with record {whole}"
             ),
             Layout::Objects => writeln!(out, "{{\"copy\":{number},\"whole\":{whole}}}"),
-        };
-        match written {
-            Ok(()) => Ok(()),
-            Err(_) => Err(End::Unwritten),
-        }
+        })
     }
 
     /// Prints the datagrams that were dropped unfinished, if one of their records is selected.
@@ -351,15 +361,20 @@ impl<'a> Play<'a> {
                 Ok(None) => break,
                 Err(_) => return Err(End::Memory),
             }
+            let key = self.pieces.key_in(self.machine.judge.records());
             let are_copies = self.copies.are_copies(self.machine.judge.records());
-            self.note_unfinished(are_copies);
+            self.note_unfinished(key, are_copies);
             let mut wanted = false;
             for number in self.machine.judge.records() {
                 wanted = wanted || is_in(self.choice.range, *number);
             }
-            if wanted {
-                self.put_datagram(are_copies, out)?;
+            if wanted && self.may_be_of_flow(key) {
+                match self.choice.layout {
+                    Layout::Lines => self.put_line(key, are_copies, out)?,
+                    Layout::Objects => self.put_object(key, are_copies, out)?,
+                }
             }
+            self.pieces.drop_unfinished(key);
         }
         Ok(())
     }
@@ -377,6 +392,9 @@ impl<'a> Play<'a> {
 
     /// Notes whether a verdict is one that `--fail-on` names.
     fn note(&mut self, verdict: &Verdict) {
+        if is_of_flow(self.choice, verdict) {
+            self.flow.add(verdict.outcome);
+        }
         let fail_on = self.choice.fail_on;
         let is_dropped = matches!(verdict.outcome, Outcome::Dropped);
         let is_packet = fail_on.packet && is_dropped && is_blamed(verdict, Blame::Packet);
@@ -395,15 +413,19 @@ impl<'a> Play<'a> {
     fn put_verdict<W: Write>(
         &mut self,
         verdict: &Verdict,
+        packet: &[u8],
         reported: bool,
         out: &mut W,
     ) -> Result<(), End> {
         self.note(verdict);
-        let Ok(earlier) = self.copies.note(verdict) else {
+        let (Ok(earlier), Ok(())) = (self.copies.note(verdict), self.pieces.note(packet, verdict))
+        else {
             return Err(End::Memory);
         };
         if is_wanted(self.choice, verdict) {
-            put(out, self.machine.judge.text())?;
+            self.put_judged(verdict, out)?;
+            let (number, layout) = (verdict.number, self.choice.layout);
+            written(self.pieces.write_overlaps(number, layout, out))?;
             if let Some(whole) = earlier {
                 self.put_copy(verdict.number, whole, out)?;
             }
@@ -435,7 +457,7 @@ impl<'a> Play<'a> {
             self.machine.judge.receive(arrival)
         };
         match judged {
-            Ok(verdict) => self.put_verdict(&verdict, reported, out),
+            Ok(verdict) => self.put_verdict(&verdict, arrival.packet, reported, out),
             Err(_) => Err(End::Memory),
         }
     }
@@ -455,7 +477,7 @@ impl<'a> Play<'a> {
         }
         let peer = Ipv4Addr::from_bits(refusal.peer);
         let (port, id, peer_port) = (refusal.port, refusal.id, refusal.peer_port);
-        let written = match self.choice.layout {
+        written(match self.choice.layout {
             Layout::Lines => writeln!(
                 out,
                 "{number}  the host refused port {port}, for the datagram with id {id} from {peer}:{peer_port}"
@@ -464,11 +486,7 @@ impl<'a> Play<'a> {
                 out,
                 "{{\"refusal\":{number},\"port\":{port},\"src\":\"{peer}\",\"sport\":{peer_port},\"id\":{id}}}"
             ),
-        };
-        match written {
-            Ok(()) => Ok(()),
-            Err(_) => Err(End::Unwritten),
-        }
+        })
     }
 
     /// Plays the packet of a record, which the link gave to the stack if `linked` says so.
@@ -491,6 +509,26 @@ impl<'a> Play<'a> {
         match self.refusals.pass(arrival.number, arrival.packet) {
             Ok(()) => Ok(()),
             Err(_) => Err(End::Memory),
+        }
+    }
+
+    /// Returns whether a packet is of another VLAN than the host, whose VLAN is that of the first packet for it if none
+    /// was chosen.
+    fn is_of_another_vlan(&mut self, packet: Option<&[u8]>) -> bool {
+        let Some(packet) = packet else {
+            return false;
+        };
+        if self.machine.link.is_some() {
+            return false;
+        }
+        match self.vlan {
+            Some(vlan) => vlan != self.at.vlan,
+            None => {
+                if self.machine.judge.is_ours(packet) {
+                    self.vlan = Some(self.at.vlan);
+                }
+                false
+            }
         }
     }
 
@@ -548,6 +586,14 @@ impl<'a> Play<'a> {
     ) -> Result<(), End> {
         self.counts.kinds.add(record, bytes);
         self.pass(time, out)?;
+        self.at = At {
+            time: record.time,
+            vlan: vlan_of(record.link, bytes),
+        };
+        if self.is_of_another_vlan(packet_in(record, bytes)) {
+            self.counts.other_vlans = self.counts.other_vlans.saturating_add(1);
+            return Ok(());
+        }
         let linked = self.link_of(record, bytes);
         let is_ours = !matches!(linked, Linked::Elsewhere);
         if self.copies.read(record.number, bytes, is_ours).is_err() {
@@ -563,6 +609,7 @@ impl<'a> Play<'a> {
             self.counts.without = self.counts.without.saturating_add(1);
             return Ok(());
         };
+        let (source_port, destination_port) = self.pieces.ports_for(packet);
         let arrival = Arrival {
             number: record.number,
             time,
@@ -571,8 +618,8 @@ impl<'a> Play<'a> {
             packet,
             filled: false,
             refused: self.refusals.record_for(record.number, packet),
-            source_port: None,
-            destination_port: None,
+            source_port,
+            destination_port,
         };
         self.play_packet(&arrival, linked, out)
     }
@@ -607,9 +654,15 @@ impl<'a> Play<'a> {
                 Ok(false) => break,
                 Err(_) => return Err(End::Memory),
             }
+            let key = self.pieces.key_in(self.machine.judge.records());
             let are_copies = self.copies.are_copies(self.machine.judge.records());
-            self.note_unfinished(are_copies);
-            self.put_datagram(are_copies, out)?;
+            self.note_unfinished(key, are_copies);
+            if self.may_be_of_flow(key) {
+                match self.choice.layout {
+                    Layout::Lines => self.put_line(None, are_copies, out)?,
+                    Layout::Objects => self.put_object(key, are_copies, out)?,
+                }
+            }
             if !are_copies {
                 self.counts.unfinished = self.counts.unfinished.saturating_add(1);
             }
@@ -624,7 +677,24 @@ impl<'a> Play<'a> {
             without: self.counts.without,
             unfinished: self.counts.unfinished,
         });
-        put(out, self.machine.judge.text())
+        let text = self.machine.judge.text();
+        match (self.choice.layout, text.strip_suffix(b"}}\n")) {
+            (Layout::Objects, Some(front)) => {
+                put(out, front)?;
+                written(self.write_vlan(out))
+            }
+            _ => put(out, text),
+        }
+    }
+
+    /// Writes the members of the summary for the host's VLAN and other ones, and the end of the object.
+    fn write_vlan<W: Write>(&self, out: &mut W) -> io::Result<()> {
+        out.write_all(b",\"vlan\":")?;
+        match self.vlan {
+            Some(vlan) => vlan.write_array(out)?,
+            None => out.write_all(b"[]")?,
+        }
+        writeln!(out, ",\"other_vlans\":{}}}}}", self.counts.other_vlans)
     }
 
     /// Prints an object that counts what isn't the packets' fault, if there is such a case.
@@ -634,14 +704,10 @@ impl<'a> Play<'a> {
         if copies == 0 && repeats == 0 && lacking == 0 {
             return Ok(());
         }
-        let written = writeln!(
+        written(writeln!(
             out,
             "{{\"apart\":{{\"stack\":{lacking},\"copies\":{copies},\"repeats\":{repeats}}}}}"
-        );
-        match written {
-            Ok(()) => Ok(()),
-            Err(_) => Err(End::Unwritten),
-        }
+        ))
     }
 
     /// Prints lines that count what isn't the packets' fault, if there are such cases.
@@ -678,6 +744,14 @@ impl<'a> Play<'a> {
         put(out, self.link_text.as_slice())
     }
 
+    /// Prints the sums of the flow that is selected.
+    fn put_flow<W: Write>(&self, out: &mut W) -> Result<(), End> {
+        match self.choice.flow {
+            Some(flow) => written(self.flow.write(flow, self.choice.layout, out)),
+            None => Ok(()),
+        }
+    }
+
     /// Prints what follows the last record: the datagrams that are unfinished, after the lines of the summary, or
     /// before its object.
     pub(crate) fn put_rest<W: Write>(&mut self, out: &mut W) -> Result<(), End> {
@@ -686,11 +760,13 @@ impl<'a> Play<'a> {
                 self.put_totals(out)?;
                 self.put_apart(out)?;
                 self.put_unfinished(out)?;
+                self.put_flow(out)?;
                 self.put_link(out)
             }
             Layout::Objects => {
                 self.put_unfinished(out)?;
                 self.put_apart_object(out)?;
+                self.put_flow(out)?;
                 self.put_link(out)?;
                 self.put_totals(out)
             }

@@ -3,7 +3,7 @@ use crate::UNREAD;
 use crate::hand_in::{load, unmarked};
 use crate::messages::fail_on;
 use play_grade::{Marker, first_line};
-use play_script::{OUTPUT, Printer, Style};
+use play_script::{Form, OUTPUT, Printer, Style};
 use script_loop::Buffer;
 use std::alloc::{AllocError, Global};
 use std::io::{self, Write};
@@ -42,6 +42,20 @@ pub(crate) fn print_lacks(rt: &HostRuntime, script: &[u8], style: Style<'_>) -> 
     let lacks = !printer.sound;
     drop(marker);
     result.map(|()| lacks)
+}
+
+/// Prints an object for the first line that expects `?`, the one with this number, if objects are printed.
+pub(crate) fn print_open(rt: &HostRuntime, number: u64, style: Style<'_>) -> io::Result<()> {
+    if !matches!(style.form, Form::Json) {
+        return Ok(());
+    }
+    let mut text: Buffer<OUTPUT> = Buffer::new(rt.alloc())?;
+    let mut printer = Printer::new(rt.alloc(), style)?;
+    for _ in 0..number {
+        printer.next_line(b"");
+    }
+    printer.put_fault(&mut text, b"missing expected reply: replace the ?");
+    rt.stdout().write_all(text.as_slice())
 }
 
 /// Adds a key as an exercise has it.

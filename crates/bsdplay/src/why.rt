@@ -1,10 +1,12 @@
 //! Why the packets of a capture were dropped: the subcommand, its options, and the capture that it opens.
 use crate::ether::{EtherEnd, mac_of};
+use crate::first_reading::{Ahead, find_mac, find_refusals, find_vlans, read_ahead};
 use crate::from_pcap::{BAD, records_in, report, report_fault};
 use crate::link_names::name_of;
 use crate::messages::{Shown, fail, fail_on};
 use crate::options::{WHY_OPTIONS, with_options};
-use crate::records::{Ahead, Counts, End, Machine, Play, find_mac, read_ahead};
+use crate::records::{Counts, End, Machine, Play, written};
+use crate::vlan::{Vlan, vlan_in};
 use crate::{NOTHING, UNREAD, USAGE};
 use capture::pcap::Why as ClassicWhy;
 use capture::{Fault, Records, Why};
@@ -37,6 +39,7 @@ pub(crate) struct Choice {
     address: Option<u32>,
     broadcast: Option<u32>,
     port: Option<u16>,
+    vlan: Option<Vlan>,
     pub(crate) range: Option<Range>,
     pub(crate) all: bool,
     /// Only packets that were dropped.
@@ -166,6 +169,7 @@ fn choice_of(found: &ArgMatches<'_>) -> Result<Choice, &'static str> {
         address: address_in(found.get_str("A"))?,
         broadcast: address_in(found.get_str("B"))?,
         port: port_in(found.get_str("PORT"))?,
+        vlan: vlan_in(found.get_str("VLAN"))?,
         range: records_in(found.get_str("N-M"))?,
         all: found.get_flag("all"),
         dropped: found.get_flag("dropped"),
@@ -206,16 +210,18 @@ fn print_end(rt: &HostRuntime, name: &str, end: End) -> io::Result<u8> {
         End::Fault(fault) => print_fault(rt, name, fault),
         End::Memory => fail_on(rt, name, "no memory", UNREAD),
         End::Unwritten => fail_on(rt, name, "write failed", UNREAD),
+        End::Closed => Ok(UNREAD),
     }
 }
 
 /// Prints how many records weren't for the machine.
 fn print_others(rt: &HostRuntime, counts: Counts) -> io::Result<()> {
-    if counts.elsewhere != 0 || counts.without != 0 {
-        print!(rt;
-            "Records for other machines: {}. Without IPv4: {}",
-            counts.elsewhere, counts.without
-        )?;
+    if counts.elsewhere != 0 || counts.without != 0 || counts.other_vlans != 0 {
+        print!(rt; "Records for other machines: {}.", counts.elsewhere)?;
+        if counts.other_vlans != 0 {
+            print!(rt; " Of other VLANs: {}.", counts.other_vlans)?;
+        }
+        print!(rt; " Without IPv4: {}", counts.without)?;
         counts.kinds.write_without(&mut rt.stdout())?;
         println!(rt; ".")?;
     }
@@ -237,6 +243,12 @@ fn print_nothing(
             eprintln!(rt;
                 "bsdplay: {name}: no packet is for {address}: {} of {} datagrams go to {other}",
                 busiest.count, busiest.all
+            )?;
+        }
+        _ if counts.other_vlans != 0 => {
+            eprintln!(rt;
+                "bsdplay: {name}: no packet is for {address} in this VLAN: {} of other VLANs",
+                counts.other_vlans
             )?;
         }
         _ if counts.others == 0 => {
@@ -386,16 +398,18 @@ fn judge_records<S: Source>(
         ours,
         mac,
         refusals,
+        is_tagged: _is_tagged,
+        vlan,
         busiest,
     } = host;
-    if print_judge(rt, choice).is_err() {
-        return print_end(rt, name, End::Unwritten);
+    if let Err(end) = written(print_judge(rt, choice)) {
+        return print_end(rt, name, end);
     }
     let mut machine = match boot_machine(rt, name, choice, ours, mac)? {
         Ok(machine) => machine,
         Err(status) => return Ok(status),
     };
-    let status = match Play::over(rt.alloc(), choice, ours, &mut machine, refusals) {
+    let status = match Play::over(rt.alloc(), choice, ours, &mut machine, (refusals, vlan)) {
         Ok(mut play) => play_all(rt, name, records, &mut play, busiest),
         Err(_) => print_end(rt, name, End::Memory),
     };
@@ -411,6 +425,10 @@ struct Host {
     mac: Option<Mac>,
     /// The refusals in the capture, if it was read ahead.
     refusals: Option<Refusals>,
+    /// Whether a frame has a VLAN tag, if it was read ahead.
+    is_tagged: bool,
+    /// Its VLAN, if it's known.
+    vlan: Option<Vlan>,
     /// The address to which most datagrams go, if it was read ahead and one of them goes to a host.
     busiest: Option<Busiest>,
 }
@@ -451,11 +469,14 @@ fn look_ahead<S: Source>(
         return Ok(Err(print_end(rt, name, End::Memory)?));
     };
     let busiest = ahead.busiest();
+    let (is_tagged, vlan) = (ahead.is_tagged, choice.vlan);
     if let Some(ours) = choice.address {
         return Ok(Ok(Host {
             ours,
             mac: choice.mac,
             refusals: Some(ahead.into_refusals()),
+            is_tagged,
+            vlan,
             busiest,
         }));
     }
@@ -473,6 +494,8 @@ fn look_ahead<S: Source>(
         ours: busiest.address,
         mac: choice.mac,
         refusals: Some(ahead.into_refusals()),
+        is_tagged,
+        vlan,
         busiest: Some(busiest),
     }))
 }
@@ -529,7 +552,38 @@ fn mac_for<S: Source + Drop>(
     Ok(Ok(mac))
 }
 
-/// Judges a file of any length, which is read twice, and a third time for a hardware address.
+/// Chooses the host's VLAN if frames have tags: the one in `choice`, or that of most packets for the host in the first
+/// source. Prints it. The refusals are those of this VLAN, by the second source. If there is no memory, returns the
+/// status.
+fn with_vlan<S: Source + Drop>(
+    rt: &HostRuntime,
+    name: &str,
+    sources: (S, S),
+    choice: Choice,
+    host: &mut Host,
+) -> io::Result<Result<(), u8>> {
+    let (first, second) = sources;
+    let mut records = Records::new(first, Buffer::new(rt.alloc())?);
+    let vlans = find_vlans(rt.alloc(), &mut records, host.ours);
+    let (_source, _room) = records.end();
+    let Ok(vlans) = vlans else {
+        return Ok(Err(print_end(rt, name, End::Memory)?));
+    };
+    if host.vlan.is_none() {
+        host.vlan = vlans.busiest();
+    }
+    let mut records = Records::new(second, Buffer::new(rt.alloc())?);
+    let refusals = find_refusals(rt.alloc(), &mut records, host.vlan);
+    let (_source, _room) = records.end();
+    let Ok(refusals) = refusals else {
+        return Ok(Err(print_end(rt, name, End::Memory)?));
+    };
+    host.refusals = Some(refusals);
+    vlans.write(host.vlan, choice.layout, &mut rt.stdout())?;
+    Ok(Ok(()))
+}
+
+/// Judges a file of any length, which is read twice, a third time for a hardware address, and twice more for VLANs.
 fn judge_file(rt: &HostRuntime, name: &str, choice: Choice) -> io::Result<u8> {
     let not_opened = Err(CaptureFault::NotOpened);
     let Ok(file) = fs::open(rt, name) else {
@@ -545,6 +599,15 @@ fn judge_file(rt: &HostRuntime, name: &str, choice: Choice) -> io::Result<u8> {
     match mac_for(rt, name, Silent(file), choice, host.ours)? {
         Ok(mac) => host.mac = mac,
         Err(status) => return Ok(status),
+    }
+    if host.is_tagged && !choice.ether {
+        let (Ok(first), Ok(second)) = (fs::open(rt, name), fs::open(rt, name)) else {
+            return report(rt, name, not_opened);
+        };
+        let sources = (Silent(first), Silent(second));
+        if let Err(status) = with_vlan(rt, name, sources, choice, &mut host)? {
+            return Ok(status);
+        }
     }
     let Ok(file) = fs::open(rt, name) else {
         return report(rt, name, not_opened);
@@ -564,6 +627,8 @@ fn judge_input(rt: &HostRuntime, choice: Choice) -> io::Result<u8> {
             ours,
             mac: choice.mac,
             refusals: None,
+            is_tagged: false,
+            vlan: choice.vlan,
             busiest: None,
         };
         return judge_source(rt, name, Silent(rt.stdin()), choice, host);
@@ -585,6 +650,12 @@ fn judge_input(rt: &HostRuntime, choice: Choice) -> io::Result<u8> {
         Ok(mac) => host.mac = mac,
         Err(status) => return Ok(status),
     }
+    if host.is_tagged && !choice.ether {
+        let sources = (file.as_slice(), file.as_slice());
+        if let Err(status) = with_vlan(rt, name, sources, choice, &mut host)? {
+            return Ok(status);
+        }
+    }
     judge_source(rt, name, file.as_slice(), choice, host)
 }
 
@@ -594,6 +665,10 @@ pub(crate) fn print_why(rt: &HostRuntime, found: &ArgMatches<'_>) -> io::Result<
         Ok(choice) => choice,
         Err(text) => return fail(rt, text, USAGE),
     };
+    if choice.ether && choice.vlan.is_some() {
+        let text = "--vlan doesn't go with --ether: its link drops frames with a VLAN tag";
+        return fail(rt, text, USAGE);
+    }
     let Some(name) = found.get_str("CAPTURE") else {
         return fail(rt, "why takes a capture", USAGE);
     };
