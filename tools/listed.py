@@ -17,6 +17,8 @@ COUNTER = "crates/flat_model/src/counter.rt"
 COUNTERS = "crates/flat_model/src/counters.rt"
 ERRNO = "crates/flat_model/src/errno.rt"
 CODES = "crates/libbsdudp/src/errors.rt"
+LINK_FAULTS = "crates/flat_ether/src/fault.rt"
+LINK_CODES = "crates/libbsdudp/src/ether.rt"
 MEANINGS = "crates/play_show/src/counters.rt"
 RULES = "crates/play_why/src/words.rt"
 OPTIONS = "crates/link_script/src/options.rt"
@@ -212,6 +214,16 @@ def calls_by_error() -> dict[str, list[str]]:
 
 
 # ---- settings ------------------------------------------------------------------------------------------------------
+
+
+def link_faults() -> list[str]:
+    """Returns the text of each fault in the settings of a host on an Ethernet, by its number in C from 1 on."""
+    texts = dict(pieces(LINK_FAULTS, r'LinkFault::(\w+) =>\s*(?:\{\s*)?"([^"]+)"'))
+    named = pieces(LINK_FAULTS, r"(?m)^    (\w+),$")
+    numbers = {variant: int(it) for variant, it in pieces(LINK_CODES, r"LinkFault::(\w+)\) => (\d+),")}
+    if set(named) != set(texts) or numbers != {variant: at for at, variant in enumerate(named, 1)}:
+        raise Stop(f"{LINK_CODES}: not the faults of {LINK_FAULTS}, in their order")
+    return [texts[variant] for variant in named]
 
 
 def values_of(field: str, most: str, params: dict[str, int]) -> str:

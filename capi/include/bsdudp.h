@@ -139,7 +139,7 @@ struct bsdudp_fate {
 /* The link of a host on an Ethernet: bsdudp_ether_boot_in. */
 struct bsdudp_link {
     uint8_t mac[6];   /* its hardware address, as in a frame; not 0, nor a group address, so mac[0] is even */
-    uint32_t mask;    /* the network mask, ones and then zeros: 0xffffff00 for 10.0.0.1/24 */
+    uint32_t mask;    /* the network mask, ones and then at least two zeros: 0xffffff00 for 10.0.0.1/24 */
     uint32_t gateway; /* the neighbour to which packets for other networks are sent; 0: such packets are dropped */
     uint8_t probe;    /* 0: the host uses its address at once; otherwise it probes for it first (RFC 5227) */
 };
@@ -361,10 +361,18 @@ int bsdudp_tick_until(struct bsdudp *stack, uint64_t now, uint64_t *due);
 
    Errors:
    -BSDUDP_ENXIO if the handle already holds a stack, which continues to run.
-   -BSDUDP_EINVAL if the MTU is above 1500; the hardware address is 0 or a group address; the mask is not ones followed
-   by zeros; the broadcast address is neither 0 nor the last address of the network of `link->mask`; or the gateway is
-   not a neighbour: it is not on that network, or it is this host's address or the broadcast address.
-   Then -BSDUDP_EDOM, -BSDUDP_EINVAL and -BSDUDP_ENOMEM, as bsdudp_boot_in returns them. */
+   -BSDUDP_EINVAL with the text that bsdudp_boot_strerror returns for the first of these settings that is wrong:
+     mtu must be 68 to 1500 on an Ethernet
+     mac must not be a group address: its first byte is odd
+     mac must not be 0
+     addr must be 1.0.0.0 to 223.255.255.255, and not in 127/8
+     mask must be ones followed by zeros, at most 30 ones
+     mask must have more ones: its network's last address is in 127/8 or above 223/8
+     addr must not be the first or last address of mask's network
+     bcast must be the last address of mask's network
+     gateway must be a neighbour: another host's address on mask's network
+   Then -BSDUDP_EDOM, -BSDUDP_EINVAL and -BSDUDP_ENOMEM, as bsdudp_boot_in returns them. A `bcast` of 0 stands for the
+   last address of the network. A mask of 31 ones (RFC 3021) is refused because its network has no broadcast address. */
 int bsdudp_ether_boot_in(struct bsdudp *stack, const struct bsdudp_config *config, const struct bsdudp_link *link,
                          void *memory, size_t len);
 

@@ -75,20 +75,21 @@ int bsdudp_ether_noproto(struct bsdudp *stack, uint64_t *value)
 
 /* ---- the settings of boot */
 
-enum fault {
-    NO_FAULT,
-    MBUFS,
-    CLUSTERS,
-    MTU,
-    ADDR,
-    BCAST,
-    SAME,
-    HOST_MTU,
-    GROUP,
-    NO_MAC,
-    MASK,
-    HOST_BCAST,
-    GATEWAY
+/* Of ether.c: the number of the first wrong setting of a host that bsdudp_ether_boot_in reports before those of its
+   stack, or 0. */
+int bsdudp_link_fault(const struct bsdudp_config *config, const struct bsdudp_link *link);
+
+static const char *const link_texts[] = {
+    NULL,
+    "mtu must be 68 to 1500 on an Ethernet",
+    "mac must not be a group address: its first byte is odd",
+    "mac must not be 0",
+    "addr must be 1.0.0.0 to 223.255.255.255, and not in 127/8",
+    "mask must be ones followed by zeros, at most 30 ones",
+    "mask must have more ones: its network's last address is in 127/8 or above 223/8",
+    "addr must not be the first or last address of mask's network",
+    "bcast must be the last address of mask's network",
+    "gateway must be a neighbour: another host's address on mask's network",
 };
 
 static int is_address(uint32_t ip)
@@ -96,70 +97,35 @@ static int is_address(uint32_t ip)
     return ip >> 24 >= 1 && ip >> 24 <= 223 && ip >> 24 != 127;
 }
 
-/* The fault of a host's settings that bsdudp_ether_boot_in reports before those of its stack. ether.c calls this. */
-int bsdudp_link_fault(const struct bsdudp_config *config, const struct bsdudp_link *link);
-int bsdudp_link_fault(const struct bsdudp_config *config, const struct bsdudp_link *link)
-{
-    const uint32_t bcast = config->addr | ~link->mask, gateway = link->gateway;
-    const uint8_t *mac = link->mac;
-    if (config->mtu > 1500)
-        return HOST_MTU;
-    if (mac[0] & 1)
-        return GROUP;
-    if ((mac[0] | mac[1] | mac[2] | mac[3] | mac[4] | mac[5]) == 0)
-        return NO_MAC;
-    if ((~link->mask & (~link->mask + 1)) != 0)
-        return MASK;
-    if (config->bcast != 0 && config->bcast != bcast)
-        return HOST_BCAST;
-    if (gateway != 0 && (((gateway ^ config->addr) & link->mask) != 0 || gateway == config->addr || gateway == bcast))
-        return GATEWAY;
-    return NO_FAULT;
-}
-
-static int fault_of(const struct bsdudp_config *config, uint32_t bcast)
+/* What is wrong with the settings of a stack, or with the memory if they are right. */
+static const char *stack_text(const struct bsdudp_config *config, uint32_t bcast)
 {
     if (config->mbufs < 1 || config->mbufs > 65535)
-        return MBUFS;
+        return "mbufs must be 1 to 65535";
     if (config->clusters > 4096)
-        return CLUSTERS;
+        return "clusters must be at most 4096";
     if (config->mtu < 68 || config->mtu > BSDUDP_TX_ROOM)
-        return MTU;
+        return "mtu must be 68 to 4352";
     if (!is_address(config->addr))
-        return ADDR;
+        return "addr must be 1.0.0.0 to 223.255.255.255, and not in 127/8";
     if (!is_address(bcast))
-        return BCAST;
-    return config->addr == bcast ? SAME : NO_FAULT;
+        return "bcast must be 1.0.0.0 to 223.255.255.255, and not in 127/8";
+    if (config->addr == bcast)
+        return "bcast must differ from addr";
+    return "memory must be aligned to BSDUDP_ALIGNMENT bytes";
 }
 
 const char *bsdudp_boot_strerror(int result, const struct bsdudp_config *config, const struct bsdudp_link *link)
 {
-    static const char *const texts[] = {
-        "memory must be aligned to BSDUDP_ALIGNMENT bytes",
-        "mbufs must be 1 to 65535",
-        "clusters must be at most 4096",
-        "mtu must be 68 to 4352",
-        "addr must be 1.0.0.0 to 223.255.255.255, and not in 127/8",
-        "bcast must be 1.0.0.0 to 223.255.255.255, and not in 127/8",
-        "bcast must differ from addr",
-        "mtu must be at most 1500 on an Ethernet",
-        "mac must not be a group address: its first byte is odd",
-        "mac must not be 0",
-        "mask must be ones followed by zeros",
-        "bcast must be 0 or the last address of mask's network",
-        "gateway must be a neighbour: on mask's network, and neither addr nor bcast",
-    };
-    uint32_t bcast = config->bcast;
-    int fault = NO_FAULT;
+    int fault;
     if (result == -BSDUDP_ENXIO)
         return "the handle already holds a stack: end it first";
     if (result == -BSDUDP_ENOMEM)
         return "len is too small for mbufs and clusters, or malloc failed";
     if (result != -BSDUDP_EINVAL && result != -BSDUDP_EDOM)
         return bsdudp_strerror(result);
-    if (link != NULL) {
-        fault = bsdudp_link_fault(config, link);
-        bcast = config->addr | ~link->mask;
-    }
-    return texts[fault != NO_FAULT ? fault : fault_of(config, bcast)];
+    if (link == NULL)
+        return stack_text(config, config->bcast);
+    fault = bsdudp_link_fault(config, link);
+    return fault != 0 ? link_texts[fault] : stack_text(config, config->addr | ~link->mask);
 }

@@ -2,10 +2,9 @@
    its own. */
 #include "bsdudp.h"
 
-/* Of memory.c: the memory that boot may use, and the end of boot. Of composed.c: a wrong setting. */
+/* Of memory.c: the memory that boot may use, and the end of boot. */
 void bsdudp_lend(void *memory, size_t len);
 int bsdudp_lent(const void *memory, int answer);
-int bsdudp_link_fault(const struct bsdudp_config *config, const struct bsdudp_link *link);
 
 /* The core's exports, and its structs: a hardware address is two numbers, of its first two bytes and of its last
    four. */
@@ -26,6 +25,7 @@ struct core_tallies {
 int bsdudp_core_boot(struct bsdudp_core *, const struct bsdudp_config *);
 int bsdudp_core_end(struct bsdudp_core *);
 int bsdudp_core_output_len(struct bsdudp_core *);
+int bsdudp_core_ether_fault(const struct bsdudp_config *, const struct core_link *);
 int bsdudp_core_ether_boot(struct bsdudp_core *link, const struct bsdudp_config *, const struct core_link *);
 int bsdudp_core_ether_end(struct bsdudp_core *link);
 int bsdudp_core_ether_tick(struct bsdudp_core *, struct bsdudp_core *link);
@@ -41,22 +41,42 @@ int bsdudp_core_ether_neighbour(struct bsdudp_core *link, uint32_t, struct core_
 static int tick_link(struct bsdudp *stack) { return bsdudp_core_ether_tick(&stack->core, &stack->link); }
 static int end_link(struct bsdudp *stack) { return bsdudp_core_ether_end(&stack->link); }
 
+/* The settings as the core has them: as broadcast address, 0 stands for the last address of the network. */
+static struct bsdudp_config core_config(const struct bsdudp_config *of, const struct bsdudp_link *link)
+{
+    struct bsdudp_config config = *of;
+    if (config.bcast == 0)
+        config.bcast = config.addr | ~link->mask;
+    return config;
+}
+
+static struct core_link core_link(const struct bsdudp_link *of)
+{
+    const uint8_t *mac = of->mac;
+    const struct core_link link = {(uint16_t)(mac[0] << 8 | mac[1]), BSDUDP_IP(mac[2], mac[3], mac[4], mac[5]),
+                                   of->mask, of->gateway, of->probe};
+    return link;
+}
+
+/* The number of the first wrong setting of a host, or 0. composed.c calls this. */
+int bsdudp_link_fault(const struct bsdudp_config *config, const struct bsdudp_link *link);
+int bsdudp_link_fault(const struct bsdudp_config *config, const struct bsdudp_link *link)
+{
+    const struct bsdudp_config told_config = core_config(config, link);
+    const struct core_link told = core_link(link);
+    return bsdudp_core_ether_fault(&told_config, &told);
+}
+
 /* An error in the link comes before the errors of the stack: the first call has no memory, so a valid link gives
    ENOMEM. */
 int bsdudp_ether_boot_in(struct bsdudp *stack, const struct bsdudp_config *given, const struct bsdudp_link *link,
                          void *memory, size_t len)
 {
-    struct bsdudp_config told_config = *given;
-    const struct bsdudp_config *config = &told_config;
-    const uint8_t *mac = link->mac;
-    const struct core_link told = {(uint16_t)(mac[0] << 8 | mac[1]), BSDUDP_IP(mac[2], mac[3], mac[4], mac[5]),
-                                   link->mask, link->gateway, link->probe};
+    const struct bsdudp_config told_config = core_config(given, link), *config = &told_config;
+    const struct core_link told = core_link(link);
     int answer;
     if (bsdudp_core_output_len(&stack->core) >= 0)
         return -BSDUDP_ENXIO;
-    if (bsdudp_link_fault(given, link) != 0)
-        return -BSDUDP_EINVAL;
-    told_config.bcast = given->addr | ~link->mask;
     answer = bsdudp_core_ether_boot(&stack->link, config, &told);
     if (answer != -BSDUDP_ENOMEM)
         return answer;

@@ -214,18 +214,21 @@ struct wrong {
 static int texts(void)
 {
     static const struct wrong wrong[] = {
-        {2, 1, 0xffffff00, 0, 0x0a0000ff, 1501, "mtu must be at most 1500"},
+        {2, 1, 0xffffff00, 0, 0x0a0000ff, 1501, "mtu must be 68 to 1500 on an Ethernet"},
         {3, 1, 0xffffff00, 0, 0x0a0000ff, 1500, "mac must not be a group"},
         {0, 0, 0xffffff00, 0, 0x0a0000ff, 1500, "mac must not be 0"},
         {2, 1, 0xff00ff00, 0, 0x0a0000ff, 1500, "mask must be ones"},
         {2, 1, 0x00ffffff, 0, 0x0a0000ff, 1500, "mask must be ones"},
-        {2, 1, 0xffff0000, 0, 0x0a0000ff, 1500, "bcast must be 0 or the last"},
-        {2, 1, 0xffffff00, 0, 0x0a00ffff, 1500, "bcast must be 0 or the last"},
+        {2, 1, 0xffff0000, 0, 0x0a0000ff, 1500, "bcast must be the last"},
+        {2, 1, 0xffffff00, 0, 0x0a00ffff, 1500, "bcast must be the last"},
         {2, 1, 0xffffff00, 0x0a000102, 0x0a0000ff, 1500, "gateway must be a neighbour"},
         {2, 1, 0xffffff00, 0x0a0000ff, 0, 1500, "gateway must be a neighbour"},
-        {2, 1, 0xffffff00, 0, 0, 67, "mtu must be 68"},
-        {2, 1, 0xffffffff, 0, 0, 1500, "bcast must differ from addr"},
-        {2, 1, 0, 0, 0, 1500, "bcast must be 1.0.0.0"},
+        {2, 1, 0xffffff00, 0x0a000000, 0, 1500, "gateway must be a neighbour"},
+        {2, 1, 0xffffff00, 0, 0, 67, "mtu must be 68 to 1500 on an Ethernet"},
+        {2, 1, 0xffffffff, 0, 0, 1500, "mask must be ones"},
+        {2, 1, 0xfffffffe, 0, 0, 1500, "mask must be ones"},
+        {2, 1, 0, 0, 0, 1500, "mask must have more ones"},
+        {2, 1, 0x80000000, 0, 0, 1500, "mask must have more ones"},
     };
     static const uint32_t masks[] = {0xffff0000, 0xffffff00, 0xfffffffc};
     const size_t len = sizeof memory - 2 * GUARD;

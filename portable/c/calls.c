@@ -136,21 +136,46 @@ int bsdudp_boot_in(struct bsdudp *stack, const struct bsdudp_config *config, voi
 
 #define LINK (MEMORY + ARENA_HEAD)
 
-/* Boots the link in the memory of a booted stack, or returns the error. Without a stack nothing is booted. */
-static int boot_link(const struct bsdudp *stack, const struct bsdudp_config *config, const struct bsdudp_link *link)
+/* The settings of a host as the core has them: as broadcast address, 0 stands for the last address of the network. */
+static struct bsdudp_config core_config(const struct bsdudp_config *of, const struct bsdudp_link *link)
 {
-    enum { CONFIG = 20 };
-    u8 head[HOST_HEAD];
-    struct bsdudp none = *stack;
-    if (stack->core.at == 0)
-        make_arena(&none, head, sizeof head, HOST_HEAD);
-    BEGIN_WITH(ether_boot, &none, LONG_ARGUMENT);
-    put_config(plain, config);
+    struct bsdudp_config config = *of;
+    if (config.bcast == 0)
+        config.bcast = config.addr | ~link->mask;
+    return config;
+}
+
+enum { CONFIG = 20 }; /* the bytes of a configuration; the link follows */
+
+static void put_settings(u8 *plain, const struct bsdudp_config *given, const struct bsdudp_link *link)
+{
+    const struct bsdudp_config config = core_config(given, link);
+    put_config(plain, &config);
     put_u16(plain + CONFIG, (u16)(link->mac[0] << 8 | link->mac[1]));
     put_u32(plain + CONFIG + 4, BSDUDP_IP(link->mac[2], link->mac[3], link->mac[4], link->mac[5]));
     put_u32(plain + CONFIG + 8, link->mask);
     put_u32(plain + CONFIG + 12, link->gateway);
     plain[CONFIG + 16] = link->probe;
+}
+
+/* The number of the first wrong setting of a host, or 0. composed.c, which follows, calls this. */
+static int bsdudp_link_fault(const struct bsdudp_config *config, const struct bsdudp_link *link)
+{
+    const struct bsdudp none = BSDUDP_NONE;
+    BEGIN_WITH(ether_fault, &none, LONG_ARGUMENT);
+    put_settings(plain, config, link);
+    return answer_of(core_ether_fault(&it, argument, argument + CONFIG));
+}
+
+/* Boots the link in the memory of a booted stack, or returns the error. Without a stack nothing is booted. */
+static int boot_link(const struct bsdudp *stack, const struct bsdudp_config *config, const struct bsdudp_link *link)
+{
+    u8 head[HOST_HEAD];
+    struct bsdudp none = *stack;
+    if (stack->core.at == 0)
+        make_arena(&none, head, sizeof head, HOST_HEAD);
+    BEGIN_WITH(ether_boot, &none, LONG_ARGUMENT);
+    put_settings(plain, config, link);
     return answer_of(core_ether_boot(&it, LINK, argument, argument + CONFIG));
 }
 
@@ -166,21 +191,14 @@ static int end_link(struct bsdudp *stack)
     return answer_of(core_ether_end(&it, LINK));
 }
 
-/* Of composed.c, which follows. */
-static int bsdudp_link_fault(const struct bsdudp_config *config, const struct bsdudp_link *link);
-
 static int boot_host_at(struct bsdudp *stack, const struct bsdudp_config *given, const struct bsdudp_link *link,
                         u8 *memory, size_t len)
 {
     const struct bsdudp none = BSDUDP_NONE;
-    struct bsdudp_config told = *given;
-    const struct bsdudp_config *config = &told;
+    const struct bsdudp_config told = core_config(given, link), *config = &told;
     int answer;
     if (stack->core.at != 0)
         return -BSDUDP_ENXIO;
-    if (bsdudp_link_fault(given, link) != 0)
-        return -BSDUDP_EINVAL;
-    told.bcast = given->addr | ~link->mask;
     answer = boot_link(stack, config, link); /* a valid one fails without memory */
     if (answer != -BSDUDP_ENOMEM)
         return answer;

@@ -2,7 +2,7 @@
 from __future__ import annotations
 
 import ctypes
-from typing import Iterator, List, NamedTuple, NoReturn, Optional, SupportsIndex, Union
+from typing import Iterator, List, NamedTuple, NoReturn, Optional, SupportsIndex, Tuple, Union
 
 from . import _addresses
 from ._addresses import in_range, number_of, text_of
@@ -13,6 +13,8 @@ from ._library import ETHER_ROOM, LIBRARY, NEIGHBOURS, Link, NeighbourOfC, Talli
 from ._packet import AnyPacket
 from ._socket import Socket
 from ._stack import Stack
+
+WRONG_SETTING = -22
 
 
 class Tallies(NamedTuple):
@@ -81,9 +83,9 @@ class Host(Stack):
     datagrams (RFC 792).
 
     mac      its hardware address, such as "02:00:00:00:00:01" or six bytes; not a group address
-    mask     the network mask; the default is "255.255.255.0"
+    mask     the network mask, of at most 30 ones; the default is "255.255.255.0"
     gateway  the neighbour to which packets for other networks are sent; None: such packets are dropped and counted
-    bcast    the broadcast address of its network; None means the last address of the network of `mask`
+    bcast    the last address of its network; None stands for that
     probe    whether it first probes for its address (RFC 5227), which takes 5.0 to 5.5 seconds of ticks
     addr, mbufs, clusters and first_id are those of a `Stack`. The MTU is 68 to 1500.
 
@@ -110,34 +112,31 @@ class Host(Stack):
         probe: bool = False,
     ) -> None:
         hardware, self._mask = mac_bytes(mac), number_of(mask)
-        if hardware[0] & 1:
-            raise ValueError(f"mac must be the hardware address of one card: {mac_text(hardware)} is a group address")
-        if not any(hardware):
-            raise ValueError("mac must not be 0")
-        hosts = ~self._mask & 0xFFFFFFFF
-        if hosts & (hosts + 1):
-            raise ValueError(f"mask must be ones followed by zeros, not {text_of(self._mask)}")
         in_range("mtu", mtu, 68, 1500)
         to = 0 if gateway is None else number_of(gateway)
+        if gateway is not None and to == 0:
+            raise ValueError("gateway must be a neighbour, not 0.0.0.0; None stands for no gateway")
         self._link = Link((ctypes.c_uint8 * 6)(*hardware), self._mask, to, bool(probe))
         self._has_gateway = gateway is not None
-        last = number_of(addr) | hosts
-        super().__init__(addr, text_of(last) if bcast is None else bcast, mtu, mbufs, clusters, first_id)
+        super().__init__(addr, bcast, mtu, mbufs, clusters, first_id)
+
+    def _addresses(self, addr: _addresses.Host, bcast: Optional[_addresses.Host]) -> Tuple[int, int]:
+        """Returns the numbers of the two addresses. Boot checks them, with the mask."""
+        own = number_of(addr)
+        return own, own | ~self._mask & 0xFFFFFFFF if bcast is None else number_of(bcast)
 
     def _memory_size(self) -> int:
         return LIBRARY.ether_memory(self._config)
 
     def _boot_in(self, at: int, size: int) -> int:
-        own, to = self._config.addr, self._link.gateway
-        if self._has_gateway and ((to ^ own) & self._mask or to in (0, own, self._config.bcast)):
-            raise ValueError(f"gateway must be a neighbour, on the network of {text_of(own)}, not {text_of(to)}")
-        last = own | ~self._mask & 0xFFFFFFFF
-        if self._config.bcast != last:
-            why = f"bcast must be {text_of(last)}, the last address of mask's network"
-            raise ValueError(f"{why}, not {text_of(self._config.bcast)}")
         config, link = ctypes.byref(self._config), ctypes.byref(self._link)
         self._frame_room = ctypes.create_string_buffer(ETHER_ROOM)
-        return LIBRARY.call("ether_boot_in", self._handle, config, link, at, size)
+        answer = LIBRARY.call("ether_boot_in", self._handle, config, link, at, size)
+        if answer == WRONG_SETTING:
+            text = LIBRARY.boot_text(answer, self._config, self._link)
+            setting = text.partition(" ")[0]
+            raise ValueError(f"{text} ({setting} is {getattr(self, setting)})")
+        return answer
 
     def _copy_to(self, twin: Stack) -> None:
         assert isinstance(twin, Host)

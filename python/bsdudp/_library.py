@@ -292,6 +292,10 @@ class Library:
         """Returns the meaning of a result."""
         return self._text("strerror", ctypes.c_int(answer)) or ""
 
+    def boot_text(self, answer: int, config: Config, link: Link) -> str:
+        """Returns why a host with these settings did not boot, with the name of the wrong setting."""
+        return self._text("boot_strerror", ctypes.c_int(answer), ctypes.byref(config), ctypes.byref(link)) or ""
+
     def call(self, name: str, handle: Handle, *arguments: object) -> int:
         """Makes the call `bsdudp_NAME` with a handle, and returns its result."""
         return int(self._calls[name](ctypes.byref(handle), *arguments))

@@ -80,10 +80,7 @@ class Stack(Uncopied):
         self._sockets: Dict[int, Socket] = {}
         self._wires: List[Tuple["weakref.ref[Wire]", int]] = []  # each with its place there
         self._notes: Optional[Notes] = None
-        address = _interface("addr", addr)
-        broadcast = address | 0xFF if bcast is None else _interface("bcast", bcast)
-        if broadcast == address:
-            raise ValueError(f"bcast must differ from addr, {text_of(address)}")
+        address, broadcast = self._addresses(addr, bcast)
         self._config = Config(
             address,
             broadcast,
@@ -93,6 +90,14 @@ class Stack(Uncopied):
             in_range("first_id", first_id, 0, 65_535),
         )
         self._boot()
+
+    def _addresses(self, addr: Host, bcast: Optional[Host]) -> Tuple[int, int]:
+        """Returns the numbers of the two addresses. ValueError if no stack can have them."""
+        address = _interface("addr", addr)
+        broadcast = address | 0xFF if bcast is None else _interface("bcast", bcast)
+        if broadcast == address:
+            raise ValueError(f"bcast must differ from addr, {text_of(address)}")
+        return address, broadcast
 
     def _boot(self) -> None:
         self._place = Place(self._memory_size())

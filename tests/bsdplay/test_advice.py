@@ -209,18 +209,28 @@ def test_64_hosts_can_join(bsdplay):
 # ---- hosts on an Ethernet ------------------------------------------------------------------------------------------
 
 LINK = "host a ether --addr 10.0.0.1"
+MASK = "mask must be ones followed by zeros, at most 30 ones"
+GATEWAY = "gateway must be a neighbour: another host's address on mask's network"
 # The lines of one script, and the error or the reply for each.
 ETHER = {
     LINK: "ok",
     "host b ether mac 02:00:00:00:00:01 --addr 10.0.0.2": "another host has this hardware address",
-    "host b ether mac 03:00:00:00:00:02": "`mac` must be a host's hardware address, such as 02:00:00:00:00:01",
+    "host b ether mac 03:00:00:00:00:02": "mac must not be a group address: its first byte is odd",
+    "host b ether mac 00:00:00:00:00:00": "mac must not be 0",
     "host b ether mac 2:0:0:0:0:2": "`mac` must be a host's hardware address, such as 02:00:00:00:00:01",
     "host b ether mac": "`mac` must be a host's hardware address, such as 02:00:00:00:00:01",
-    "host b ether mask 255.0.255.0": "`mask` must be ones, then zeros, such as 255.255.255.0",
-    "host b ether gateway 10.0.1.1": "`gateway` must be another address of the host's network, by its mask",
-    "host b ether gateway x": "`gateway` must be another address of the host's network, by its mask",
+    "host b ether mask 24": "`mask` must be ones, then zeros, such as 255.255.255.0",
+    "host b ether mask 255.0.255.0": MASK,
+    "host b ether mask 255.255.255.254": MASK,
+    "host b ether mask 0.0.0.0": "mask must have more ones: its network's last address is in 127/8 or above 223/8",
+    "host b ether mask 255.255.0.0 --addr 10.0.0.0": "addr must not be the first or last address of mask's network",
+    "host b ether --addr 127.0.0.1": "addr must be 1.0.0.0 to 223.255.255.255, and not in 127/8",
+    "host b ether --addr 10.0.0.2 --bcast 10.0.0.127": "bcast must be the last address of mask's network",
+    "host b ether gateway 10.0.1.1": GATEWAY,
+    "host b ether gateway 10.0.0.0 --addr 10.0.0.2": GATEWAY,
+    "host b ether gateway x": "`gateway` must be an address, such as 10.0.0.254",
     "host b ether lladdr x": "expected `mac M`, `mask M`, `gateway A` or `probe`, then settings",
-    "host b ether --mtu 1501": "--mtu must be at most 1500 on an Ethernet",
+    "host b ether --mtu 1501": "mtu must be 68 to 1500 on an Ethernet",
     "host b --addr 10.0.0.2": "all hosts must be on an Ethernet, or none",
     "host b ether gateway 10.1.1.1 probe mask 255.0.0.0 --addr 10.0.0.2": "ok",
     "wire a b": "ok",

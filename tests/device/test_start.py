@@ -33,12 +33,12 @@ ROWS = {
     "no card": ("0", "4", "0", "sizeof memory", RUN, "no card\n"),
     "gateway": (
         "0", "2", "BSDUDP_IP(10, 0, 1, 2)", "sizeof memory", RUN,
-        "no host: gateway must be a neighbour: on mask's network, and neither addr nor bcast\n",
+        "no host: gateway must be a neighbour: another host's address on mask's network\n",
     ),
     "memory": ("0", "2", "0", "1000", RUN, "no host: len is too small for mbufs and clusters, or malloc failed\n"),
     "broadcast": (
         "BSDUDP_IP(10, 0, 1, 255)", "2", "0", "sizeof memory", RUN,
-        "no host: bcast must be 0 or the last address of mask's network\n",
+        "no host: bcast must be the last address of mask's network\n",
     ),
 }  # fmt: skip
 

@@ -164,6 +164,36 @@ impl MacSeen {
     }
 }
 
+/// Returns the mask of a network of the host that has this broadcast address as its last one, or any if none is given:
+/// the smallest from 256 addresses on, otherwise one that is smaller. `None` if there is none.
+pub(crate) fn mask_for(ours: u32, broadcast: Option<u32>) -> Option<u32> {
+    for step in 0..30u32 {
+        let bits = if step < 24 { step + 8 } else { step - 22 };
+        let hosts = (1u32 << bits) - 1;
+        let last = ours | hosts;
+        if ours & hosts != 0 && ours != last && broadcast.unwrap_or(last) == last {
+            return Some(!hosts);
+        }
+    }
+    None
+}
+
+/// Returns a link on the host's network. Another host there is the gateway, so each address has a route.
+fn link_for(ours: u32, broadcast: u32, mac: Mac) -> Link {
+    let mask = mask_for(ours, Some(broadcast)).unwrap_or(0xffff_ff00);
+    let second = (ours & mask).wrapping_add(1);
+    Link {
+        mac,
+        mask,
+        gateway: Some(if second == ours {
+            second.wrapping_add(1)
+        } else {
+            second
+        }),
+        probe: false,
+    }
+}
+
 /// A host on an Ethernet. It must be consumed by `end`.
 pub(crate) struct EtherEnd {
     host: EtherHost,
@@ -173,7 +203,7 @@ pub(crate) struct EtherEnd {
 }
 
 impl EtherEnd {
-    /// A host with this address and this hardware address, to which each other address is a neighbour's.
+    /// A host with this address and this hardware address.
     pub(crate) fn boot(
         alloc: Global,
         ours: u32,
@@ -188,14 +218,8 @@ impl EtherEnd {
             clusters: 64,
             first_id: 1,
         };
-        let link = Link {
-            mac,
-            mask: 0,
-            gateway: None,
-            probe: false,
-        };
         Ok(EtherEnd {
-            host: EtherHost::boot(alloc, config, link)?,
+            host: EtherHost::boot(alloc, config, link_for(ours, broadcast, mac))?,
             ours,
             mac,
             ticks: 0,

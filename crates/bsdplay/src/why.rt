@@ -1,5 +1,5 @@
 //! Why the packets of a capture were dropped: the subcommand, its options, and the capture that it opens.
-use crate::ether::{EtherEnd, mac_of};
+use crate::ether::{EtherEnd, mac_of, mask_for};
 use crate::first_reading::{Ahead, find_mac, find_refusals, find_vlans, read_ahead};
 use crate::from_pcap::{BAD, records_in, report, report_fault};
 use crate::link_names::name_of;
@@ -307,19 +307,32 @@ fn play_all<S: Source>(
 
 /// Returns the broadcast address of the host's network.
 fn broadcast_for(choice: Choice, ours: u32) -> u32 {
-    match choice.broadcast {
-        Some(broadcast) => broadcast,
-        None => broadcast_of(ours),
+    if let Some(broadcast) = choice.broadcast {
+        return broadcast;
+    }
+    match mask_for(ours, None) {
+        Some(mask) if choice.ether => ours | !mask,
+        _ => broadcast_of(ours),
     }
 }
 
-/// Prints why a host on an Ethernet didn't boot, and returns the status.
-fn print_link_fault(rt: &HostRuntime, name: &str, ours: u32, fault: EtherFault) -> io::Result<u8> {
-    if let EtherFault::Unbooted(BootFault::Memory) = fault {
-        return print_end(rt, name, End::Memory);
-    }
-    let ours = Ipv4Addr::from_bits(ours);
-    eprintln!(rt; "bsdplay: {ours}: {fault}: no host on an Ethernet has this address")?;
+/// Prints why no host on an Ethernet with these addresses booted, and returns the status.
+fn print_link_fault(
+    rt: &HostRuntime,
+    name: &str,
+    ours: u32,
+    broadcast: u32,
+    fault: EtherFault,
+) -> io::Result<u8> {
+    let text = match fault {
+        EtherFault::Unbooted(BootFault::Memory) => return print_end(rt, name, End::Memory),
+        EtherFault::BadLink(fault) => fault.text(),
+        EtherFault::Unbooted(_) => "bad config",
+    };
+    let (ours, broadcast) = (Ipv4Addr::from_bits(ours), Ipv4Addr::from_bits(broadcast));
+    eprintln!(rt;
+        "bsdplay: {ours}: no host on an Ethernet with the broadcast {broadcast}: {text}"
+    )?;
     Ok(USAGE)
 }
 
@@ -339,14 +352,15 @@ fn boot_machine(
     let Some(mac) = mac else {
         return Ok(Ok(Machine { judge, link: None }));
     };
-    match EtherEnd::boot(rt.alloc(), ours, broadcast_for(choice, ours), mac) {
+    let broadcast = broadcast_for(choice, ours);
+    match EtherEnd::boot(rt.alloc(), ours, broadcast, mac) {
         Ok(link) => Ok(Ok(Machine {
             judge,
             link: Some(link),
         })),
         Err(fault) => {
             judge.end();
-            Ok(Err(print_link_fault(rt, name, ours, fault)?))
+            Ok(Err(print_link_fault(rt, name, ours, broadcast, fault)?))
         }
     }
 }

@@ -8,7 +8,7 @@ use Rattle.flat_model.specs.declared.fate.Fate.{Fate}
 use Rattle.flat_ether.specs.Frames.{body_of, kind_of}
 use Rattle.flat_ether.specs.Hosts.{Host}
 use Rattle.flat_ether.specs.Links.{LinkState, WaitingPacket}
-use Rattle.flat_ether.specs.Routes.{is_link}
+use Rattle.flat_ether.specs.Settings.{link_fault}
 use Rattle.flat_ether.specs.declared.link.FrameKind.{FrameKind}
 use Rattle.flat_ether.specs.declared.link.FrameKind.TheVariants.{Packet}
 use Rattle.flat_ether.specs.declared.link.Link.{Link}
@@ -58,5 +58,5 @@ held_for hop link = count_by (waits_for hop) link.held
 
 -- why there is no host: the link is tested first
 abbrev pub IsHostUnbooted : Config → Link → EtherFault → Type 0
-IsHostUnbooted c l BadLink = is_link c l ≡ false
-IsHostUnbooted c l (Unbooted fault) = (is_link c l ≡ true) × boots.IsUnbooted c fault
+IsHostUnbooted c l (BadLink fault) = link_fault c l ≡ Some fault
+IsHostUnbooted c l (Unbooted fault) = (link_fault c l ≡ None) × boots.IsUnbooted c fault

@@ -10,7 +10,7 @@ ghost use Rattle.ether_host.specs.Fronts.{buffer_front};
 ghost use Rattle.ether_host.specs.View.{IsHostUnbooted, LendsStack, held_for, host_of, host_view};
 
 use crate::layer::LinkLayer;
-use flat_ether::{AddressState, Link, Neighbour, NetFault, Tallies};
+use flat_ether::{AddressState, Link, LinkFault, Neighbour, NetFault, Tallies};
 use flat_model::{Config, Errno};
 use mbuf_chain::Pool;
 use net_stack::{BootFault, Stack};
@@ -20,9 +20,9 @@ use thiserror::Error;
 /// Why a host didn't boot.
 #[derive(Clone, Copy, Debug, PartialEq, Eq, Error)]
 pub enum EtherFault {
-    /// The MTU is above 1,500, the hardware address is that of a group, or the gateway isn't a neighbour.
+    /// A setting is wrong, for this reason.
     #[error("bad link")]
-    BadLink,
+    BadLink(LinkFault),
     /// Its stack didn't boot.
     #[error(transparent)]
     Unbooted(BootFault),
@@ -40,13 +40,13 @@ impl EtherHost {
     ///
     /// # Errors
     ///
-    /// `BadLink`; otherwise `Unbooted`, if there is no stack with this configuration, or the host memory can't be
-    /// allocated.
+    /// `BadLink` with the first wrong setting, as `Link::fault` returns it; otherwise `Unbooted`, if there is no stack
+    /// with this configuration, or the host memory can't be allocated.
     pub fn boot(alloc: Global, config: Config, link: Link) -> Result<EtherHost, EtherFault>
         ensures { MatchResult result (λ h. host_of (host_view h) ≡ host_up config link) (IsHostUnbooted config link) }
     {
-        if !link.check(&config) {
-            return Err(EtherFault::BadLink);
+        if let Some(fault) = link.fault(&config) {
+            return Err(EtherFault::BadLink(fault));
         }
         let stack = match Stack::boot(alloc, config) {
             Ok(stack) => stack,

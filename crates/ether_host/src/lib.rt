@@ -20,6 +20,6 @@ mod share;
 mod table;
 mod tick;
 
-pub use flat_ether::{AddressState, Link, Mac, Neighbour, NetFault, Tallies};
+pub use flat_ether::{AddressState, Link, LinkFault, Mac, Neighbour, NetFault, Tallies};
 pub use host::{EtherFault, EtherHost};
 pub use layer::LinkLayer;

@@ -1,5 +1,6 @@
 pub mod Frames
 pub mod Routes
+pub mod Settings
 pub mod Claims
 pub mod Icmp
 pub mod Errors

@@ -1,11 +1,10 @@
 -- The route of a packet on the link (RFC 1122, section 3.3.1).
-use Rattle.std.specs.Prelude.{ℕ, ◌/◌, ◌%◌, nat_le, Bool, true, ◌==◌, ◌&&◌, not, if◌then◌else◌, bit_and, Option, Some, None}
+use Rattle.std.specs.Prelude.{ℕ, Bool, ◌==◌, ◌&&◌, not, if◌then◌else◌, bit_and, Option, Some, None}
 use Rattle.flat_model.specs.Machine.Arrival.{is_broadcast}
 use Rattle.flat_model.specs.declared.config.Config.{Config}
 use Rattle.flat_ether.specs.declared.link.Link.{Link}
 use Rattle.flat_ether.specs.declared.link.Route.{Route}
 use Rattle.flat_ether.specs.declared.link.Route.TheVariants.{All, Hop, NoRoute}
-use Rattle.flat_ether.specs.declared.sizes.TheConstants.{ETHER_MTU}
 
 -- it has the bits of this host's address under the mask
 abbrev pub is_near : Config → Link → ℕ → Bool
@@ -14,14 +13,6 @@ is_near c l ip = bit_and ip l.mask == bit_and c.addr l.mask
 -- it may be that of another host on the link
 abbrev pub is_neighbour : Config → Link → ℕ → Bool
 is_neighbour c l ip = is_near c l ip && (not (ip == 0) && (not (ip == c.addr) && not (ip == c.bcast)))
-
-abbrev pub has_gateway : Config → Link → Option ℕ → Bool
-has_gateway c l None = true
-has_gateway c l (Some gateway) = is_neighbour c l gateway
-
--- a link that boot accepts: its hardware address isn't a group's, and its gateway is a neighbour
-abbrev pub is_link : Config → Link → Bool
-is_link c l = (l.mac.high / 256 % 2 == 0) && (nat_le c.mtu ETHER_MTU && has_gateway c l l.gateway)
 
 abbrev pub by_gateway : Option ℕ → Route
 by_gateway None = NoRoute

@@ -6,6 +6,7 @@ mod answer;
 mod arp;
 mod claim;
 mod error;
+mod fault;
 mod laws;
 mod link;
 mod mac;
@@ -17,6 +18,7 @@ pub use answer::Answer;
 pub use arp::Arp;
 pub use claim::{AddressState, Claim, ClaimFrame};
 pub use error::{NetFault, SocketError};
+pub use fault::LinkFault;
 pub use laws::{
     any_hosts_on_an_ethernet, frames_go_to_hosts, hosts_keep_to_the_mtu, hosts_make_turns,
     hosts_on_an_ethernet, hosts_on_an_ethernet_for_ever, hosts_send_as_themselves,

@@ -5,11 +5,13 @@ use Rattle.params.specs.declared.TheConstants.{IP_MAX_PACKET}
 use Rattle.flat_ether.specs.Claims.{address_state}
 use Rattle.flat_ether.specs.Hosts.{TakesFrame, Ticks, gives, last_error}
 use Rattle.flat_ether.specs.Links.{LinkState, link_up}
-use Rattle.flat_ether.specs.Routes.{is_link}
+use Rattle.flat_ether.specs.Settings.{link_fault}
 use Rattle.flat_ether.specs.declared.claim.AddressState.{AddressState}
 use Rattle.flat_ether.specs.declared.claim.AddressState.TheVariants.{Probing, Conflict, InUse}
 use Rattle.flat_ether.specs.declared.error.NetFault.{NetFault}
 use Rattle.flat_ether.specs.declared.error.NetFault.TheVariants.{Refused, Unreachable}
+use Rattle.flat_ether.specs.declared.fault.LinkFault.{LinkFault}
+use Rattle.flat_ether.specs.declared.fault.LinkFault.TheVariants.{Mtu, GroupMac, NoMac, Addr, Mask, WideMask, HostNumber, Bcast, Gateway}
 use Rattle.flat_ether.specs.declared.neighbour.Neighbour.{Neighbour}
 use Rattle.flat_ether.specs.declared.sizes.TheConstants.{ETHER_HEADER, ETHER_MTU}
 use Rattle.flat_model.specs.declared.errno.Errno.{Errno}
@@ -138,6 +140,22 @@ pub record ReportsNeighbour (i : ℕ) (answer : ℤ) (old new : CNeighbour) (l :
 
 -- ---- booting and ending a link
 
+-- 0, or the place of a wrong setting's fault
+abbrev pub setting_code : Option LinkFault → ℤ
+setting_code None = pos 0
+setting_code (Some Mtu) = pos 1
+setting_code (Some GroupMac) = pos 2
+setting_code (Some NoMac) = pos 3
+setting_code (Some Addr) = pos 4
+setting_code (Some Mask) = pos 5
+setting_code (Some WideMask) = pos 6
+setting_code (Some HostNumber) = pos 7
+setting_code (Some Bcast) = pos 8
+setting_code (Some Gateway) = pos 9
+
+pub record NamesFault (config : CConfig) (link : CLink) (answer : ℤ) : Type 0 where
+  pub is : answer ≡ setting_code (link_fault (config_of config) (plain_link link))
+
 -- 0, or -ENOMEM
 abbrev pub link_boot_code : Option LinkState → ℤ
 link_boot_code (Some l) = pos 0
@@ -149,8 +167,9 @@ pub record IsLinkUp (config : CConfig) (link : CLink) (answer : ℤ) (after : Op
   pub up : IfSome after (λ l. l ≡ link_up (config_of config) (plain_link link))
 
 pub record HasLinkBooted (config : CConfig) (link : CLink) (answer : ℤ) (after : Option LinkState) : Type 0 where
-  pub bad : is_link (config_of config) (plain_link link) ≡ false → (answer ≡ invalid) × (after ≡ None)
-  pub good : is_link (config_of config) (plain_link link) ≡ true → IsLinkUp config link answer after
+  pub bad : (fault : LinkFault) → link_fault (config_of config) (plain_link link) ≡ Some fault
+      → (answer ≡ invalid) × (after ≡ None)
+  pub good : link_fault (config_of config) (plain_link link) ≡ None → IsLinkUp config link answer after
 
 -- A link is booted into a handle without one. If the handle has a link, that link is unchanged, and the result is
 -- -ENXIO.

@@ -2,7 +2,7 @@
 //! the link's half of the host. A call on a stack changes nothing in its link. The link is booted and ended separately.
 ghost use Rattle.std.specs.Prelude.{◌≡◌, ⊤};
 ghost use Rattle.libbsdudp.specs.Calls.{stack_in};
-ghost use Rattle.libbsdudp.specs.Ether.{AnswersHost, AnswersLink, Arrives, ArrivesFate, HasHostTicked, IsFramed, IsLinkAsked, IsLinkBooted, IsLinkEnded, ReportsAddress, ReportsError, ReportsNeighbour, ReportsTallies, handle_link};
+ghost use Rattle.libbsdudp.specs.Ether.{AnswersHost, AnswersLink, Arrives, ArrivesFate, HasHostTicked, IsFramed, IsLinkAsked, IsLinkBooted, IsLinkEnded, NamesFault, ReportsAddress, ReportsError, ReportsNeighbour, ReportsTallies, handle_link};
 
 use crate::errors::{INVALID, NO_LINK, NO_MEMORY, NO_STACK};
 use crate::ether_calls;
@@ -12,8 +12,30 @@ use crate::link_handle::LinkHandle;
 use crate::link_owned::OwnedLink;
 use crate::link_plain::{CLink, CNeighbour, CTallies};
 use crate::plain::{CConfig, CFate};
-use ether_host::LinkLayer;
+use ether_host::{LinkFault, LinkLayer};
 use std::alloc::Global;
+
+/// Returns which setting of a host is wrong: 0 if none is, and otherwise the place of the first fault in the list of
+/// `LinkFault`, from 1 on.
+///
+///     int bsdudp_core_ether_fault(const struct bsdudp_config *, const struct core_link *)
+#[unsafe(no_mangle)]
+pub extern "C" fn bsdudp_core_ether_fault(config: &CConfig, link: &CLink) -> i32
+    ensures { NamesFault config.now link.now result }
+{
+    match link.link().fault(&config.config()) {
+        None => 0,
+        Some(LinkFault::Mtu) => 1,
+        Some(LinkFault::GroupMac) => 2,
+        Some(LinkFault::NoMac) => 3,
+        Some(LinkFault::Addr) => 4,
+        Some(LinkFault::Mask) => 5,
+        Some(LinkFault::WideMask) => 6,
+        Some(LinkFault::HostNumber) => 7,
+        Some(LinkFault::Bcast) => 8,
+        Some(LinkFault::Gateway) => 9,
+    }
+}
 
 /// Boots the link of a stack with this configuration, into a handle that holds no link.
 ///
@@ -35,7 +57,7 @@ pub extern "C" fn bsdudp_core_ether_boot(
     }
     let config = config.config();
     let link = link.link();
-    if !link.check(&config) {
+    if link.fault(&config).is_some() {
         return INVALID;
     }
     let Ok(layer) = LinkLayer::boot(alloc, config, link) else {

@@ -4,7 +4,7 @@ ghost use Rattle.play_wire.specs.Reports.{IsReason, is_lacking};
 
 use net_stack::BootFault;
 use play_script::SettingFault;
-use segment::JoinFault;
+use segment::{JoinFault, LinkFault};
 
 /// Why a line does nothing (this project's own).
 #[derive(Clone, Copy)]
@@ -39,14 +39,14 @@ pub(crate) enum Fault {
     NoSettings,
     /// A word after `ether` isn't one of a link.
     NoLinkWord,
-    /// The word isn't a hardware address, or is that of a group.
+    /// The word isn't a hardware address.
     BadMac,
     /// The word isn't a mask.
     BadMask,
-    /// The word isn't an address, or isn't one of the host's network.
+    /// The word isn't an address.
     BadGateway,
-    /// The host's MTU is above that of an Ethernet.
-    BadMtu,
+    /// No host on an Ethernet can have these settings.
+    Link(LinkFault),
     /// Another host has this hardware address.
     MacTaken,
     /// Some hosts are on an Ethernet, and this one isn't, or the other way round.
@@ -84,9 +84,8 @@ impl Fault {
             }
             Fault::BadMac => "`mac` must be a host's hardware address, such as 02:00:00:00:00:01",
             Fault::BadMask => "`mask` must be ones, then zeros, such as 255.255.255.0",
-            Fault::BadGateway =>
-                "`gateway` must be another address of the host's network, by its mask",
-            Fault::BadMtu => "--mtu must be at most 1500 on an Ethernet",
+            Fault::BadGateway => "`gateway` must be an address, such as 10.0.0.254",
+            Fault::Link(fault) => fault.text(),
             Fault::MacTaken => "another host has this hardware address",
             Fault::OtherLink => "all hosts must be on an Ethernet, or none",
             Fault::NoLink => "this needs a host on an Ethernet: `host NAME ether ..`",
@@ -111,8 +110,7 @@ impl Fault {
             JoinFault::AddressTaken => Fault::AddressTaken,
             JoinFault::OtherLink => Fault::OtherLink,
             JoinFault::MacTaken => Fault::MacTaken,
-            // All other link faults were excluded before.
-            JoinFault::BadLink => Fault::BadGateway,
+            JoinFault::BadLink(fault) => Fault::Link(fault),
             JoinFault::Unbooted(BootFault::Memory) => Fault::Setting(SettingFault::Memory),
             JoinFault::Unbooted(BootFault::BadSizes) => Fault::Setting(SettingFault::BadSizes),
             JoinFault::Unbooted(BootFault::BadConfig) => Fault::Setting(SettingFault::BadConfig),

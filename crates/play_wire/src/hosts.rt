@@ -8,13 +8,14 @@ ghost use Rattle.play_wire.specs.Acts.{AreLedTo};
 use crate::capture_out::{self, Capture};
 use crate::fault::Fault;
 use crate::halves::join;
-use crate::link::{check_link, link_of};
+use crate::link::link_of;
 use crate::log::Log;
 use crate::names::{NAME, is_name, place_of};
 use crate::passed::Counted;
 use crate::spare::Spare;
 use flat_model::Config;
 use play_script::{DEFAULTS, SettingFault, settings_of};
+use request::address_of;
 use script_loop::{Buffer, Sink, first_word};
 use segment::{Link, Segment};
 use std::alloc::Global;
@@ -38,12 +39,12 @@ pub(crate) struct Hosts<T: Sink + Drop> {
     pub(crate) log: Log,
 }
 
-/// Returns the configuration that the words after a host's name give.
-fn config_of(settings: Option<&[u8]>) -> Result<Config, Fault> {
+/// Returns the configuration that the words after a host's name give, from these defaults.
+fn config_of(settings: Option<&[u8]>, defaults: Config) -> Result<Config, Fault> {
     let Some(words) = settings else {
-        return Ok(DEFAULTS);
+        return Ok(defaults);
     };
-    match settings_of(words, DEFAULTS) {
+    match settings_of(words, defaults) {
         Ok(config) => Ok(config),
         Err(fault) => Err(Fault::Setting(fault)),
     }
@@ -62,13 +63,48 @@ fn link_in(words: Option<&[u8]>, place: usize) -> Result<(Option<Link>, Option<&
     Ok((Some(link), settings))
 }
 
+/// Returns the address after the last `--addr` among these words, or the default address.
+fn addr_in(words: &[u8]) -> u32 {
+    let mut addr = DEFAULTS.addr;
+    let mut is_next = false;
+    let mut rest = Some(words);
+    'words: while let Some(text) = rest {
+        let (word, after) = first_word(text);
+        if is_next {
+            addr = address_of(word).unwrap_or(addr);
+        }
+        is_next = word == b"--addr".as_slice();
+        rest = after;
+    }
+    addr
+}
+
+/// Returns the configuration of a host with this link. Without `--bcast`, its broadcast address is the last address of
+/// the network.
+fn config_on(link: &Link, settings: Option<&[u8]>) -> Result<Config, Fault> {
+    let words = settings.unwrap_or(b"");
+    if has_word(words, b"--bcast") {
+        return config_of(settings, DEFAULTS);
+    }
+    // Settings with an address need a broadcast address near it.
+    let near = Config {
+        bcast: addr_in(words),
+        ..DEFAULTS
+    };
+    let config = config_of(settings, near)?;
+    Ok(Config {
+        bcast: config.addr | !link.mask,
+        ..config
+    })
+}
+
 /// Returns the link and the configuration that the words after a host's name give, by its place.
 fn settings_in(words: Option<&[u8]>, place: usize) -> Result<(Option<Link>, Config), Fault> {
     let (link, settings) = link_in(words, place)?;
-    let config = config_of(settings)?;
-    if let Some(link) = link {
-        check_link(&link, &config)?;
-    }
+    let config = match &link {
+        Some(link) => config_on(link, settings)?,
+        None => config_of(settings, DEFAULTS)?,
+    };
     Ok((link, config))
 }
 
@@ -145,7 +181,7 @@ impl<T: Sink + Drop> Hosts<T> {
     }
 
     /// Returns the link and the configuration of a line `host NAME ..`. Errors, in this order: the word isn't a name;
-    /// there is a wire already; another host has the name; those of `link_of`, `config_of` and `check_link`.
+    /// there is a wire already; another host has the name; those of `link_of` and `config_of`.
     fn host_of(&self, name: &[u8], words: Option<&[u8]>) -> Result<(Option<Link>, Config), Fault>
         ensures { IfOk result (λ _. length name.now ≤ NAME) }
     {

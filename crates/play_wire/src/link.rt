@@ -3,8 +3,6 @@ ghost use Rattle.std.specs.Prelude.{◌≡◌, ◌≤◌, [], drop, get_or, leng
 ghost use Rattle.script_loop.specs.Left.{left};
 
 use crate::fault::Fault;
-use flat_ether::ETHER_MTU;
-use flat_model::Config;
 use request::address_of;
 use script_loop::first_word;
 use segment::{Link, Mac};
@@ -23,7 +21,7 @@ fn link_at(place: usize) -> Link {
     }
 }
 
-/// Returns the hardware address that a word writes, as 02:00:00:00:00:01, unless it's that of a group.
+/// Returns the hardware address that a word writes, as 02:00:00:00:00:01.
 fn mac_of(word: &[u8]) -> Option<Mac> {
     let [
         a,
@@ -53,24 +51,10 @@ fn mac_of(word: &[u8]) -> Option<Mac> {
         return None;
     }
     let [a, b, c, d, e, f] = octets;
-    if a % 2 != 0 {
-        return None;
-    }
     Some(Mac {
         high: u16::from_be_bytes([a, b]),
         low: u32::from_be_bytes([c, d, e, f]),
     })
-}
-
-/// Returns the mask that a word writes: ones, and then zeros.
-fn mask_of(word: &[u8]) -> Option<u32> {
-    let mask = address_of(word)?;
-    let host = !mask;
-    if host & host.wrapping_add(1) == 0 {
-        Some(mask)
-    } else {
-        None
-    }
 }
 
 /// Returns the link with the setting of this word, whose value is the word after it.
@@ -80,7 +64,7 @@ fn with_word(link: Link, name: &[u8], value: &[u8]) -> Result<Link, Fault> {
             Some(mac) => Ok(Link { mac, ..link }),
             None => Err(Fault::BadMac),
         },
-        b"mask" => match mask_of(value) {
+        b"mask" => match address_of(value) {
             Some(mask) => Ok(Link { mask, ..link }),
             None => Err(Fault::BadMask),
         },
@@ -127,16 +111,4 @@ pub(crate) fn link_of(words: Option<&[u8]>, place: usize) -> Result<(Link, Optio
         }
     }
     Ok((link, None))
-}
-
-/// Checks whether a host of this configuration can have a link. Errors: `BadMtu`, then `BadGateway`.
-pub(crate) fn check_link(link: &Link, config: &Config) -> Result<(), Fault> {
-    if link.check(config) {
-        return Ok(());
-    }
-    if u32::from(config.mtu) > ETHER_MTU {
-        Err(Fault::BadMtu)
-    } else {
-        Err(Fault::BadGateway)
-    }
 }

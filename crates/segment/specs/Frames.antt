@@ -7,7 +7,7 @@ use Rattle.flat_model.specs.declared.errno.Errno.{Errno}
 use Rattle.flat_ether.specs.Frames.{is_addressed, same_mac}
 use Rattle.flat_ether.specs.Hosts.{TakesFrame, Ticks, Host, gives, last_error}
 use Rattle.flat_ether.specs.Links.{LinkState, link_up}
-use Rattle.flat_ether.specs.Routes.{is_link}
+use Rattle.flat_ether.specs.Settings.{link_fault}
 use Rattle.flat_ether.specs.declared.error.NetFault.{NetFault}
 use Rattle.flat_ether.specs.declared.link.Link.{Link}
 use Rattle.flat_ether.specs.declared.mac.Mac.{Mac}
@@ -156,7 +156,7 @@ IsPlace v = (nat_le 64 (length v.stacks) ≡ false) × ((length v.links == lengt
 -- and its addresses differ from those of all others
 abbrev pub IsFree : SegmentView → Config → Link → Type 0
 IsFree v config link =
-    IsPlace v × (is_link config link ≡ true) × (list_all (are_apart config) v.configs ≡ true)
+    IsPlace v × (link_fault config link ≡ None) × (list_all (are_apart config) v.configs ≡ true)
     × (list_all (other_mac link.mac) v.links ≡ true)
 
 -- A host has joined: it has the next place, and its stack and its link have just started.
@@ -179,11 +179,11 @@ abbrev pub IsEtherRefused : SegmentView → Config → Link → JoinFault → Ty
 IsEtherRefused v config link TooManyHosts = nat_le 64 (length v.stacks) ≡ true
 IsEtherRefused v config link OtherLink =
     (nat_le 64 (length v.stacks) ≡ false) × ((length v.links == length v.stacks) ≡ false)
-IsEtherRefused v config link BadLink = IsPlace v × (is_link config link ≡ false)
+IsEtherRefused v config link (BadLink fault) = IsPlace v × (link_fault config link ≡ Some fault)
 IsEtherRefused v config link AddressTaken =
-    IsPlace v × (is_link config link ≡ true) × (list_all (are_apart config) v.configs ≡ false)
+    IsPlace v × (link_fault config link ≡ None) × (list_all (are_apart config) v.configs ≡ false)
 IsEtherRefused v config link MacTaken =
-    IsPlace v × (is_link config link ≡ true) × (list_all (are_apart config) v.configs ≡ true)
+    IsPlace v × (link_fault config link ≡ None) × (list_all (are_apart config) v.configs ≡ true)
     × (list_all (other_mac link.mac) v.links ≡ false)
 IsEtherRefused v config link (Unbooted Memory) = IsFree v config link
 IsEtherRefused v config link (Unbooted fault) = IsFree v config link × IsUnbooted config fault

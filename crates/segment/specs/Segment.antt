@@ -182,7 +182,7 @@ IsBarePlace v = (length v.stacks < 64) × (is_ether v ≡ false)
 abbrev pub IsJoinRefused : SegmentView → Config → JoinFault → Type 0
 IsJoinRefused v config TooManyHosts = 64 ≤ length v.stacks
 IsJoinRefused v config OtherLink = (length v.stacks < 64) × (is_ether v ≡ true)
-IsJoinRefused v config BadLink = ⊥
+IsJoinRefused v config (BadLink fault) = ⊥
 IsJoinRefused v config MacTaken = ⊥
 IsJoinRefused v config AddressTaken = IsBarePlace v × (list_all (are_apart config) v.configs ≡ false)
 IsJoinRefused v config (Unbooted Memory) = IsBarePlace v × (list_all (are_apart config) v.configs ≡ true)

@@ -19,7 +19,7 @@ mod watch;
 mod ways;
 
 pub use chances::{Chances, Fate, NO_CHANCES};
-pub use ether_host::{AddressState, Link, Mac, Neighbour, NetFault, Tallies};
+pub use ether_host::{AddressState, Link, LinkFault, Mac, Neighbour, NetFault, Tallies};
 pub use hand::UnderWay;
 pub use laws::{
     hosts_are_machines, hosts_on_a_segment, hosts_on_a_segment_for_ever, hosts_on_an_ether_segment,

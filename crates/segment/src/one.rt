@@ -45,8 +45,8 @@ impl Segment {
         if self.links.len() != self.stacks.len() {
             return Err(JoinFault::OtherLink);
         }
-        if !link.check(config) {
-            return Err(JoinFault::BadLink);
+        if let Some(fault) = link.fault(config) {
+            return Err(JoinFault::BadLink(fault));
         }
         if !is_apart(config, self.directory.configs.as_slice()) {
             return Err(JoinFault::AddressTaken);
@@ -63,9 +63,9 @@ impl Segment {
     /// # Errors
     ///
     /// In this order, and then the segment is unchanged: `TooManyHosts` if it has 64 hosts; `OtherLink` if a host isn't
-    /// on an Ethernet; `BadLink` by the link; `AddressTaken` if a host has the same address, or one of the two has the
-    /// other's address as its broadcast address; `MacTaken`; `Unbooted` if there is no stack with this configuration,
-    /// or host memory can't be allocated.
+    /// on an Ethernet; `BadLink` with the first wrong setting; `AddressTaken` if a host has the same address, or one of
+    /// the two has the other's address as its broadcast address; `MacTaken`; `Unbooted` if there is no stack with this
+    /// configuration, or host memory can't be allocated.
     pub fn join_ether(&mut self, alloc: Global, config: Config, link: Link) -> Result<(), JoinFault>
         ensures { MatchResult result (λ _. IsEtherJoined config link (view self.old) (view self.new)) (λ fault.
             IsEtherRefused (view self.old) config link fault × (view self.new ≡ view self.old)) }

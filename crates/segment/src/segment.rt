@@ -10,7 +10,7 @@ use crate::chances::{Chances, Impairment, NO_CHANCES, seeded};
 use crate::directory::Directory;
 use crate::flight::Flight;
 use crate::tally::{NOTHING, Tally};
-use ether_host::LinkLayer;
+use ether_host::{LinkFault, LinkLayer};
 use flat_model::Config;
 use net_stack::{BootFault, Stack};
 use std::alloc::{AllocError, Global};
@@ -38,9 +38,9 @@ pub enum JoinFault {
     /// A host of the segment has this hardware address.
     #[error("hardware address taken")]
     MacTaken,
-    /// The MTU is above 1,500, the hardware address is that of a group, or the gateway isn't a neighbour.
+    /// A setting of a host on an Ethernet is wrong, for this reason.
     #[error("bad link")]
-    BadLink,
+    BadLink(LinkFault),
 }
 
 /// A broadcast segment, such as an Ethernet: up to 64 hosts, each with a stack of its own, and the packets that are
