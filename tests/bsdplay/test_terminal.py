@@ -178,9 +178,14 @@ def test_bytes_that_change_a_terminal_are_printed_by_number(name, quiet, bsdplay
 NAME = "a\x1b[2J\x9bb.txt"
 
 
-@pytest.mark.parametrize("words", [[], ["why"], ["--from-pcap"], ["--blank"], ["--seeds", "1-2"], ["--pcap", NAME]])
-@pytest.mark.parametrize("text", [None, b"socket => ok 3\n", b"socket => ?\n", b"\x0a\x0d\x0d\x0a" + bytes(30)],
-                         ids=["no file", "a script", "open", "a capture"])  # fmt: skip
+GRADED = [["--strict"], ["--grade"], ["--grade", "--csv"], ["--grade", "--key", NAME]]
+
+
+@pytest.mark.parametrize(
+    "words", [[], ["why"], ["--from-pcap"], ["--blank"], ["--seeds", "1-2"], ["--pcap", NAME], *GRADED])  # fmt: skip
+@pytest.mark.parametrize(
+    "text", [None, b"socket => ok 3\n", b"socket\nbogus\n", b"socket => ?\n", b"\x0a\x0d\x0d\x0a" + bytes(30)],
+    ids=["no file", "a script", "wrong", "open", "a capture"])  # fmt: skip
 def test_a_files_name_changes_no_terminal(words, text, bsdplay, tmp_path):
     """A hand-in's name is its student's choice."""
     file = tmp_path / NAME

@@ -2,12 +2,13 @@
 use crate::difference::put_difference;
 use crate::hand_in::{REFUSED, load, play_quietly, unmarked};
 use crate::messages::{Shown, fail, fail_on};
+use crate::screen::Screen;
 use crate::sweep::first_fault;
 use crate::{UNREAD, USAGE};
 use clap::ArgMatches;
 use csv::Writer;
 use play_grade::{Marker, Marks, Verdict, first_line};
-use play_script::{Played, RunFault};
+use play_script::{Form, Played, RunFault};
 use std::io::{self, Write};
 
 /// The status if a hand-in doesn't pass, or the key itself doesn't.
@@ -198,7 +199,8 @@ fn refused_key(
         let status = fail_on(rt, name, "no memory: no hand-in was graded", NO_MEMORY)?;
         return Ok(Some(status));
     }
-    put_key_fault(&mut rt.stderr(), name, &verdict, grader.written.as_slice())?;
+    let mut screen = Screen::over(rt.stderr(), Form::Plain, false);
+    put_key_fault(&mut screen, name, &verdict, grader.written.as_slice())?;
     let text = "the key itself fails: no hand-in was graded";
     let status = fail_on(rt, name, text, FAILED)?;
     Ok(Some(status))
@@ -335,10 +337,12 @@ fn grade_with(
     }
     let key = key.map(|(_, key)| key);
     if !found.get_flag("csv") {
-        let mut reports = Reports::Lines(rt.stdout());
+        let screen = Screen::over(rt.stdout(), Form::Plain, false);
+        let mut reports = Reports::Lines(screen);
         return grade_all(rt, grader, key, &mut reports, found);
     }
-    let mut table = Writer::from_writer(rt.stdout());
+    let screen = Screen::over(rt.stdout(), Form::Plain, false);
+    let mut table = Writer::from_writer(screen);
     if table.write_fields(&HEAD).is_err() {
         return report_unwritten(rt);
     }

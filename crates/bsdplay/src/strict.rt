@@ -2,6 +2,7 @@
 use crate::UNREAD;
 use crate::hand_in::{load, unmarked};
 use crate::messages::fail_on;
+use crate::screen::Screen;
 use play_grade::{Marker, first_line};
 use play_script::{Form, OUTPUT, Printer, Style};
 use script_loop::Buffer;
@@ -10,7 +11,7 @@ use std::io::{self, Write};
 
 /// Prints each line of a script that makes a request without an expectation.
 fn print_each(
-    rt: &HostRuntime,
+    screen: &mut impl Write,
     script: &[u8],
     marker: &mut Marker,
     printer: &mut Printer,
@@ -23,7 +24,7 @@ fn print_each(
         if marker.lacks(line) {
             text.clear();
             printer.put_fault(text, b"missing expected reply: --strict needs one after =>");
-            rt.stdout().write_all(text.as_slice())?;
+            screen.write_all(text.as_slice())?;
         }
         let Some(more) = more else {
             break;
@@ -38,7 +39,8 @@ pub(crate) fn print_lacks(rt: &HostRuntime, script: &[u8], style: Style<'_>) -> 
     let mut text: Buffer<OUTPUT> = Buffer::new(rt.alloc())?;
     let mut printer = Printer::new(rt.alloc(), style)?;
     let mut marker = Marker::new(rt.alloc())?;
-    let result = print_each(rt, script, &mut marker, &mut printer, &mut text);
+    let mut screen = Screen::over(rt.stdout(), style.form, false);
+    let result = print_each(&mut screen, script, &mut marker, &mut printer, &mut text);
     let lacks = !printer.sound;
     drop(marker);
     result.map(|()| lacks)
