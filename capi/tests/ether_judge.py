@@ -9,7 +9,7 @@ import sys
 
 from scapy.layers.inet import ICMP, IP, UDP
 from scapy.layers.l2 import ARP, Ether
-from scapy.utils import PcapWriter
+from scapy.utils import PcapWriter, checksum
 
 import bsdudp
 
@@ -438,6 +438,107 @@ def expired():
     check(it.tallies.expired == 8 and it.tallies.icmp_dropped == 1, "the second of two isn't counted")
 
 
+def with_options(n, options, body, **words):
+    """A frame of a neighbour: a packet with these bytes as its options, by RFC 791, section 3.1."""
+    bare = bytes(IP(src=ip_of(n), dst=OWN_IP, **words) / body)
+    head = bytearray(bare[:20] + options)
+    head[0] = 0x40 + len(head) // 4
+    head[2:4] = (len(bare) + len(options)).to_bytes(2, "big")
+    head[10:12] = bytes(2)
+    head[10:12] = checksum(bytes(head)).to_bytes(2, "big")
+    return bytes(Ether(dst=OWN_MAC, src=mac_of(n), type=0x0800)) + bytes(head) + bare[20:]
+
+
+# Options with lengths that fit, and those that aren't accepted: RFC 791, section 3.1; RFC 1122, section 3.2.1.8.
+ACCEPTED = {
+    "no operation": b"\1\1\1\1",
+    "an end of the list": bytes(4),
+    "bytes after the end of the list": b"\1\0\x83\1",
+    "40 bytes": b"\1" * 40,
+    "a record route": b"\7\7\4\0\0\0\0\0",
+    "a full record route": b"\7\7\10\n\0\0\2\0",
+    "a timestamp": b"\x44\x0c\5\0" + bytes(8),
+    "a router alert": b"\x94\4\0\0",
+    "an unknown option of 2 bytes": b"\x9e\2\1\1",
+    "an unknown option to the end": b"\x9e\x28" + bytes(38),
+}
+REFUSED = {
+    "a loose source route": b"\x83\7\4\n\0\0\3\0",
+    "a strict source route at its end": b"\x89\7\x08\n\0\0\1\0",
+    "a source route after a no operation": b"\1\x83\3\4",
+    "length 0": b"\x9e\0\0\0",
+    "length 1": b"\x9e\1\0\0",
+    "a length beyond the header": b"\x9e\5\0\0",
+    "no length": b"\1\1\1\x9e",
+    "a record route whose pointer is 3": b"\7\7\3\0\0\0\0\0",
+    "a record route without a pointer": b"\1\1\7\2",
+}
+
+
+def options():
+    """Packets with options: they are ignored, as unknown ones must be (RFC 1122, section 3.2.1.8). An error quotes the
+    packet with them (section 3.2.2). Malformed options, source routes and wrong headers reach the stack as they came:
+    it drops them."""
+    it, socket = host()
+    knows(it, 2)
+    spent = set()
+    echo, closed, ping = (UDP(sport=5, dport=ECHO) / b"data", UDP(sport=5, dport=CLOSED) / b"data", ICMP(id=7) / b"ping")
+    for name, some in ACCEPTED.items():
+        for after in (b"", bytes(20)):  # bytes after the total length, as of an Ethernet's padding
+            it.receive(with_options(2, some, echo) + after)
+            check(socket.recvfrom() == (b"data", (ip_of(2), 5)), f"a datagram with {name} comes as another")
+        frame = with_options(2, some, closed)
+        it.receive(frame)
+        frames, quoted = given(it), frame[14 : 14 + 20 + len(some) + 8]
+        answer = IP(src=OWN_IP, dst=ip_of(2), id=own_number(frames, spent), ttl=64) / ICMP(type=3, code=3) / quoted
+        check(frames == [bytes(Ether(dst=mac_of(2), src=OWN_MAC) / answer)], f"the error about {name} isn't scapy's")
+        it.tick()
+        it.receive(with_options(2, some, ping))
+        frames = given(it)
+        answer = IP(src=OWN_IP, dst=ip_of(2), id=own_number(frames, spent), ttl=64) / ICMP(type=0, id=7) / b"ping"
+        check(frames == [bytes(Ether(dst=mac_of(2), src=OWN_MAC) / answer)], f"the reply to a ping with {name}")
+        data = bytes(IP(src=ip_of(2), dst=OWN_IP) / UDP(sport=5, dport=ECHO) / bytes(range(40)))[20:]
+        for first, last in ((some, some), (some, b""), (b"", some)):
+            it.receive(with_options(2, last, data[24:], proto=17, frag=3, id=9))
+            it.receive(with_options(2, first, data[:24], proto=17, flags="MF", id=9))
+            check(socket.recvfrom()[0] == bytes(range(40)), f"two fragments with {name} come as another datagram")
+        frame = with_options(2, some, data[:24], proto=17, flags="MF", id=10)
+        it.receive(frame)
+        it.tick(UNFINISHED)
+        frames, quoted = given(it), frame[14 : 14 + 20 + len(some) + 8]
+        answer = IP(src=OWN_IP, dst=ip_of(2), id=own_number(frames, spent), ttl=64) / ICMP(type=11, code=1) / quoted
+        check(frames == [bytes(Ether(dst=mac_of(2), src=OWN_MAC) / answer)], f"time exceeded for {name} isn't scapy's")
+    wrong = [with_options(2, some, body) for some in REFUSED.values() for body in (echo, closed, ping)]
+    good = bytearray(with_options(2, ACCEPTED["a record route"], echo))
+    for at in range(14 + 1, 14 + 28):  # a wrong checksum, over the options too
+        wrong.append(bytes(good[:at] + bytes([good[at] ^ 1]) + good[at + 1 :]))
+    wrong += [bytes(good[:cut]) for cut in range(14 + 20, len(good))]
+    before = it.counters["ip.options"]
+    for frame in wrong:
+        it.receive(frame)
+        check(given(it) == [] and not it.readable(), f"{frame.hex()} isn't dropped")
+    more = it.counters["ip.options"] - before
+    check(more == len(wrong), f"{more} of {len(wrong)} packets are counted in ip.options")
+    # an error with options is read
+    near = it.socket()
+    near.connect((ip_of(2), CLOSED))
+    near.send(b"x")
+    (sent,) = given(it)
+    quoted = bytes(Ether(sent)[IP])[:28]
+    it.receive(with_options(2, ACCEPTED["a timestamp"], ICMP(type=3, code=3) / quoted))
+    check(isinstance(it.last_error(near), ConnectionRefusedError), "an error with options isn't reported")
+    # it takes the place of the datagram that has waited longest
+    for k in range(HELD):
+        socket.sendto(bytes([k]), (ip_of(3), 99))
+    given(it)
+    it.receive(with_options(2, ACCEPTED["no operation"], echo))
+    check(socket.recvfrom()[0] == b"data", "a datagram with options is lost while others wait")
+    it.receive(with_options(2, ACCEPTED["no operation"], echo))
+    it.receive(replies(3))
+    left = [Ether(frame)[UDP].load for frame in given(it)]
+    check(left == [bytes([k]) for k in range(1, HELD)] and it.tallies.held_dropped == 1, f"{left} are left of eight")
+
+
 def reported():
     """ICMP errors about a datagram that a connected socket sent. The meaning of each code is in volume 2, chapter 11
     (`icmp_input`, `inetctlerrmap`)."""
@@ -589,7 +690,8 @@ def lossy():
 
 def main(capture):
     arps = (arp, claims, defends, polls, martians, held, ways)
-    for tried in (*arps, groups, ping, fragmented, unreachable, expired, reported, truncations, hundred, flood, lossy):
+    errors = (unreachable, expired, options, reported)
+    for tried in (*arps, groups, ping, fragmented, *errors, truncations, hundred, flood, lossy):
         try:
             tried()
         except AssertionError as fault:

@@ -1,5 +1,6 @@
 -- The link's state that the fields mean (this project's own).
 use Rattle.std.specs.Prelude.{map}
+use Rattle.flat_ether.specs.Icmp.{quote_of}
 use Rattle.flat_ether.specs.Links.{LinkState}
 use Rattle.ether_host.specs.Buffers.{held_in}
 use Rattle.ether_host.specs.Replies.{packets_left}
@@ -16,7 +17,7 @@ link_seen l = record {
   answer = packets_left l.answer;
   answer_hop = l.answer_hop;
   answer_id = l.answer_id;
-  firsts = l.firsts.items;
+  firsts = map quote_of l.firsts.items;
   errors = l.errors.items;
   claim = l.claim;
   errors_left = l.errors_left;

@@ -7,6 +7,7 @@ use Rattle.flat_model.specs.declared.config.Config.{Config}
 use Rattle.flat_model.specs.declared.fate.Fate.{Fate}
 use Rattle.flat_ether.specs.Frames.{body_of, kind_of}
 use Rattle.flat_ether.specs.Hosts.{Host}
+use Rattle.flat_ether.specs.Options.{plain}
 use Rattle.flat_ether.specs.Links.{LinkState, WaitingPacket}
 use Rattle.flat_ether.specs.Settings.{link_fault}
 use Rattle.flat_ether.specs.declared.link.FrameKind.{FrameKind}
@@ -38,7 +39,7 @@ host_of v = record { machine = state_of v.stack; link = v.link }
 
 -- what is told of a frame that arrives: the fate of its packet, or nothing if it has none for the stack
 abbrev pub TellsKind : FrameKind → List ℕ → Option Fate → Host → Host → Type 0
-TellsKind Packet f (Some fate) old new = Fated old.machine (body_of f) fate new.machine
+TellsKind Packet f (Some fate) old new = Fated old.machine (plain (body_of f)) fate new.machine
 TellsKind Packet f None old new = ⊥
 TellsKind _ f told old new = told ≡ None
 

@@ -1,7 +1,8 @@
 //! ICMP replies (`icmp_reflect` and `icmp_error` of volume 2, chapter 11).
 ghost use Rattle.std.specs.Prelude.{◌≡◌, ◌≤◌, ◌∷◌, length, true};
 ghost use Rattle.params.specs.declared.TheConstants.{IP_HEADER, IP_UDP_HEADERS};
-ghost use Rattle.flat_ether.specs.Icmp.{answer_to, carried_in, echo_reply, error_for, error_reply, expired_error, is_answerable, is_echo, is_no_protocol, is_single};
+ghost use Rattle.flat_ether.specs.Icmp.{answer_to, echo_reply, error_for, error_reply, expired_error, is_answerable, is_echo, is_no_protocol, is_single};
+ghost use Rattle.flat_ether.specs.Options.{carried_in};
 ghost use Rattle.flat_model.specs.Packets.Checksum.{checksum};
 ghost use Rattle.flat_model.specs.Packets.Header.{two_bytes};
 ghost use Rattle.ether_host.specs.Answers.{CanAnswer};
@@ -9,15 +10,16 @@ ghost use Rattle.ether_host.specs.Replies.{packets_left};
 
 use crate::buffer::ROOM;
 use crate::bytes::put_bytes;
+use crate::options::{carried, quote_size};
 use crate::reply::Reply;
 use flat_ether::{
-    Answer, ECHO_REPLY, ECHO_REQUEST, ICMP_HEADER, PROTOCOL_ICMP, REASSEMBLY_EXCEEDED,
+    Answer, ECHO_REPLY, ECHO_REQUEST, ICMP_HEADER, PROTOCOL_ICMP, QUOTE, REASSEMBLY_EXCEEDED,
     TIME_EXCEEDED, UNREACHABLE, UNREACHABLE_PORT, UNREACHABLE_PROTOCOL,
 };
 use flat_model::{Config, Why};
 use in_cksum::{Sum, sum_slice};
-use ip_out::{u16_at, u32_at};
-use params::{FIRST_MULTICAST, IP_HEADER, IP_UDP_HEADERS, LOOPBACK};
+use ip_out::u32_at;
+use params::{FIRST_MULTICAST, IP_HEADER, LOOPBACK};
 
 /// Bytes of an IP header.
 pub(crate) const HEADER: usize = IP_HEADER as usize;
@@ -39,15 +41,6 @@ pub(crate) fn is_answerable(config: &Config, came: &[u8]) -> bool
     ensures { result ≡ is_answerable config.now came.now }
 {
     came.len() >= HEADER && u32_at(came, 16) == config.addr && is_single(config, u32_at(came, 12))
-}
-
-/// What a packet carries, up to its total length.
-pub(crate) fn carried(came: &[u8]) -> &[u8]
-    requires { IP_HEADER ≤ length came.now }
-    ensures { result.now ≡ carried_in came.now }
-{
-    let total = (u16_at(came, 2) as usize).min(came.len()).max(HEADER);
-    &came[HEADER..total]
 }
 
 /// Whether this is an echo request that gets a reply.
@@ -151,8 +144,8 @@ pub(crate) fn error_reply(
     requires { IP_HEADER ≤ length came.now }
     ensures { packets_left reply.new ≡ error_reply config.now id kind code came.now }
 {
-    let quoted = came.len().min(IP_UDP_HEADERS as usize);
-    let mut rest = [0; 32];
+    let quoted = came.len().min(quote_size(came));
+    let mut rest = [0; 4 + QUOTE];
     put_bytes(&mut rest, 4, &came[..quoted]);
     let rest = &rest[..4 + quoted];
     let front = message_head(kind, code, rest);

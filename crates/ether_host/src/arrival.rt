@@ -2,7 +2,8 @@
 ghost use Rattle.std.specs.Prelude.{◌≡◌, ◌+◌, ◌%◌, ◌<◌, ◌≤◌, length, true, if◌then◌else◌};
 ghost use Rattle.params.specs.declared.TheConstants.{IP_HEADER};
 ghost use Rattle.flat_ether.specs.Frames.{arp_of};
-ghost use Rattle.flat_ether.specs.Icmp.{carried_in, is_echo};
+ghost use Rattle.flat_ether.specs.Icmp.{is_echo};
+ghost use Rattle.flat_ether.specs.Options.{carried_in};
 ghost use Rattle.ether_host.specs.Answers.{CanAnswer};
 ghost use Rattle.flat_ether.specs.Links.{answers_by, answers_dropped, answers_fate, answers_now, answers_with, asks, counts_conflict, counts_error, counts_icmp_dropped, receives_arp, ignores, is_busy, is_conflict, learns, makes_way, puts_echo, puts_error, queues_reply, is_sound_arp, refuses, reports_error};
 

@@ -12,7 +12,7 @@ pub(crate) const ROOM: usize = ETHER_MTU as usize;
 #[derive(Clone, Copy)]
 pub(crate) struct PacketBuffer {
     pub(crate) hop: u32,
-    pub(crate) len: usize,
+    pub(crate) len: u16,
     pub(crate) buffer: [u8; ROOM],
     ghost within: { len ≤ ETHER_MTU },
 }
@@ -38,7 +38,7 @@ impl PacketBuffer {
         ensures { held_in self.new ≡ record { hop = hop; packet = packet.now } }
     {
         self.hop = hop;
-        self.len = packet.len();
+        self.len = packet.len() as u16;
         put_bytes(&mut self.buffer, 0, packet);
     }
 
@@ -48,7 +48,7 @@ impl PacketBuffer {
         ensures long { length result.now ≡ self.now.len }
         ensures most { length result.now ≤ ETHER_MTU }
     {
-        &self.buffer[..self.len]
+        &self.buffer[..self.len as usize]
     }
 }
 

@@ -4,8 +4,9 @@ ghost use Rattle.flat_ether.specs.declared.sizes.TheConstants.{ICMP_ERROR};
 ghost use Rattle.flat_ether.specs.Errors.{error_at, error_in, error_of, error_fault, is_error, is_icmp, is_error_of, add_error};
 ghost use Rattle.flat_ether.specs.Links.{adds_error_if, takes_error};
 
-use crate::answer::{HEADER, carried};
+use crate::answer::HEADER;
 use crate::layer::LinkLayer;
+use crate::options::carried;
 use arrayvec::ArrayVec;
 use flat_ether::{
     FRAGMENT_NEEDED, ICMP_ERROR, NetFault, PROTOCOL_ICMP, SOCKET_ERRORS, SocketError, UNREACHABLE,

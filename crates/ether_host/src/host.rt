@@ -70,9 +70,11 @@ impl EtherHost {
         &mut self.stack
     }
 
-    /// A frame arrives, without its check sequence. An IPv4 packet is passed to the stack as it is, and may get a
-    /// reply; an ARP packet is handled; all others are ignored. A packet from a broadcast or multicast address, from
-    /// 0/8 or 127/8, or to 127/8 is dropped here and counted (RFC 1122, section 3.2.1.3).
+    /// A frame arrives, without its check sequence. An IPv4 packet is passed to the stack without its IP options, and
+    /// may get a reply. Options are ignored; a packet with a source route or malformed options is passed as it is, and
+    /// the stack drops it (RFC 1122, section 3.2.1.8). An ARP packet is handled; all others are ignored. A packet from
+    /// a broadcast or multicast address, from 0/8 or 127/8, or to 127/8 is dropped here and counted (RFC 1122, section
+    /// 3.2.1.3).
     pub fn receive(&mut self, frame: &[u8])
         requires { length frame.now ≤ ETHER_HEADER + IP_MAX_PACKET }
         ensures { TakesFrame frame.now (host_of (host_view self.old)) (host_of (host_view self.new)) }

@@ -3,12 +3,11 @@ ghost use Rattle.std.specs.Prelude.{◌≡◌, ◌≤◌, IfOk, vec_capacity};
 ghost use Rattle.flat_ether.specs.declared.sizes.TheConstants.{HELD_PACKETS};
 
 use crate::buffer::PacketBuffer;
-use crate::fragments::QUOTE;
 use crate::reply::Reply;
 use arrayvec::ArrayVec;
 use flat_ether::{
     Claim, ERRORS_A_TICK, FIRST_FRAGMENTS, HELD_PACKETS, Link, NEIGHBOURS, Neighbour,
-    PENDING_REPLIES, PendingReply, SOCKET_ERRORS, SocketError, Tallies,
+    PENDING_REPLIES, PendingReply, QUOTE, SOCKET_ERRORS, SocketError, Tallies,
 };
 use flat_model::Config;
 use std::alloc::{AllocError, Global};

@@ -12,6 +12,7 @@ mod frames;
 mod halves;
 mod host;
 mod layer;
+mod options;
 mod own;
 mod packets;
 mod reply;

@@ -6,7 +6,8 @@ ghost use Rattle.flat_model.specs.Machine.Fate.{Fated};
 ghost use Rattle.flat_model.specs.Machine.Replies.{given_reply};
 ghost use Rattle.flat_model.specs.Machine.Step.{Step};
 ghost use Rattle.flat_ether.specs.Frames.{body_of};
-ghost use Rattle.flat_ether.specs.Hosts.{answers, drained, with_output_left};
+ghost use Rattle.flat_ether.specs.Hosts.{answers, drained, makes_place, with_output_left};
+ghost use Rattle.flat_ether.specs.Options.{plain};
 ghost use Rattle.flat_ether.specs.declared.sizes.TheConstants.{ETHER_HEADER, ETHER_MTU};
 ghost use Rattle.net_stack.specs.Stack.{state_of};
 ghost use Rattle.ether_host.specs.Fronts.{buffer_front};
@@ -15,19 +16,36 @@ ghost use Rattle.ether_host.specs.Inside.{link_seen};
 use crate::bytes::mac_at;
 use crate::frames::{BODY, body_of};
 use crate::layer::LinkLayer;
+use crate::options::{has_options, receive_plain};
 use flat_model::Fate;
 use net_stack::Stack;
 
-/// A frame with a packet arrives: the stack receives the packet, and the link may queue a reply. Returns the packet's
-/// fate.
+impl LinkLayer {
+    /// The stack receives a packet without its options.
+    fn pass(&mut self, stack: &mut Stack, came: &[u8]) -> Fate
+        requires { length came.now ≤ IP_MAX_PACKET }
+        ensures fate { Fated (state_of stack.old) (plain came.now) result (state_of stack.new) }
+        ensures link { link_seen self.new ≡ makes_place came.now (link_seen self.old) }
+    {
+        if !has_options(came) {
+            return stack.rx_told(came);
+        }
+        self.make_place();
+        receive_plain(stack, &mut self.held, came)
+    }
+}
+
+/// A frame with a packet arrives: the stack receives the packet without its options, and the link may queue a reply.
+/// Returns the packet's fate.
 pub(crate) fn take_packet(stack: &mut Stack, layer: &mut LinkLayer, frame: &[u8]) -> Fate
     requires long { ETHER_HEADER ≤ length frame.now }
     requires most { length frame.now ≤ ETHER_HEADER + IP_MAX_PACKET }
-    ensures fate { Fated (state_of stack.old) (body_of frame.now) result (state_of stack.new) }
-    ensures link { link_seen layer.new ≡ answers frame.now result (link_seen layer.old) }
+    ensures fate { Fated (state_of stack.old) (plain (body_of frame.now)) result (state_of stack.new) }
+    ensures link { link_seen layer.new
+        ≡ answers frame.now result (makes_place (body_of frame.now) (link_seen layer.old)) }
 {
     let packet = body_of(frame);
-    let fate = stack.rx_told(packet);
+    let fate = layer.pass(stack, packet);
     if mac_at(frame, 0).is(layer.link.mac) {
         layer.answer_fate(packet, fate);
     }

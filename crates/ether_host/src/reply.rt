@@ -80,7 +80,7 @@ impl Reply {
         ensures { packets_left self.new ≡ reflected config.now id came.now (front ++ rest.now) }
     {
         put_both(&mut self.message.buffer, &front, rest);
-        self.message.len = 4 + rest.len();
+        self.message.len = (4 + rest.len()) as u16;
         self.source = config.addr;
         self.destination = u32_at(came, 12);
         self.id = id;
@@ -97,7 +97,7 @@ impl Reply {
         ensures unit { result.offset % FRAGMENT_UNIT ≡ 0 }
         ensures few { self.now.gone ≤ ETHER_MTU }
     {
-        let len = self.message.len;
+        let len = self.message.len as usize;
         let mtu = usize::from(self.mtu);
         if HEADER + len <= mtu {
             return Share {

@@ -3,7 +3,7 @@ ghost use Rattle.std.specs.Prelude.{◌≡◌, ◌+◌, ◌<◌, ◌≤◌, ◌�
 ghost use Rattle.params.specs.declared.TheConstants.{IP_HEADER};
 ghost use Rattle.flat_ether.specs.declared.sizes.TheConstants.{ETHER_HEADER, ETHER_MTU, ETHER_TYPE_IP};
 ghost use Rattle.flat_ether.specs.Frames.{frame};
-ghost use Rattle.flat_ether.specs.Links.{asks, counts_no_route, holds_packet, sends, route_of};
+ghost use Rattle.flat_ether.specs.Links.{asks, counts_no_route, holds_packet, sends, route_of, with_place};
 ghost use Rattle.ether_host.specs.Buffers.{held_in};
 ghost use Rattle.ether_host.specs.Fronts.{buffer_front};
 
@@ -33,6 +33,17 @@ fn put_packet(held: &mut Vec<PacketBuffer>, hop: u32, packet: &[u8])
 impl LinkLayer {
     ghost use Rattle.ether_host.specs.Inside.{link_seen};
 
+    /// A place for a packet that waits is free then: if need be, that of the one that has waited longest.
+    pub(crate) fn make_place(&mut self)
+        ensures is { link_seen self.new ≡ with_place (link_seen self.old) }
+        ensures some { vec_len self.new.held < vec_capacity self.new.held }
+    {
+        if self.held.len() >= HELD_PACKETS {
+            drop_at(&mut self.held, 0);
+            self.tallies.held_dropped = self.tallies.held_dropped.saturating_add(1);
+        }
+    }
+
     /// A packet waits for the hardware address of its next hop; if no place is free, the one that has waited longest is
     /// dropped.
     fn hold(&mut self, hop: u32, packet: &[u8])
@@ -42,10 +53,7 @@ impl LinkLayer {
             self.tallies.too_long = self.tallies.too_long.saturating_add(1);
             return;
         }
-        if self.held.len() >= HELD_PACKETS {
-            drop_at(&mut self.held, 0);
-            self.tallies.held_dropped = self.tallies.held_dropped.saturating_add(1);
-        }
+        self.make_place();
         put_packet(&mut self.held, hop, packet);
     }
 

@@ -17,10 +17,11 @@ use Rattle.flat_model.specs.declared.errno.Errno.{Errno}
 use Rattle.flat_ether.specs.Claims.{claim_due, is_claimed}
 use Rattle.flat_ether.specs.Errors.{error_at, error_in}
 use Rattle.flat_ether.specs.Frames.{arp_of, body_of, is_addressed, is_martian, kind_of, packet_kind}
-use Rattle.flat_ether.specs.Hosts.{HostAct, AreHostActs, Asks_error, Calls, Clock, Comes_in, Drained, Goes_out, ReceivesKind, Host, IsHostAct, drained, error_of_socket, expired_keys, gives, gives_claimed, gives_drained, gives_probe, host_up, is_to_us, or_drains}
+use Rattle.flat_ether.specs.Hosts.{HostAct, AreHostActs, Asks_error, Calls, Clock, Comes_in, Drained, Goes_out, ReceivesKind, Host, IsHostAct, drained, error_of_socket, expired_keys, gives, gives_claimed, gives_drained, gives_probe, host_up, is_to_us, makes_place, or_drains}
+use Rattle.flat_ether.specs.Options.{has_options}
 use Rattle.flat_ether.specs.Icmp.{answer_to, echo_reply, error_for, error_reply, expired_error, is_first, is_no_protocol}
 use Rattle.flat_ether.specs.Laws.{answered, martian_if, martian_in, martians_in, packet_if, packets_in}
-use Rattle.flat_ether.specs.Links.{Gives, WaitingPacket, LinkState, ages, answers_by, answers_expired, answers_fate, answers_first, answers_now, answers_on, answers_with, asks, asks_at, by_route, claim_frame, drops_first, counts_conflict, counts_expired, counts_unreachable, first_ready, gives_answer, gives_claim, gives_held, gives_own, gives_reply, gives_request, receives_arp, holds_packet, is_answering, is_asked, is_busy, is_conflict, is_request_due, is_learned, is_sound_arp, keeps_answer, learns, limits, mac_of, makes_way, puts_answer, puts_error, quote_for, quote_with, adds_error_if, adds_error, or_then, queues_reply, neighbour_place, replies_to, reports_expired, route_of, sends, sends_answer, sends_at, sends_held, takes_at, takes_error, to_hop}
+use Rattle.flat_ether.specs.Links.{Gives, WaitingPacket, LinkState, ages, answers_by, answers_expired, answers_fate, answers_first, answers_now, answers_on, answers_with, asks, asks_at, by_route, claim_frame, drops_first, counts_conflict, counts_expired, counts_unreachable, first_ready, gives_answer, gives_claim, gives_held, gives_own, gives_reply, gives_request, receives_arp, holds_packet, is_answering, is_asked, is_busy, is_conflict, is_request_due, is_learned, is_sound_arp, keeps_answer, learns, limits, mac_of, makes_way, puts_answer, puts_error, quote_for, quote_with, adds_error_if, adds_error, or_then, queues_reply, neighbour_place, replies_to, reports_expired, route_of, sends, sends_answer, sends_at, sends_held, takes_at, takes_error, to_hop, with_place}
 use Rattle.flat_ether.specs.Routes.{route}
 use Rattle.flat_ether.specs.declared.answer.Answer.{Answer}
 use Rattle.flat_ether.specs.declared.answer.Answer.TheVariants.{Echo, Error, Silence}
@@ -37,6 +38,7 @@ use Rattle.flat_ether.specs.declared.link.Route.TheVariants.{All as To_all, Hop,
 use Rattle.flat_ether.specs.declared.mac.Mac.{Mac}
 use Rattle.flat_ether.specs.declared.neighbour.PendingReply.{PendingReply}
 use Rattle.flat_ether.specs.declared.sizes.TheConstants.{ETHER_MTU, ETHER_TYPE_ARP, ETHER_TYPE_IP, HELD_PACKETS, PENDING_REPLIES}
+use Rattle.flat_ether.proofs.Plain.{plain_martian}
 
 -- the configuration and the link, by which a frame is classified; the number of martians; the identification of the
 -- next reply, and the numbers of the three kinds of replies
@@ -374,14 +376,21 @@ module _ (c : Config) (l : Link) where
   taken_next true came fate s = fate_next came fate s
   taken_next false came fate s = inl refl
 
+  place_same : (came : List ℕ) (s : LinkState) → tally (makes_place came s) ≡ tally s
+  place_same came s =
+      by_cond (has_options came) s (with_place s) s
+      (by_cond (nat_lt (length s.held) HELD_PACKETS) s s (drops_first s) refl refl) refl
+
   received_counts : (k : ℕ) (f : List ℕ) (old new : Host) (kind : FrameKind) → Counts k old → ReceivesKind kind f old
       new
       → Counts (k + martian_if kind) new
   received_counts k f old new Packet is h =
       subst (λ (n : ℕ). Counted n (tally new.link)) (omega (arith))
       (subst (λ (s : LinkState). Counted k (tally s)) (sym h.link)
-      (next_counts k (tally old.link) _ is
-      (taken_next (is_to_us old.link f) (body_of f) h.fate old.link)))
+      (next_counts k (tally (makes_place (body_of f) old.link)) _
+      (subst (Counted k) (sym (place_same (body_of f) old.link)) is)
+      (taken_next (is_to_us (makes_place (body_of f) old.link) f) (body_of f) h.fate
+      (makes_place (body_of f) old.link))))
   received_counts k f old new Martian is h =
       subst (λ (x : Host). Counted (k + 1) (tally x.link)) (sym h) (record {
         config = is.config;
@@ -470,7 +479,7 @@ no_martian c mac f = All-from_recursion _ (packet_if (kind_of c mac f) f) (recei
 
     of_packet : (b : Bool) → is_martian c (body_of f) ≡ b → Free (cond b Martian Packet)
     of_packet true e = tt
-    of_packet false e = (e, tt)
+    of_packet false e = (plain_martian c (body_of f) e, tt)
 
     of_other : (b : Bool) → Free (cond b Of_arp Other)
     of_other true = tt

@@ -17,8 +17,10 @@ use Rattle.flat_ether.specs.declared.link.FrameKind.{FrameKind}
 use Rattle.flat_ether.specs.declared.link.FrameKind.TheVariants.{Packet, Martian, Arp, Other}
 use Rattle.flat_ether.specs.declared.mac.Mac.{Mac}
 use Rattle.flat_ether.specs.declared.sizes.TheConstants.{ETHER_TYPE_ARP, ETHER_TYPE_IP}
+use Rattle.flat_ether.specs.Options.{plain}
+use Rattle.flat_ether.proofs.Plain.{plain_from, plain_same}
 use Rattle.flat_ether.proofs.Runs.{makes_turns}
-use Rattle.flat_ether.proofs.Sources.{boot_sourced, given_own}
+use Rattle.flat_ether.proofs.Sources.{IsOwnPlain, boot_sourced, given_own, given_plain}
 use Rattle.flat_ether.proofs.Two.{sent_udp, went_so}
 
 -- ---- a host sends in no other's name
@@ -36,6 +38,19 @@ own_frames c l acts new is done =
     let given : List (List ℕ) = filter_map packet_out made.turns in
     each-weaker
     (own_frame c l given (given_own c (boot c) new.machine made.turns (boot_sourced c is) made.leads))
+    (frames_out acts) (went_so c l given [] acts made.went)
+
+-- a UDP packet that a host sent has a header of five words
+plain_frames : (c : Config) (l : Link) (acts : List HostAct) (new : Host) → IsConfig c
+    → AreHostActs (host_up c l) acts new → Each (λ f. IsUdpFrame f → plain (body_of f) ≡ body_of f) (frames_out acts)
+plain_frames c l acts new is done =
+    let made : MakesTurns c l acts new = makes_turns c l acts new done in
+    let given : List (List ℕ) = filter_map packet_out made.turns in
+    let own : Each (IsOwnPlain c) given =
+    given_plain c (boot c) new.machine made.turns (boot_sourced c is) made.leads in
+    each-weaker
+    (λ f sent udp. plain_same (body_of f) (All-contains (IsOwnPlain c) given (body_of f)
+    (All-from_recursion (IsOwnPlain c) given own) (sent_udp c l sent.0 given f (body_of f) sent.1 udp.0 refl udp.1)).1)
     (frames_out acts) (went_so c l given [] acts made.went)
 
 -- a packet of another host doesn't come from this one
@@ -77,19 +92,30 @@ type_of d mac f e =
     (is_ip (is_addressed mac f) (u16_at 12 f == ETHER_TYPE_IP) (u16_at 12 f == ETHER_TYPE_ARP)
     (packet_kind d (body_of f)) e)
 
-module _ (c d : Config) (mac : Mac) (sent : List HostAct) (is : IsConfig c) where
+module _ (c d : Config) (l : Link) (s : Host) (mac : Mac) (sent : List HostAct) (is : IsConfig c)
+    (done : AreHostActs (host_up c l) sent s) where
   abbrev Carried : List ℕ → Type 0
   Carried packet = ComesFrom c.addr packet → IsInFrames (frames_out sent) packet
 
-  carried : (f : List ℕ) → IsUnforged c.addr sent f → u16_at 12 f ≡ ETHER_TYPE_IP → Carried (body_of f)
-  carried f (inl here) type from = (f, here, type, refl)
+  carried : (f : List ℕ) → IsUnforged c.addr sent f → u16_at 12 f ≡ ETHER_TYPE_IP → Carried (plain (body_of f))
+  carried f (inl here) type from =
+      let whole : ComesFrom c.addr (body_of f) = plain_from c.addr (body_of f) from in (
+        f,
+        here,
+        type,
+        sym (All-contains (λ g. IsUdpFrame g → plain (body_of g) ≡ body_of g) (frames_out sent) f
+            (All-from_recursion (λ g. IsUdpFrame g → plain (body_of g) ≡ body_of g) (frames_out sent)
+            (plain_frames c l sent s is done)) here (type, whole.udp)),
+      )
   carried f (inr (inl (o, other, gave))) type from =
       let own : IsOwn o.config (body_of f) =
       All-contains (λ g. IsUdpFrame g → IsOwn o.config (body_of g)) (frames_out o.acts) f
       (All-from_recursion (λ g. IsUdpFrame g → IsOwn o.config (body_of g)) (frames_out o.acts)
-      (own_frames o.config o.link o.acts o.last other.boots other.done)) gave (type, from.udp) in
-      absurd (not_own c o.config (body_of f) is other.not_addr other.not_bcast own from)
-  carried f (inr (inr free)) type from = absurd (free from)
+      (own_frames o.config o.link o.acts o.last other.boots other.done)) gave
+      (type, (plain_from c.addr (body_of f) from).udp) in
+      absurd (not_own c o.config (body_of f) is other.not_addr other.not_bcast own
+      (plain_from c.addr (body_of f) from))
+  carried f (inr (inr free)) type from = absurd (free (plain_from c.addr (body_of f) from))
 
   of_kind : (f : List ℕ) → IsUnforged c.addr sent f → (k : FrameKind) → kind_of d mac f ≡ k
       → Each Carried (packet_if k f)
@@ -128,6 +154,6 @@ on_ethernet c d l m sent came s t w = record {
   few = w.few;
   wire =
       All-from_recursion _ (packets_to d m.mac came)
-      (came_so c d m.mac sent w.first_boots came (recursion_from_All _ (frames_in came) w.frames)
+      (came_so c d l s m.mac sent w.first_boots w.first_acts came (recursion_from_All _ (frames_in came) w.frames)
       (recursion_from_All _ (packets_handed came) w.handed));
 }

@@ -1,5 +1,5 @@
 -- The packets of an ICMP reply: each has a whole header, with the addresses and the identification of the reply.
-use Rattle.std.proofs.Common.{◌≡◌, ℕ, ◌+◌, ◌*◌, ◌/◌, ◌%◌, Bool, true, false, cond, List, [], ◌∷◌, ◌<◌, length, map, refl, ap, ◌∙◌, arith}
+use Rattle.std.proofs.Common.{◌≡◌, ℕ, ◌+◌, ◌*◌, ◌-◌, ◌/◌, ◌%◌, Bool, true, false, cond, List, [], ◌∷◌, ◌<◌, length, map, take, refl, ap, ◌∙◌, arith}
 use Rattle.std.specs.Prelude.{All, nat_lt, slice_index}
 use Rattle.std.specs.List.{AllByRecursion as Each}
 use Rattle.std.proofs.lemmas.Bool.{ltb-true}
@@ -10,6 +10,7 @@ use Rattle.flat_model.specs.Packets.Header.{Head, head_of, packet, u32_at}
 use Rattle.flat_model.specs.declared.config.Config.{Config}
 use Rattle.flat_ether.specs.Icmp.{answer_mtu, echo_message, echo_reply, error_message, error_reply, message, part_packet, part_packets, quote_of, reflected}
 use Rattle.flat_ether.specs.Laws.{HasId}
+use Rattle.flat_ether.specs.Options.{header_size}
 use Rattle.flat_ether.specs.Links.{route_to}
 use Rattle.flat_ether.specs.Routes.{route}
 use Rattle.flat_ether.specs.declared.link.Link.{Link}
@@ -20,7 +21,7 @@ pub length-packet : (h : Head) (t : List ℕ) → length (packet h t) ≡ 20 + l
 unfolding packet
 length-packet h t = omega arith
 
-destination_read : (h : Head) (t : List ℕ) → u32_at 16 (packet h t) ≡ h.destination
+pub destination_read : (h : Head) (t : List ℕ) → u32_at 16 (packet h t) ≡ h.destination
 unfolding packet
 destination_read h t = four h.destination
 
@@ -48,7 +49,13 @@ reply_route c l id came body hop e = go (cuts (length body) (answer_mtu c))
 -- ---- an error that quotes a packet is one about the packet
 
 quoted : (i : ℕ) (came : List ℕ) → i < 28 → slice_index (quote_of came) i ≡ slice_index came i
-quoted i came h = get_or-take 28 came i 0 h
+quoted i came h = get_or-take (28 + (header_size came - 20)) came i 0 (omega arith)
+
+quoted_again : (came : List ℕ) → quote_of (quote_of came) ≡ quote_of came
+quoted_again came =
+    let n : ℕ = 28 + (header_size came - 20) in
+    ap (λ byte. take (28 + (byte % 16 * 4 - 20)) (take n came)) (quoted 0 came (omega arith))
+    ∙ take-take n n came (omega arith)
 
 pub quoted_source : (came : List ℕ) → (head_of (quote_of came)).source ≡ (head_of came).source
 quoted_source came =
@@ -64,7 +71,7 @@ quoted_reply c id kind code came =
     ap (λ (source : ℕ). part_packets c.addr id source (error_message kind code (quote_of came)) (answer_mtu c))
     (quoted_source came)
     ∙ ap (λ (quote : List ℕ). part_packets c.addr id (head_of came).source
-    (message kind code (0 ∷ 0 ∷ 0 ∷ 0 ∷ quote)) (answer_mtu c)) (take-take 28 28 came (omega arith))
+    (message kind code (0 ∷ 0 ∷ 0 ∷ 0 ∷ quote)) (answer_mtu c)) (quoted_again came)
 
 -- ---- its identification
 

@@ -5,7 +5,7 @@ use Rattle.std.specs.List.{AllByRecursion as Each, cons_option}
 use Rattle.std.proofs.lemmas.List.{map-append}
 use Rattle.std.proofs.lemmas.List.Elements.{All-from_recursion, recursion_from_All, All-contains_itself, All-head, Contains-append_left, Contains-append_right, filter_map-append}
 use Rattle.flat_model.specs.Amounts.Weight.{Item}
-use Rattle.flat_model.specs.Machine.Event.{Transmit, Given, Comes, Done, Tick}
+use Rattle.flat_model.specs.Machine.Event.{IsEvent, Transmit, Given, Comes, Done, Tick}
 use Rattle.flat_model.specs.Machine.Ledger.{exact_ledger}
 use Rattle.flat_model.specs.Machine.State.{State, Socket, boot, socket_at}
 use Rattle.flat_model.specs.Runs.Run.{Turn, Leads}
@@ -17,16 +17,18 @@ use Rattle.flat_wire.specs.Wire.{packet_in, packet_out}
 use Rattle.flat_ether.specs.Claims.{is_claimed}
 use Rattle.flat_ether.specs.Ever.{step_by, turn_if, turn_of_act, turns_of_acts}
 use Rattle.flat_ether.specs.Frames.{body_of, kind_of}
-use Rattle.flat_ether.specs.Hosts.{HostAct, AreHostActs, Comes_in, Drained, Goes_out, Clock, Calls, CallsMachine, Asks_error, Host, ReceivesKind, IsHostAct, drained, error_of_socket, expired_keys, gives, gives_after, gives_claimed, gives_drained, gives_probe, host_up, is_to_us, or_drains, with_output_left}
+use Rattle.flat_ether.specs.Hosts.{HostAct, AreHostActs, Comes_in, Drained, Goes_out, Clock, Calls, CallsMachine, Asks_error, Host, ReceivesKind, IsHostAct, drained, error_of_socket, expired_keys, gives, gives_after, gives_claimed, gives_drained, gives_probe, host_up, is_to_us, makes_place, or_drains, with_output_left}
 use Rattle.flat_ether.specs.declared.error.NetFault.{NetFault}
 use Rattle.flat_model.specs.declared.errno.Errno.{Errno}
 use Rattle.flat_ether.specs.Laws.{AreSent, IsFrameSent, MakesTurns, arp_if, frame_out, frames_then, packet_if, packets_in, packets_to}
 use Rattle.flat_ether.specs.Links.{Gives, LinkState, answers_fate, gives_claim, gives_own, ignores, receives_arp, refuses, sends, takes_error, ticks}
+use Rattle.flat_ether.specs.Options.{plain}
 use Rattle.flat_ether.specs.declared.link.Link.{Link}
 use Rattle.flat_ether.specs.declared.link.FrameKind.{FrameKind}
 use Rattle.flat_ether.specs.declared.link.FrameKind.TheVariants.{Packet, Martian, Arp, Other}
 use Rattle.flat_ether.proofs.Arrived as Arrived
 use Rattle.flat_ether.proofs.Marked.{AreMarked, both_marked, mute_marked, none_marked, one_marked, then_marked}
+use Rattle.flat_ether.proofs.Plain.{plain_bytes, plain_short}
 use Rattle.flat_ether.proofs.Sent as Sent
 use Rattle.flat_ether.proofs.Turns.{then_leads, transmits, same_output, bytes_of_body, short_body}
 
@@ -225,13 +227,19 @@ module _ (c : Config) (l : Link) where
       here : Contains (f ∷ F) f
       here = contains_last [] f F
 
+      can_come : IsEvent (Comes (plain (body_of f)))
+      can_come = (plain_bytes (body_of f) (bytes_of_body f is.0), plain_short (body_of f) (short_body f is.1))
+
       wider : arp_if (kind_of c l.mac f) f ≡ None → Good (f ∷ F) (G ++ []) old.link
       wider e = same (f ∷ F) G old.link (Arrived.quiet_good c l F G f old.link good e)
 
       taken : (fate : Fate) → Good (f ∷ F) (G ++ []) old.link → (b : Bool)
-          → Good (f ∷ F) (G ++ []) (cond b (answers_fate (body_of f) fate old.link) old.link)
-      taken fate wide true = Sent.fate_good c l (f ∷ F) (G ++ []) f fate old.link wide here
-      taken fate wide false = wide
+          → Good (f ∷ F) (G ++ []) (cond b (answers_fate (body_of f) fate (makes_place (body_of f) old.link))
+          (makes_place (body_of f) old.link))
+      taken fate wide true =
+          Sent.fate_good c l (f ∷ F) (G ++ []) f fate (makes_place (body_of f) old.link)
+          (Sent.place_good c l (f ∷ F) (G ++ []) (body_of f) old.link wide) here
+      taken fate wide false = Sent.place_good c l (f ∷ F) (G ++ []) (body_of f) old.link wide
 
       still : (link : LinkState) → new ≡ record old { link = link } → Good (f ∷ F) (G ++ []) link
           → Makes F G (f ∷ F) old.machine new.machine new.link [] [] None
@@ -254,22 +262,23 @@ module _ (c : Config) (l : Link) where
           by : (s : FrameKind) → kind_of c l.mac f ≡ s → ReceivesKind s f old new
               → Makes F G (f ∷ F) old.machine new.machine new.link (packet_if s f) [] (turn_if s f)
           by Packet k h = record {
-            turns = record { event = Comes (body_of f); reply = Done } ∷ [];
+            turns = record { event = Comes (plain (body_of f)); reply = Done } ∷ [];
             leads = (
-              (bytes_of_body f is.0, short_body f is.1),
+              can_come,
               new.machine,
-              fated_step old.machine new.machine (body_of f) h.fate h.machine,
+              fated_step old.machine new.machine (plain (body_of f)) h.fate h.machine,
               refl,
             );
             in' = refl;
             good =
                 subst (Good (f ∷ F) (G ++ [])) (sym h.link)
-                (taken h.fate (wider (ap (λ (x : FrameKind). arp_if x f) k)) (is_to_us old.link f));
+                (taken h.fate (wider (ap (λ (x : FrameKind). arp_if x f) k))
+                (is_to_us (makes_place (body_of f) old.link) f));
             sent = tt;
             steps =
-                one_marked old.machine new.machine (record { event = Comes (body_of f); reply = Done })
-                (bytes_of_body f is.0, short_body f is.1)
-                (fated_step old.machine new.machine (body_of f) h.fate h.machine);
+                one_marked old.machine new.machine (record { event = Comes (plain (body_of f)); reply = Done })
+                can_come
+                (fated_step old.machine new.machine (plain (body_of f)) h.fate h.machine);
           }
           by Martian k h =
               still (refuses old.link) h (wider (ap (λ (x : FrameKind). arp_if x f) k))

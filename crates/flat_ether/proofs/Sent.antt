@@ -23,7 +23,9 @@ use Rattle.flat_model.specs.declared.address.Addr.{Addr}
 use Rattle.flat_ether.specs.Frames.{arp_bytes, arp_of, body_of, ether_broadcast, frame, is_arp, is_host_mac, kind_of, no_mac, same_mac}
 use Rattle.flat_ether.specs.Icmp.{answer_to, echo_message, echo_reply, error_for, error_message, error_reply, expired_error, is_answerable, is_first, is_no_protocol, is_ping, is_quote_of, quote_of, reflected}
 use Rattle.flat_ether.specs.Laws.{IsMade, IsReply, IsRoute, IsFrameSent, arp_if, last_given, is_arp_from, given_in}
-use Rattle.flat_ether.specs.Links.{Gives, WaitingPacket, LinkState, ages, neighbour_aged, answers_by, answers_dropped, answers_expired, answers_fate, answers_first, answers_now, answers_on, answers_with, asked_at, asks, asks_at, by_route, claim_frame, drops_first, counts_too_long, counts_expired, counts_icmp_dropped, counts_unreachable, first_ready, gives_answer, gives_claim, gives_held, gives_own, gives_reply, gives_request, is_resolvable, has_ip, holds_packet, is_answering, is_asked, is_busy, is_request_due, is_sound_arp, keeps_answer, keeps_first, limits, makes_way, mac_known, mac_in, adds_error_if, adds_error, takes_at, takes_error, mac_of, or_then, queues_reply, neighbour_place, put, puts_answer, puts_echo, puts_error, quote_in, quote_for, quote_with, ready_or, replies_to, reports_expired, sends, sends_answer, sends_at, sends_held, neighbour_stays, takes_place, ticks, to_hop, unknown, route_of, route_to}
+use Rattle.flat_ether.specs.Links.{Gives, WaitingPacket, LinkState, ages, neighbour_aged, answers_by, answers_dropped, answers_expired, answers_fate, answers_first, answers_now, answers_on, answers_with, asked_at, asks, asks_at, by_route, claim_frame, drops_first, counts_too_long, counts_expired, counts_icmp_dropped, counts_unreachable, first_ready, gives_answer, gives_claim, gives_held, gives_own, gives_reply, gives_request, is_resolvable, has_ip, holds_packet, is_answering, is_asked, is_busy, is_request_due, is_sound_arp, keeps_answer, keeps_first, limits, makes_way, mac_known, mac_in, adds_error_if, adds_error, takes_at, takes_error, mac_of, or_then, queues_reply, neighbour_place, put, puts_answer, puts_echo, puts_error, quote_in, quote_for, quote_with, ready_or, replies_to, reports_expired, sends, sends_answer, sends_at, sends_held, neighbour_stays, takes_place, ticks, to_hop, unknown, route_of, route_to, with_place}
+use Rattle.flat_ether.specs.Hosts.{makes_place}
+use Rattle.flat_ether.specs.Options.{has_options}
 use Rattle.flat_ether.specs.Routes.{is_neighbour, route}
 use Rattle.flat_ether.specs.declared.answer.Answer.{Answer}
 use Rattle.flat_ether.specs.declared.answer.Answer.TheVariants.{Echo, Error, Silence}
@@ -206,18 +208,21 @@ module _ (c : Config) (l : Link) (F G : List (List ℕ)) where
     route = route;
   })
 
+  free_good : (s : LinkState) → IsGood s → IsGood (with_place s)
+  free_good s good =
+      by_test IsGood (nat_lt (length s.held) 8) s (drops_first s) good
+      (with_parts good good.neighbours good.distinct good.replies (each-drop IsWaiting 1 s.held good.held)
+      good.answered)
+
+  pub place_good : (came : List ℕ) (s : LinkState) → IsGood s → IsGood (makes_place came s)
+  place_good came s good = by_test IsGood (has_options came) (with_place s) s (free_good s good) good
+
   holds_good : (hop : ℕ) (packet : List ℕ) (s : LinkState) → IsGood s
       → IsWaiting (record { hop = hop; packet = packet }) → IsGood (holds_packet hop packet s)
   holds_good hop packet s good is =
       by_test IsGood (nat_lt 1500 (length packet)) (counts_too_long s)
-      (takes_place hop packet (cond (nat_lt (length s.held) 8) s (drops_first s))) good
-      (takes (cond (nat_lt (length s.held) 8) s (drops_first s)) room)
+      (takes_place hop packet (with_place s)) good (takes (with_place s) (free_good s good))
     where
-      room : IsGood (cond (nat_lt (length s.held) 8) s (drops_first s))
-      room = by_test IsGood (nat_lt (length s.held) 8) s (drops_first s) good
-          (with_parts good good.neighbours good.distinct good.replies (each-drop IsWaiting 1 s.held good.held)
-          good.answered)
-
       takes : (t : LinkState) → IsGood t → IsGood (takes_place hop packet t)
       takes t g =
           with_parts g g.neighbours g.distinct g.replies

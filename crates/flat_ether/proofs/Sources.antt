@@ -1,6 +1,6 @@
 -- The packets that a machine gives to the link have one of its addresses as their source.
 use Rattle.std.proofs.Common.{◌≡◌, ℕ, ◌+◌, ◌*◌, ◌/◌, ◌%◌, Bool, true, false, List, [], ◌∷◌, ◌++◌, length, map, take, drop, refl, sym, ap, ◌∙◌, subst, eq-eqb, arith, Option, Some, None, cond, inl, inr}
-use Rattle.std.specs.Prelude.{◌==◌, ◌||◌, filter_map, unwrap_or}
+use Rattle.std.specs.Prelude.{◌==◌, ◌||◌, filter_map, slice_index, unwrap_or}
 use Rattle.std.specs.List.{AllByRecursion as Each, cons_option}
 use Rattle.params.specs.declared.TheConstants.{OUTPUT_QUEUE_PACKETS}
 use Rattle.flat_model.specs.Amounts.Weight.{Weight, Item, ◌⊕◌, nothing}
@@ -24,7 +24,7 @@ use Rattle.flat_model.specs.Runs.Run.{Turn, Leads}
 use Rattle.flat_model.specs.Runs.Consistent.{IsConsistent, IsSocket}
 use Rattle.flat_model.specs.declared.address.Addr.{Addr}
 use Rattle.flat_model.specs.declared.config.Config.{Config}
-use Rattle.flat_model.proofs.Laws.{by_choice, by_case, each-append, each-find, each-take, boot_is_consistent, step_is_consistent}
+use Rattle.flat_model.proofs.Laws.{by_choice, by_case, each-append, each-find, each-take, each-weaker, boot_is_consistent, step_is_consistent}
 use Rattle.flat_wire.specs.Wire.{given, packet_out}
 use Rattle.flat_ether.specs.Laws.{IsOwn}
 
@@ -172,7 +172,7 @@ pub four : (n : ℕ)
     → 65536 * (256 * (n / 65536 / 256) + n / 65536 % 256) + (256 * (n % 65536 / 256) + n % 65536 % 256) ≡ n
 four n = omega arith
 
-source_read : (h : Head) (t : List ℕ) → u32_at 12 (packet h t) ≡ h.source
+pub source_read : (h : Head) (t : List ℕ) → u32_at 12 (packet h t) ≡ h.source
 unfolding packet
 source_read h t = four h.source
 
@@ -202,26 +202,34 @@ own_source c me to is = go me.local refl
     go (Some ip) h = is.local ip h
     go None h = default (to == loopback)
 
+-- a packet of the host: an address of the host is its source, and its header has five words
+abbrev pub IsOwnPlain : Config → List ℕ → Type 0
+IsOwnPlain c packet = IsOwn c packet × (slice_index packet 0 ≡ 69)
+
+first_read : (h : Head) (t : List ℕ) → slice_index (packet h t) 0 ≡ 69
+unfolding packet
+first_read h t = refl
+
 own_items : (c : Config) (entries : List LayoutEntry) (f : Part → List ℕ) (parts : List Part)
-    → ((p : Part) → IsOwn c (f p))
-    → Each {X = Item} (λ item. IsOwn c item.bytes) (items entries f parts)
+    → ((p : Part) → IsOwnPlain c (f p))
+    → Each {X = Item} (λ item. IsOwnPlain c item.bytes) (items entries f parts)
 own_items c entries f [] own = tt
 own_items c entries f (p ∷ later) own = (own p, go later)
   where
-    go : (ps : List Part) → Each {X = Item} (λ item. IsOwn c item.bytes)
+    go : (ps : List Part) → Each {X = Item} (λ item. IsOwnPlain c item.bytes)
         (map (λ q. record { bytes = f q; weight = later_weight entries q }) ps)
     go [] = tt
     go (q ∷ qs) = (own q, go qs)
 
--- The host's state: its packets that wait have an address of the host as their source.
+-- The host's state: its packets that wait are packets of the host.
 pub record IsSourced (c : Config) (s : State) : Type 0 where
   pub consistent : IsConsistent s
   pub config : s.config ≡ c
-  pub output : Each (λ (item : Item). IsOwn c item.bytes) s.output
+  pub output : Each (λ (item : Item). IsOwnPlain c item.bytes) s.output
 
 module _ (c : Config) (old new : State) (reply : Reply) (k : IsSourced c old) where
   abbrev Own : List Item → Type 0
-  Own = Each (λ (item : Item). IsOwn c item.bytes)
+  Own = Each (λ (item : Item). IsOwnPlain c item.bytes)
 
   same : As c old.output new → (new.config ≡ c) × Own new.output
   same still = (still.0, subst Own (sym still.1) k.output)
@@ -248,12 +256,15 @@ module _ (c : Config) (old new : State) (reply : Reply) (k : IsSourced c old) wh
       subst (λ (cc : Config). is_ours c (source_for cc me to.ip) ≡ true) (sym at.0) (own_source c me to.ip is) in
       let all : Own out = own_items c (entries_on clusters (sent (length bytes))) (packet_for x)
       (parts_of named.config x)
-      (λ p. subst (λ n. is_ours c n ≡ true)
-      (sym (source_read (head_for x p) (take p.size (drop p.offset (datagram x))))) own) in
+      (λ p. (
+        subst (λ n. is_ours c n ≡ true) (sym (source_read (head_for x p) (take p.size (drop p.offset (datagram x)))))
+            own,
+        first_read (head_for x p) (take p.size (drop p.offset (datagram x))),
+      )) in
       let more : Own link = looped_or_out (is_looped named.config to.ip) out all in (
         end.0,
-        subst Own (sym end.1) (each-take (λ (item : Item). IsOwn c item.bytes) OUTPUT_QUEUE_PACKETS
-            (old.output ++ link) (each-append (λ (item : Item). IsOwn c item.bytes) old.output link k.output more)),
+        subst Own (sym end.1) (each-take (λ (item : Item). IsOwnPlain c item.bytes) OUTPUT_QUEUE_PACKETS
+            (old.output ++ link) (each-append (λ (item : Item). IsOwnPlain c item.bytes) old.output link k.output more)),
       )
 
   sends : (fd : ℕ) (to : Option Addr) (bytes : List ℕ) → Step old (Send fd to bytes) reply new
@@ -312,7 +323,7 @@ boot_sourced c is = record { consistent = boot_is_consistent c is; config = refl
 pub goes_on_sourced : (c : Config) (old new : State) (event : Event) (reply : Reply) → IsSourced c old → IsEvent event
     → Step old event reply new → IsSourced c new
 goes_on_sourced c old new event reply k is step =
-    let on : (new.config ≡ c) × Each (λ (item : Item). IsOwn c item.bytes) new.output =
+    let on : (new.config ≡ c) × Each (λ (item : Item). IsOwnPlain c item.bytes) new.output =
     step_sourced c old new reply k event step in
     record {
       consistent = step_is_consistent old new event reply k.consistent is step;
@@ -367,7 +378,13 @@ given_each c P holds old new (turn ∷ turns) k (is, mid, step, later) =
     (gave P old mid turn.reply (holds old k) turn.event step)
     (given_each c P holds mid new turns (goes_on_sourced c old mid turn.event turn.reply k is step) later)
 
--- each packet that it gave has one of its addresses as its source
+-- each packet that it gave is a packet of the host
+pub given_plain : (c : Config) (old new : State) (turns : List Turn) → IsSourced c old
+    → Leads exact_ledger old turns new → Each (IsOwnPlain c) (filter_map packet_out turns)
+given_plain c = given_each c (IsOwnPlain c) (λ s k. k.output)
+
+-- so it has one of its addresses as its source
 pub given_own : (c : Config) (old new : State) (turns : List Turn) → IsSourced c old → Leads exact_ledger old turns new
     → Each (IsOwn c) (filter_map packet_out turns)
-given_own c = given_each c (IsOwn c) (λ s k. k.output)
+given_own c old new turns k h =
+    each-weaker (λ packet is. is.0) (filter_map packet_out turns) (given_plain c old new turns k h)

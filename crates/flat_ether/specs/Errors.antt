@@ -7,7 +7,7 @@ use Rattle.flat_model.specs.Packets.Header.{head_of, u16_at, u32_at}
 use Rattle.flat_model.specs.Machine.Arrival.{is_fragment}
 use Rattle.flat_model.specs.declared.address.Addr.{Addr}
 use Rattle.flat_model.specs.declared.config.Config.{Config}
-use Rattle.flat_ether.specs.Icmp.{carried_in}
+use Rattle.flat_ether.specs.Options.{carried_in}
 use Rattle.flat_ether.specs.declared.error.NetFault.{NetFault}
 use Rattle.flat_ether.specs.declared.error.NetFault.TheVariants.{Refused, Unreachable}
 use Rattle.flat_ether.specs.declared.error.SocketError.{SocketError}

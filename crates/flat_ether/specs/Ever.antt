@@ -9,6 +9,7 @@ use Rattle.flat_wire.specs.Ever.{AreNear, IsMadeBySend, IsShortSend}
 use Rattle.flat_wire.specs.Trail.{PassedStep}
 use Rattle.flat_wire.specs.Wire.{ComesFrom, packet_in}
 use Rattle.flat_ether.specs.Frames.{body_of, kind_of}
+use Rattle.flat_ether.specs.Options.{plain}
 use Rattle.flat_ether.specs.Hosts.{HostAct, AreHostActs, IsHostAct, Host, host_up, Comes_in, Goes_out, Clock, Calls, Asks_error}
 use Rattle.flat_ether.specs.Laws.{IsInFrames, frames_out, packets_to}
 use Rattle.flat_ether.specs.declared.link.Link.{Link}
@@ -32,7 +33,7 @@ acts_passed passed = map (λ (p : PassedAct). p.act) passed
 
 -- the turn of the machine when a frame of this kind arrives
 abbrev pub turn_if : FrameKind → List ℕ → Option Turn
-turn_if Packet f = Some (record { event = Comes (body_of f); reply = Done })
+turn_if Packet f = Some (record { event = Comes (plain (body_of f)); reply = Done })
 turn_if Martian f = None
 turn_if Arp f = None
 turn_if Other f = None

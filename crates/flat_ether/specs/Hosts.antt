@@ -14,7 +14,8 @@ use Rattle.flat_ether.specs.Frames.{body_of, mac_at, same_mac, kind_of}
 use Rattle.flat_ether.specs.declared.error.NetFault.{NetFault}
 use Rattle.flat_model.specs.declared.errno.Errno.{Errno}
 use Rattle.flat_model.specs.declared.errno.Errno.TheVariants.{BadDescriptor}
-use Rattle.flat_ether.specs.Links.{LinkState, Gives, answers_fate, gives_claim, gives_own, receives_arp, ignores, link_up, refuses, sends, takes_error, ticks}
+use Rattle.flat_ether.specs.Options.{has_options, plain}
+use Rattle.flat_ether.specs.Links.{LinkState, Gives, answers_fate, gives_claim, gives_own, receives_arp, ignores, link_up, refuses, sends, takes_error, ticks, with_place}
 use Rattle.flat_ether.specs.declared.link.Link.{Link}
 use Rattle.flat_ether.specs.declared.link.FrameKind.{FrameKind}
 use Rattle.flat_ether.specs.declared.link.FrameKind.TheVariants.{Packet, Martian, Arp, Other}
@@ -38,11 +39,16 @@ is_to_us s f = same_mac (mac_at 0 f) s.link.mac
 abbrev pub answers : List ℕ → Fate → LinkState → LinkState
 answers f fate s = if is_to_us s f then answers_fate (body_of f) fate s else s
 
--- a packet is given to the machine as it is in the frame, and the link replies by what became of it
+-- a packet is copied without its options to the last place for packets that wait: if that's in use, the one that has
+-- waited longest is dropped
+abbrev pub makes_place : List ℕ → LinkState → LinkState
+makes_place came s = if has_options came then with_place s else s
+
+-- a packet is given to the machine without its options, and the link replies to what came by what became of it
 pub record TakesPacket (f : List ℕ) (old new : Host) : Type 0 where
   pub fate : Fate
-  pub machine : Fated old.machine (body_of f) fate new.machine
-  pub link : new.link ≡ answers f fate old.link
+  pub machine : Fated old.machine (plain (body_of f)) fate new.machine
+  pub link : new.link ≡ answers f fate (makes_place (body_of f) old.link)
 
 abbrev pub ReceivesKind : FrameKind → List ℕ → Host → Host → Type 0
 ReceivesKind Packet f old new = TakesPacket f old new

@@ -12,6 +12,7 @@ use Rattle.flat_model.specs.Machine.Calls.{is_ours}
 use Rattle.flat_wire.specs.Wire.{ComesFrom, IsAnswered, WasSent, ip_source, packet_in, packet_out}
 use Rattle.flat_ether.specs.Frames.{arp_bytes, arp_of, body_of, ether_broadcast, frame, is_host_mac, kind_of, mac_at, no_mac}
 use Rattle.flat_ether.specs.Icmp.{echo_reply, error_reply}
+use Rattle.flat_ether.specs.Options.{plain}
 use Rattle.flat_ether.specs.Hosts.{HostAct, AreHostActs, Host, host_up, Comes_in, Goes_out, Clock, Calls, Asks_error}
 use Rattle.flat_ether.specs.Links.{is_sound_arp, route_to}
 use Rattle.flat_model.specs.declared.config.Config.{Config}
@@ -25,9 +26,9 @@ use Rattle.flat_ether.specs.declared.sizes.TheConstants.{ETHER_TYPE_ARP, ETHER_T
 
 -- ---- what arrives
 
--- the packet of a frame of this kind
+-- the packet of a frame of this kind, without its options
 abbrev pub packet_if : FrameKind → List ℕ → List (List ℕ)
-packet_if Packet f = body_of f ∷ []
+packet_if Packet f = plain (body_of f) ∷ []
 packet_if Martian f = []
 packet_if Arp f = []
 packet_if Other f = []

@@ -1,4 +1,5 @@
 pub mod Frames
+pub mod Options
 pub mod Routes
 pub mod Settings
 pub mod Claims

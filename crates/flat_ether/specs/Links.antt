@@ -207,12 +207,16 @@ abbrev pub drops_first : LinkState → LinkState
 drops_first s =
     record s { held = drop 1 s.held; tallies = record s.tallies { held_dropped = more_by 1 s.tallies.held_dropped } }
 
+-- a place is free: if need be, that of the one that has waited longest
+abbrev pub with_place : LinkState → LinkState
+with_place s = if nat_lt (length s.held) HELD_PACKETS then s else drops_first s
+
 -- a packet waits; if no place is free, it takes that of the one that has waited longest
 abbrev pub holds_packet : ℕ → List ℕ → LinkState → LinkState
 holds_packet hop packet s =
     if nat_lt ETHER_MTU (length packet)
     then counts_too_long s
-    else takes_place hop packet (if nat_lt (length s.held) HELD_PACKETS then s else drops_first s)
+    else takes_place hop packet (with_place s)
 
 -- one whose hardware address isn't known, and for which a request is due
 abbrev pub unknown : ℕ → Neighbour

@@ -71,9 +71,22 @@ pub const FRAGMENT_NEEDED: u8 = 4;
 pub const TIME_EXCEEDED: u8 = 11;
 /// Its code "fragment reassembly time exceeded" (RFC 792, "Time Exceeded Message").
 pub const REASSEMBLY_EXCEEDED: u8 = 1;
+/// The most bytes that an error quotes of a packet: a header of 15 words, and 8 bytes (RFC 792, "Destination
+/// Unreachable Message").
+pub const QUOTE: usize = 68;
 /// Bytes of an ICMP error with the header and the ports of a datagram: 8, 20 and 8 (RFC 792, "Destination Unreachable
 /// Message").
 pub const ICMP_ERROR: u32 = 36;
+/// The option that ends the list of options (RFC 791, section 3.1, "Options").
+pub const OPTION_END: u8 = 0;
+/// The option that does nothing (RFC 791, section 3.1, "Options").
+pub const OPTION_NONE: u8 = 1;
+/// The option "record route" (RFC 791, section 3.1, "Options").
+pub const OPTION_RECORD_ROUTE: u8 = 7;
+/// The option "loose source and record route" (RFC 791, section 3.1, "Options").
+pub const OPTION_LOOSE_ROUTE: u8 = 131;
+/// The option "strict source and record route" (RFC 791, section 3.1, "Options").
+pub const OPTION_STRICT_ROUTE: u8 = 137;
 /// How many errors are kept until a call fetches them (this project's own).
 pub const SOCKET_ERRORS: usize = 8;
 
@@ -88,7 +101,9 @@ pub const fn numbers()
         × (ANNOUNCE_TICKS ≡ 2 * 2 + 1) × (DEFEND_TICKS ≡ 2 * 10 + 1) }
     ensures icmp { (PROTOCOL_ICMP ≡ 1) × (ICMP_HEADER ≡ 8) × (ECHO_REPLY ≡ 0) × (ECHO_REQUEST ≡ 8)
         × (UNREACHABLE ≡ 3) × (UNREACHABLE_PROTOCOL ≡ 2) × (UNREACHABLE_PORT ≡ 3) × (FRAGMENT_NEEDED ≡ 4)
-        × (TIME_EXCEEDED ≡ 11) × (REASSEMBLY_EXCEEDED ≡ 1) × (ICMP_ERROR ≡ 8 + 20 + 8) }
+        × (TIME_EXCEEDED ≡ 11) × (REASSEMBLY_EXCEEDED ≡ 1) × (QUOTE ≡ 15 * 4 + 8) × (ICMP_ERROR ≡ 8 + 20 + 8) }
+    ensures options { (OPTION_END ≡ 0) × (OPTION_NONE ≡ 1) × (OPTION_RECORD_ROUTE ≡ 7)
+        × (OPTION_LOOSE_ROUTE ≡ 128 + 3) × (OPTION_STRICT_ROUTE ≡ 128 + 9) }
     ensures limits { (NEIGHBOURS ≡ 32) × (HELD_PACKETS ≡ 8) × (PENDING_REPLIES ≡ 8) × (FIRST_FRAGMENTS ≡ 2)
         × (EXPIRED_DATAGRAMS ≡ 8) × (SOCKET_ERRORS ≡ 8) × (ERRORS_A_TICK ≡ 10) }
 {}

@@ -275,4 +275,4 @@ none_from c v k configs is fine = go (slice_get v.configs k) (slice_get v.stacks
         never l m = absurd (omega (arith, fine.even))
     go (Some d) (Some s) e f =
         each-map_to (λ bytes. ¬ ComesFrom c.addr bytes) (λ (item : Item). item.bytes)
-        (λ item own. not_from c d item.bytes is (configs d e) own) (state_of s).output (fine.sourced k d s e f).output
+        (λ item own. not_from c d item.bytes is (configs d e) own.0) (state_of s).output (fine.sourced k d s e f).output

@@ -1,5 +1,5 @@
-use Rattle.std.proofs.Common.{ℕ, ◌+◌, List, ◌++◌, take, ap, ◌∙◌}
-use Rattle.flat_ether.specs.Icmp.{message, reflected}
+use Rattle.std.proofs.Common.{ℕ, ◌+◌, List, ◌++◌, length, min, take, ap, ◌∙◌}
+use Rattle.flat_ether.specs.Icmp.{message, quote_size, reflected}
 use Rattle.ether_host.proofs.Rooms.{quoted_front}
 use Rattle.ether_host.proofs.answer.error_reply.Goals as goal
 
@@ -11,4 +11,5 @@ returns c =
     c.message_head-front.ensures.is
     ∙ ap (λ (r : List ℕ). reflected c.args.config.now c.args.id c.args.came.now (message c.args.kind c.args.code r))
     (ap (take (4 + c.min-quoted.result)) c.put_bytes.ensures
-    ∙ quoted_front c.args.came.now _ c.min-quoted.result c.min-quoted.ensures)
+    ∙ quoted_front c.args.came.now _ c.min-quoted.result (quote_size c.args.came.now)
+    (c.min-quoted.ensures ∙ ap (min (length c.args.came.now)) c.quote_size.ensures.is))
