@@ -1,11 +1,12 @@
 """The bytes of flash and memory that the board's programs take: at most those below, and those of docs/memory.md and
-docs/device.md."""
+docs/device.md. The bytes of the library for each processor: those of docs/memory.md."""
 import re
 import subprocess
 
 import pytest
 
 from tests.boards.conftest import BOARD
+from tests.boards.test_core import TARGETS
 from tests.cases import TOP
 from tools import llvm
 
@@ -65,3 +66,11 @@ def test_a_folder_without_a_library_is_named_at_once(tmp_path):
     done = subprocess.run([BOARD / "build", tmp_path, tmp_path / "to"], capture_output=True, text=True, check=False)
     said = f"portable/board/build: there is no library in {tmp_path}: portable/core cortex-m3 {tmp_path} makes it\n"
     assert (done.returncode, done.stderr, [*(tmp_path / "to").iterdir()]) == (2, said, [])
+
+
+@pytest.mark.needs("objdump")
+@pytest.mark.parametrize("target", TARGETS)
+def test_a_library_has_the_size_of_the_page(target, core_for):
+    (told,) = rows((TOP / "docs/memory.md").read_text(encoding="utf-8"))[f"`{target}`"]
+    size = int(llvm.run("size", "-t", core_for(target) / "libbsdudp.a").splitlines()[-1].split()[0])
+    assert abs(told - size) <= NEAR * size, f"{told:,} on the page, now {size:,}"
