@@ -234,9 +234,9 @@ BY_SERIAL, ALONE = [*MACHINE, "stdio"], [*MACHINE, "null"]
 # The most of the columns of bench/board's table, for each level: the library, the echo's text, data, bss and call
 # stack, and the instructions of three lengths.
 COSTS = {
-    "--small": [42_600, 17_500, 16, 52_500, 830, 2_480, 7_630, 22_100],
-    "-Os": [48_600, 22_600, 16, 52_500, 900, 1_785, 6_980, 21_500],
-    "-O2": [77_000, 42_500, 16, 52_500, 830, 1_545, 6_550, 19_400],
+    "--small": [43_100, 17_500, 16, 52_500, 830, 2_480, 7_630, 22_100],
+    "-Os": [49_200, 22_600, 16, 52_500, 900, 1_785, 6_980, 21_500],
+    "-O2": [79_800, 42_500, 16, 52_500, 830, 1_545, 6_550, 19_400],
 }
 DATA = 2
 on_board = pytest.mark.needs("arm-none-eabi", "qemu-arm")
