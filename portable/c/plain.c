@@ -24,13 +24,29 @@ static uint32_t word_at(const uint8_t *at)
     return *(const word *)(const void *)at;
 }
 
+static uint32_t half_at(const uint8_t *at)
+{
+    return at[0] + 256u * at[1];
+}
+
 #ifdef __riscv /* has no carry flag */
+static uint64_t four_words(const uint8_t *bytes)
+{
+    return (uint64_t)word_at(bytes) + word_at(bytes + 4) + word_at(bytes + 8) + word_at(bytes + 12);
+}
+
 /* The sum of the words up to the last 16 bytes of which some are missing. Moves to these. */
 static uint64_t sum_words(const uint8_t **bytes, uint32_t *n)
 {
     uint64_t sum = 0;
+    /*@ loop invariant *n <= \at(*n, Pre) && *bytes == \at(*bytes, Pre) + (\at(*n, Pre) - *n);
+        loop invariant sum <= 4294967296 * (\at(*n, Pre) - *n);
+        loop invariant counts_as(sum, total(\at(*bytes, Pre), 0, \at(*n, Pre)) -
+            total(\at(*bytes, Pre), \at(*n, Pre) - *n, \at(*n, Pre)));
+        loop assigns sum, *n, *bytes;
+        loop variant *n; */
     for (; *n >= 16; *n -= 16, *bytes += 16)
-        sum += (uint64_t)word_at(*bytes) + word_at(*bytes + 4) + word_at(*bytes + 8) + word_at(*bytes + 12);
+        sum += four_words(*bytes);
     return sum;
 }
 #else
@@ -54,22 +70,37 @@ static uint32_t add_words(uint32_t *sum, const uint8_t *bytes, uint32_t carry)
     return carry;
 }
 
+static uint64_t joined(uint32_t low, uint32_t high)
+{
+    const uint64_t sum = (uint64_t)high * 4294967296 + low;
+    //@ assert sum == low + 4294967296 * high;
+    //@ assert \forall integer b; counts_as(low + high, b) ==> counts_as(low + 4294967296 * high, b);
+    return sum;
+}
+
 /* The sum of the words up to the last 16 bytes of which some are missing. Moves to these. */
 static uint64_t sum_words(const uint8_t **bytes, uint32_t *n)
 {
     uint32_t low = 0, high = 0;
     /*@ loop invariant *n <= \at(*n, Pre) && *bytes == \at(*bytes, Pre) + (\at(*n, Pre) - *n);
         loop invariant high <= \at(*n, Pre) - *n;
+        loop invariant counts_as(low + high, total(\at(*bytes, Pre), 0, \at(*n, Pre)) -
+            total(\at(*bytes, Pre), \at(*n, Pre) - *n, \at(*n, Pre)));
         loop assigns low, high, *n, *bytes;
         loop variant *n; */
-    for (; *n >= 32; *n -= 32, *bytes += 32)
+    for (; *n >= 32; *n -= 32, *bytes += 32) {
+        /*@ assert total(\at(*bytes, Pre), \at(*n, Pre) - *n, \at(*n, Pre)) ==
+            four(*bytes) + total(\at(*bytes, Pre), \at(*n, Pre) - *n + 16, \at(*n, Pre)); */
         high += add_words(&low, *bytes + 16, add_words(&low, *bytes, 0));
+    }
     if (*n >= 16) {
         high += add_words(&low, *bytes, 0);
         *n -= 16;
         *bytes += 16;
     }
-    return (uint64_t)high * 4294967296 + low;
+    /*@ assert counts_as(low + high, total(\at(*bytes, Pre), 0, \at(*n, Pre)) -
+        total(\at(*bytes, Pre), \at(*n, Pre) - *n, \at(*n, Pre))); */
+    return joined(low, high);
 }
 #endif
 
@@ -83,6 +114,7 @@ uint64_t bsdudp_plain_sum(const uint8_t *bytes, uint64_t len)
         sum = sum_words(&bytes, &n);
         /*@ loop invariant n <= len && bytes == \at(bytes, Pre) + (len - n);
             loop invariant sum <= 4294967296 * (len + len - n) + 4294967295;
+            loop invariant counts_as(sum, total(\at(bytes, Pre), 0, len) - total(\at(bytes, Pre), len - n, len));
             loop assigns n, bytes, sum;
             loop variant n; */
         for (; n >= 4; n -= 4, bytes += 4)
@@ -90,10 +122,11 @@ uint64_t bsdudp_plain_sum(const uint8_t *bytes, uint64_t len)
     }
     /*@ loop invariant n <= len && bytes == \at(bytes, Pre) + (len - n);
         loop invariant sum <= 4294967296 * (len + len - n) + 4294967295;
+        loop invariant counts_as(sum, total(\at(bytes, Pre), 0, len) - total(\at(bytes, Pre), len - n, len));
         loop assigns n, bytes, sum;
         loop variant n; */
     for (; n >= 2; n -= 2, bytes += 2)
-        sum += bytes[0] + 256u * bytes[1];
+        sum += half_at(bytes);
     return n == 0 ? sum : sum + bytes[0];
 }
 

@@ -69,7 +69,7 @@ PARTS = {
 
 
 class Proof(NamedTuple):
-    """A file for WP, the functions whose contracts it proves, and options."""
+    """A file for WP, the functions whose contracts it proves, or "" for lemmas, and options."""
 
     source: str
     functions: str
@@ -86,8 +86,13 @@ PROOFS = {
                        "dhcp_len", "reader_contracts.h"),
     "coap_parse": Proof("eva/coap_parse.c", "add_segment,take_option,extend,parse,is_path", ""),  # which includes coap.c
     "tftp_request": Proof("examples/tftp.c", OF_TFTP, "tftp_contracts.h"),
-    "plain": Proof("../portable/c/plain.c", "bsdudp_plain_sum,sum_words,add_words,add_carrying,bsdudp_plain_fold,"
-                   "bsdudp_plain_before,bsdmove", "plain_contracts.h", ["-wp-model", "Typed+cast", "-wp-no-filter"]),
+    "plain": Proof("../portable/c/plain.c", "bsdudp_plain_sum,sum_words,joined,add_words,add_carrying,half_at,"
+                   "bsdudp_plain_fold,bsdudp_plain_before,bsdmove", "plain_contracts.h",
+                   ["-wp-model", "Typed+cast", "-wp-no-filter"]),
+    "plain_riscv": Proof("../portable/c/plain.c", "sum_words,four_words", "plain_contracts.h",
+                         ["-wp-model", "Typed+cast", "-wp-no-filter", "-cpp-extra-args=-D__riscv"]),
+    "plain_lemmas": Proof("../portable/c/plain.c", "", "plain_contracts.h",
+                          ["-wp-prop", "@lemma", "-cpp-extra-args=-DLEMMAS"]),
 }  # fmt: skip
 # Sources that a file of capi/eva includes; where is kept what passed.
 INCLUDED = ["src/boot.c", "examples/coap.c"]
@@ -146,7 +151,8 @@ def found_by_eva(capi: pathlib.Path, core: pathlib.Path, name: str, machine: str
 def found_by_wp(capi: pathlib.Path, env: dict[str, str], name: str) -> list[str]:
     """Returns the goals that aren't proved."""
     it = PROOFS[name]
-    words = ["-machdep", "gcc_x86_64", it.source, "-wp", "-wp-rte", "-wp-fct", it.functions, "-wp-prover", "cvc4"]
+    words = ["-machdep", "gcc_x86_64", it.source, "-wp", "-wp-rte", "-wp-prover", "cvc4"]
+    words += ["-wp-fct", it.functions] * bool(it.functions)
     words += ["-wp-timeout", "60", "-wp-no-pruning", "-wp-no-ground"]  # with these two it takes twice as long
     said = frama_c(capi, it.contracts, *words, *it.options, env=env)
     proved = re.search(r"Proved goals: +(\d+) / (\d+)", said)
@@ -214,12 +220,13 @@ def test_every_call_is_tried():
 PLANTED = {
     "a sender that is NULL": ("shell", "src/bsdudp.c", "buffer, len, from != NULL ? from : &ignored);\n}\n\nint bsdudp_peek",
                               "buffer, len, from);\n}\n\nint bsdudp_peek"),
-    "the tick of a link that isn't there": ("shell", "src/bsdudp.c", "s->tick_link != NULL ? s->tick_link(s) : answer",
-                                            "answer == 0 ? s->tick_link(s) : answer"),
+    "the tick of a link that isn't there": ("shell", "src/bsdudp.c", "return s->tick_link != NULL ? s->tick_link(s) :",
+                                            "return s->core.live != 0 ? s->tick_link(s) :"),
     "counters that weren't read": ("shell", "src/composed.c", "if (answer == 0)\n        *value = counted",
                                    "*value = counted"),
     "a range without a port": ("shell", "src/composed.c", "(first == 0 || count == 0)", "first == 0"),
-    "a neighbour that wasn't read": ("shell", "src/ether.c", "if (answer < 0)\n        return answer_of(s, answer);", ""),
+    "a neighbour that wasn't read": ("shell", "src/ether.c", "return answer_of(s, answer);\n    neighbour->",
+                                    "answer_of(s, answer);\n    neighbour->"),
     "a seventh byte of an address": ("shell", "src/ether.c", "at < 4; at++", "at < 5; at++"),
     "a cause behind the last one": ("shell", "src/names.c", "which < BSDUDP_COUNTERS ? causes",
                                     "which <= BSDUDP_COUNTERS ? causes"),
@@ -262,7 +269,13 @@ PLANTED = {
     "a carry that is lost": ("plain", "../portable/c/plain.c", "third = second % 65536 + second / 65536",
                              "third = second % 65536"),
     "a carry that is lost within": ("plain", "../portable/c/plain.c", "*carry = first | second", "*carry = first"),
-    "a word that is added twice": ("plain", "../portable/c/plain.c", "word_at(bytes + 8)", "word_at(bytes + 4)"),
+    "a word that is added twice": ("plain", "../portable/c/plain.c", "*sum, word_at(bytes + 8)",
+                                   "*sum, word_at(bytes + 4)"),
+    "a carry that isn't counted": ("plain", "../portable/c/plain.c", "high += add_words(&low, *bytes, 0)",
+                                   "add_words(&low, *bytes, 0)"),
+    "a half that is swapped": ("plain", "../portable/c/plain.c", "at[0] + 256u * at[1]", "at[1] + 256u * at[0]"),
+    "a last byte that is lost": ("plain", "../portable/c/plain.c", "return n == 0 ? sum : sum + bytes[0]",
+                                 "return sum"),
     "a sum behind its bytes": ("plain", "../portable/c/plain.c", "*n >= 32; *n -= 32", "*n >= 16; *n -= 32"),
     "a move down that overlaps": ("plain", "../portable/c/plain.c", "above >= len && below >= len", "above >= len"),
     "a port beside": ("plain", "../portable/c/plain.c", "k < 16 && from[k]", "k < 15 && from[k]"),
@@ -273,6 +286,11 @@ PLANTED = {
     "a path that begins alike": ("coap_parse", "examples/coap.c", "return i == it->path_len && path[i] == 0;",
                                  "return i == it->path_len;"),
 }  # fmt: skip
+
+
+def test_mistakes_apply():
+    files = {file: (TOP / "capi" / file).read_text(encoding="utf-8") for _, file, _, _ in PLANTED.values()}
+    assert [mistake for mistake, (_, file, old, _) in PLANTED.items() if files[file].count(old) != 1] == []
 
 
 @WP
