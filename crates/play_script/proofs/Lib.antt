@@ -7,6 +7,7 @@ mod FitLemmas
 mod RunLemmas
 mod AnswerLemmas
 mod SettingLemmas
+mod StillLemmas
 mod PlayLemmas
 mod TurnLemmas
 pub mod Laws

@@ -1,6 +1,6 @@
 -- Definitions that only this crate uses.
-use Rattle.std.specs.Prelude.{◌≡◌, ℕ, Bool, List, [], ◌∷◌, replicate, Some, None}
-use Rattle.flat_model.specs.Machine.Event.{Event, Reply, Set_limit, Tick}
+use Rattle.std.specs.Prelude.{◌≡◌, ℕ, Bool, true, false, List, [], ◌∷◌, replicate, Some, None}
+use Rattle.flat_model.specs.Machine.Event.{Event, Reply, Open, Bind, Connect, Send, Receive, Close, Set_option, Set_limit, Comes, Transmit, Tick, Ask_counters, Ask_usage}
 use Rattle.flat_model.specs.Machine.State.{State}
 use Rattle.flat_model.specs.declared.config.Config.{Config}
 use Rattle.play_pcap.specs.Traces.{Traced}
@@ -20,6 +20,29 @@ abbrev pub events_of : Action → List Event
 events_of (Call request) = event_of request ∷ []
 events_of (Limit fd limit) = Set_limit fd limit ∷ []
 events_of (Ticks n) = replicate n Tick
+
+-- Whether a call changes neither a counter nor the pool nor a queue; `Still-counters` in proofs/StillLemmas holds it to
+-- the counters.
+abbrev pub is_still : Event → Bool
+is_still Open = true
+is_still (Bind fd address) = true
+is_still (Connect fd address) = true
+is_still (Send fd to bytes) = false
+is_still (Receive fd most) = false
+is_still (Close fd) = false
+is_still (Set_option fd option on) = true
+is_still (Set_limit fd limit) = true
+is_still (Comes packet) = false
+is_still Transmit = false
+is_still Tick = false
+is_still Ask_counters = true
+is_still Ask_usage = true
+
+-- the same for an action
+abbrev pub is_still_action : Action → Bool
+is_still_action (Call request) = is_still (event_of request)
+is_still_action (Limit fd limit) = true
+is_still_action (Ticks n) = false
 
 -- how many bytes it has, or requests
 abbrev pub most_of : Action → ℕ

@@ -2,6 +2,7 @@
 use Rattle.std.specs.Prelude.{ℕ, ◌==◌, ◌-◌, ◌&&◌, ◌||◌, Bool, true, false, List, [], ◌∷◌, ◌++◌, length, get_or, drop, take, flat_map, if◌then◌else◌, codes, bytes_eq, Option, Some, None}
 use Rattle.flat_model.specs.Machine.Count.{counter_of}
 use Rattle.flat_model.specs.Machine.Event.{Reply}
+use Rattle.flat_model.specs.Machine.State.{State}
 use Rattle.flat_model.specs.Scripts.Grammar.{words}
 use Rattle.flat_model.specs.Scripts.Texts.{reply_text}
 use Rattle.flat_model.specs.declared.counters.Counters.{Counters}
@@ -17,6 +18,10 @@ cause_text before after why =
 
 abbrev pub drops_text : Counters → Counters → List ℕ
 drops_text before after = flat_map (cause_text before after) all_causes
+
+-- the causes whose counters are higher in the later state
+abbrev pub drops_between : State → State → List ℕ
+drops_between old new = drops_text old.counters new.counters
 
 -- ---- the outcome of a line
 

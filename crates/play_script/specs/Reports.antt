@@ -14,15 +14,13 @@ use Rattle.play_text.specs.declared.form.Form.{Form}
 use Rattle.play_script.specs.Settings.{IsSet, fault_words, is_lack}
 use Rattle.play_script.specs.declared.fault.SettingFault.{SettingFault}
 use Rattle.play_script.specs.declared.fault.SettingFault.TheVariants as settings
-use Rattle.play_show.specs.Changes.{IsSnapshot}
-use Rattle.play_show.specs.declared.snapshot.Snapshot.{Snapshot}
 use Rattle.play_pcap.specs.Traces.{Traced}
 use Rattle.play_text.specs.declared.table.Table.{Table}
 use Rattle.play_script.specs.Asks.{Ask, Call, Ticks, Show, Capture, Settings, AsksFor}
 use Rattle.play_script.specs.Actions.{Does, turns_with}
 use Rattle.play_script.specs.Captures.{Captures}
 use Rattle.play_script.specs.Lines.{Reading, Nothing, TooLong, Faulty, Asks, has_text, reading_part, shifted}
-use Rattle.play_script.specs.Outcomes.{reply_line, drops_text, meets_reply}
+use Rattle.play_script.specs.Outcomes.{reply_line, drops_between, meets_reply}
 use Rattle.play_script.specs.Plays.{IsPlayed, CapturedView, captured_of}
 
 -- The state of a player: its machine, the capture of its packets, and the configuration that the machine was booted
@@ -128,13 +126,9 @@ module _ (step : State → Event → Reply → State → Type 0) where
   -- move.
   pub record IsDone (old : CapturedView) (events : List Event) (text : List ℕ) (new : CapturedView) : Type 0 where
     pub reply : Reply
-    pub before : Snapshot
-    pub after : Snapshot
     pub does : Does step old.machine events reply new.machine
     pub captured : Captures old.line old.traced (turns_with events reply) new.traced
-    pub was : IsSnapshot step old.machine before
-    pub now : IsSnapshot step new.machine after
-    pub reports : text ≡ reply_line (reply_text reply) (drops_text before.counters after.counters)
+    pub reports : text ≡ reply_line (reply_text reply) (drops_between old.machine new.machine)
 
   -- This many ticks pass, for which nothing is printed. After any tick, settings are no longer accepted.
   pub record IsWaited (ticks : ℕ) (now mid : Play) : Type 0 where

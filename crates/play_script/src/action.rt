@@ -5,7 +5,7 @@ ghost use Rattle.flat_model.specs.Machine.Event.{Done, Set_limit, Tick};
 ghost use Rattle.net_stack.specs.Stack.{state_of};
 ghost use Rattle.request.specs.Replies.{len_of, packet_behind, reply_of};
 ghost use Rattle.stack_call.specs.Moves.{StackSteps};
-ghost use Rattle.request.specs.Requests.{event_of, room_of};
+ghost use Rattle.request.specs.Requests.{event_of};
 ghost use Rattle.play_script.specs.Captures as captures;
 ghost use Rattle.play_script.specs.Actions.{Does, moved_in};
 ghost use Rattle.play_script.specs.Inside as inside;
@@ -17,7 +17,7 @@ use stack_call::call;
 
 /// The action of a line on a machine.
 #[derive(Clone, Copy)]
-pub(crate) enum Action<'a> {
+pub enum Action<'a> {
     /// One call.
     Call(Request<'a>),
     /// Setting the size of a descriptor's receive queue.
@@ -95,16 +95,6 @@ pub(crate) fn moved_by<'a>(action: &Action<'a>, reply: &Reply<'a>) -> Option<&'a
     }
 }
 
-/// Returns the packet that arrives or leaves by a call with this reply.
-pub fn moved_by_call<'a>(request: &Request<'a>, reply: &Reply<'a>) -> Option<&'a [u8]>
-    requires call { room_of request.now ≤ IP_MAX_PACKET }
-    requires reply { len_of reply.now ≤ IP_MAX_PACKET }
-    ensures packet { packet_behind result ≡ captures.moved_by (event_of request.now) (reply_of reply.now) }
-    ensures fits { IfSome result (λ p. length p.now ≤ IP_MAX_PACKET) }
-{
-    moved_by(&Action::Call(*request), reply)
-}
-
 /// Returns how many ticks an action lets pass.
 pub(crate) fn ticks_of(action: &Action<'_>) -> u32
     ensures { result ≡ inside.ticks_of action.now }
@@ -113,5 +103,28 @@ pub(crate) fn ticks_of(action: &Action<'_>) -> u32
         Action::Call(Request::Tick) => 1,
         Action::Call(_) | Action::Limit(_, _) => 0,
         Action::Ticks(count) => count,
+    }
+}
+
+/// Returns whether a call changes neither a counter nor the pool nor a queue.
+fn is_still(request: &Request<'_>) -> bool
+    ensures { result ≡ inside.is_still (event_of request.now) }
+{
+    match *request {
+        Request::Socket | Request::Bind(_, _) | Request::Connect(_, _) => true,
+        Request::SetOption(_, _, _) | Request::Counters | Request::Usage => true,
+        Request::Send(_, _, _) | Request::Receive(_, _) | Request::Close(_) => false,
+        Request::Packet(_) | Request::Transmit | Request::Tick => false,
+    }
+}
+
+/// Returns the same for an action.
+pub(crate) fn is_still_action(action: &Action<'_>) -> bool
+    ensures { result ≡ inside.is_still_action action.now }
+{
+    match *action {
+        Action::Call(request) => is_still(&request),
+        Action::Limit(_, _) => true,
+        Action::Ticks(_) => false,
     }
 }

@@ -8,7 +8,8 @@ ghost use Rattle.play_script.specs.Reports.{IsDone};
 ghost use Rattle.play_script.specs.Views.{IsSoundAsk, ask_of, plain_line};
 ghost use Rattle.stack_call.specs.Moves.{StackSteps};
 
-use crate::action::{Action, moved_by, perform, ticks_of};
+use crate::acting::act;
+use crate::action::{Action, moved_by, ticks_of};
 use crate::ask::Ask;
 use crate::capture_out::Capture;
 use crate::captured::CapturedStack;
@@ -18,7 +19,7 @@ use crate::report::Report;
 use net_stack::Stack;
 use params::{IP_MAX_PACKET, MAX_MTU};
 use play_pcap::Folder;
-use play_show::{SHOWN, Snapshot, put_changes, snapshot_of};
+use play_show::{SHOWN, Snapshot, put_changes};
 use script_loop::{Buffer, Sink};
 
 /// Writes what a line changed into a buffer, or clears it if `quiet`. Packets are copied into `buffer` to print them.
@@ -91,19 +92,9 @@ fn execute_action<T: Sink>(
         (captured_of (state_of stack.new) capture.new.trace capture.new.line) }
     ensures quiet { report.new.quiet ≡ report.old.quiet }
 {
-    let before = snapshot_of(stack);
-    let reply = perform(stack, action, buffer);
-    let after = snapshot_of(stack);
+    let reply = act(stack, action, buffer, report);
     let moved = moved_by(&action, &reply);
     capture.keep_action(moved, ticks_of(&action));
-    put_below(
-        report.quiet,
-        stack,
-        report.digits.as_mut_slice(),
-        (moved, &before, &after),
-        &mut report.below,
-    );
-    report.set_reply(&before.counters, &after.counters, &reply);
 }
 
 /// Executes a request, and reports its reply. Settings aren't executed here.

@@ -3,6 +3,7 @@
 //! dropped.
 #![tactic(auto)]
 
+mod acting;
 mod action;
 mod ask;
 mod capture_out;
@@ -27,7 +28,8 @@ mod settings;
 mod settle;
 mod ticks;
 
-pub use action::{moved_by_call, set_limit};
+pub use acting::act;
+pub use action::{Action, set_limit};
 pub use ask::Ask;
 pub use capture_out::Capture;
 pub use fault::SettingFault;

@@ -123,4 +123,13 @@ impl Report {
             bytes_of(&self.drops),
         );
     }
+    /// Sets the reply to a call for which no packet can be dropped, with no lines below it.
+    pub(crate) fn set_still(&mut self, reply: &Reply<'_>)
+        requires { len_of reply.now ≤ IP_MAX_PACKET }
+        ensures reply_line { self.new.reply_line ≡ reply_line (reply_text (reply_of reply.now)) [] }
+        ensures quiet { self.new.quiet ≡ self.old.quiet }
+    {
+        self.below.clear();
+        put_reply_line(&mut self.reply_line, self.digits.as_mut_slice(), reply, b"");
+    }
 }

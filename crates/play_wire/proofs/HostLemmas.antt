@@ -1,7 +1,8 @@
 -- The lines of one host.
-use Rattle.std.proofs.Common.{◌≡◌, ℕ, Bool, List, [], ◌∷◌, map, Some, refl, ap}
+use Rattle.std.proofs.Common.{◌≡◌, ℕ, Bool, List, [], ◌∷◌, map, Some, refl, sym, ap, subst}
 use Rattle.flat_model.specs.Amounts.Choice.{Choice}
 use Rattle.flat_model.specs.Machine.Event.{Event, Reply, Counted}
+use Rattle.flat_model.specs.Machine.State.{State}
 use Rattle.flat_model.specs.Machine.Step.{Step}
 use Rattle.flat_model.specs.Runs.Run.{Turn}
 use Rattle.flat_model.specs.Scripts.Texts.{reply_text}
@@ -9,11 +10,11 @@ use Rattle.flat_model.specs.declared.counters.Counters.{Counters}
 use Rattle.net_stack.specs.Stack.{StackView, state_of}
 use Rattle.play_script.specs.Asks.{Call, Writes}
 use Rattle.play_script.proofs.Laws.{Calls-in_range}
-use Rattle.play_show.specs.declared.snapshot.Snapshot.{Snapshot}
-use Rattle.play_script.specs.Outcomes.{reply_line, drops_text}
+use Rattle.play_script.specs.Actions.{Does}
+use Rattle.play_script.specs.Outcomes.{reply_line, drops_between}
 use Rattle.segment.specs.Law.{Calls}
 use Rattle.segment.specs.Segment.{SegmentView}
-use Rattle.play_wire.specs.Acts.{Outcome, Replied, AreLooks, IsLineExecuted, IsStackLine, call_turn}
+use Rattle.play_wire.specs.Acts.{Outcome, Replied, IsLineExecuted, IsStackLine, call_turn}
 use Rattle.play_wire.specs.Inside.{IsExchanged, IsKept}
 use Rattle.play_wire.proofs.ActLemmas.{put_back}
 
@@ -28,17 +29,17 @@ counted_is a b e = ap (λ r. counts_of r a) e
 
 -- a call with a reply, and its effects
 pub answered_by_call : (plain : List ℕ) (s t : StackView) (text below : List ℕ) (event : Event)
-    (reply : Reply) (before after : Snapshot)
-    → Writes plain (Call event) → Step (state_of s) event reply (state_of t) → AreLooks s t before after
-    → text ≡ reply_line (reply_text reply) (drops_text before.counters after.counters)
+    (reply : Reply)
+    → Writes plain (Call event) → Does Step (state_of s) (event ∷ []) reply (state_of t)
+    → text ≡ reply_line (reply_text reply) (drops_between (state_of s) (state_of t))
     → (turns : List Turn) × IsLineExecuted plain s turns (Replied text below) t
-answered_by_call plain s t text below event reply before after asks step looks is = (
+answered_by_call plain s t text below event reply asks (mid, step, end) is = (
   call_turn event reply ∷ [],
   (
     Some (Call event),
     asks,
-    (Calls-in_range plain event asks, t, step, refl),
-    (reply, before, after, refl, looks, (below, ap (λ (t : List ℕ). Replied t below) is)),
+    (Calls-in_range plain event asks, t, subst (λ (m : State). Step (state_of s) event reply m) (sym end) step, refl),
+    (reply, refl, (below, ap (λ (t : List ℕ). Replied t below) is)),
   ),
 )
 

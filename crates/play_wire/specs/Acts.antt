@@ -1,15 +1,12 @@
 -- The effects of a line on the hosts and the wire (this project's own).
 use Rattle.std.specs.Prelude.{◌≡◌, ℕ, List, [], ◌∷◌, codes, map, replicate, slice_get, slice_set, Option, Some, None}
 use Rattle.flat_model.specs.Machine.Event.{Event, Reply, Tick, Done}
-use Rattle.flat_model.specs.Machine.Step.{Step}
 use Rattle.flat_model.specs.Runs.Run.{Turn}
 use Rattle.flat_model.specs.Scripts.Texts.{reply_text}
 use Rattle.net_stack.specs.Runs.{AreCalls}
 use Rattle.net_stack.specs.Stack.{StackView, state_of}
-use Rattle.play_show.specs.Changes.{IsSnapshot}
-use Rattle.play_show.specs.declared.snapshot.Snapshot.{Snapshot}
 use Rattle.play_script.specs.Asks.{Ask, Call, Ticks, Show, Capture, Settings, AsksFor}
-use Rattle.play_script.specs.Outcomes.{reply_line, drops_text}
+use Rattle.play_script.specs.Outcomes.{reply_line, drops_between}
 use Rattle.segment.specs.Law.{Act, Calls, AreActs}
 use Rattle.segment.specs.Segment.{SegmentView}
 use Rattle.play_wire.specs.declared.fault.Fault.{Fault}
@@ -32,10 +29,6 @@ AreLedTo old new = (acts : List Act) × AreActs old acts new
 abbrev pub with_stack_at : ℕ → StackView → SegmentView → SegmentView
 with_stack_at place s v = record v { stacks = slice_set v.stacks place s }
 
--- two snapshots of a stack, before a line and after it
-abbrev pub AreLooks : StackView → StackView → Snapshot → Snapshot → Type 0
-AreLooks s t before after = IsSnapshot Step (state_of s) before × IsSnapshot Step (state_of t) after
-
 -- this reply, with some lines below it
 abbrev pub IsReplied : List ℕ → Outcome → Type 0
 IsReplied text outcome = (below : List ℕ) × (outcome ≡ Replied text below)
@@ -45,8 +38,8 @@ IsReplied text outcome = (below : List ℕ) × (outcome ≡ Replied text below)
 abbrev pub Does : Option Ask → StackView → List Turn → Outcome → StackView → Type 0
 -- The text is the reply and the causes for which packets were dropped.
 Does (Some (Call event)) s turns outcome t =
-    (reply : Reply) × (before after : Snapshot) × (turns ≡ call_turn event reply ∷ []) × AreLooks s t before after
-    × IsReplied (reply_line (reply_text reply) (drops_text before.counters after.counters)) outcome
+    (reply : Reply) × (turns ≡ call_turn event reply ∷ [])
+    × IsReplied (reply_line (reply_text reply) (drops_between (state_of s) (state_of t))) outcome
 Does (Some (Ticks n)) s turns outcome t = (turns ≡ replicate n (call_turn Tick Done)) × IsReplied (codes "ok") outcome
 -- the text isn't specified
 Does (Some (Show topic)) s turns outcome t = (text : List ℕ) × (turns ≡ []) × IsReplied text outcome

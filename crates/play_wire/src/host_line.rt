@@ -14,10 +14,9 @@ use crate::link_line::execute_link;
 use crate::spare::{Counting, Spare};
 use crate::ticks::{exchange, tick_stack};
 use net_stack::Stack;
-use play_script::{Ask, Line, Report, moved_by_call, set_limit};
+use play_script::{Action, Ask, Line, Report, act};
 use play_show::snapshot_of;
 use segment::Segment;
-use stack_call::call;
 
 /// Sets the reply `ok`, and keeps the lines below it.
 fn report_done(report: &mut Report)
@@ -47,20 +46,11 @@ fn execute_stack(
     };
     match ask {
         Ask::Call(request) => {
-            let before = snapshot_of(stack);
-            let reply = call(stack, request, buffer);
-            let after = snapshot_of(stack);
-            let moved = moved_by_call(&request, &reply);
-            report.set_below(stack, moved, (&before, &after));
-            report.set_reply(&before.counters, &after.counters, &reply);
+            act(stack, Action::Call(request), buffer, report);
             Ok(())
         }
         Ask::Limit(fd, limit) => {
-            let before = snapshot_of(stack);
-            let reply = set_limit(stack, fd, limit);
-            let after = snapshot_of(stack);
-            report.set_below(stack, None, (&before, &after));
-            report.set_reply(&before.counters, &after.counters, &reply);
+            act(stack, Action::Limit(fd, limit), buffer, report);
             Ok(())
         }
         Ask::Ticks(count) => {

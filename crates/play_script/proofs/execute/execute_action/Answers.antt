@@ -4,16 +4,12 @@ use Rattle.play_script.proofs.execute.execute_action.Goals as goal
 
 pub returns-clause-done : goal.returns-clause-done
 returns-clause-done g c =
-    let reply = reply_of c.perform-reply.result in record {
+    let reply = reply_of c.act-reply.result in record {
       reply = reply;
-      before = c.snapshot_of-before.result;
-      after = c.snapshot_of-after.result;
-      does = c.perform-reply.ensures.does;
+      does = c.act-reply.ensures.does;
       captured =
           Captures-action c.args.capture.now.line c.args.capture.now.trace c.keep_action.new.self.trace
           c.args.action reply (packet_behind c.moved_by-moved.result) c.ticks_of.result c.moved_by-moved.ensures.packet
           c.ticks_of.ensures c.keep_action.ensures.logs;
-      was = c.snapshot_of-before.ensures;
-      now = c.snapshot_of-after.ensures;
-      reports = c.set_reply.ensures.reply_line;
+      reports = c.act-reply.ensures.reply_line;
     }

@@ -17,12 +17,9 @@ unfolding StackSteps
 returns-in-Call c =
     let asked : AsksFor (plain_line c.args.line.now) (Some (asks.Call (event_of c.in-Call.request))) =
     subst (λ (a : Ask). AsksFor (plain_line c.args.line.now) (Some (ask_of a))) c.in-Call.is c.in-Some.ensures.asks in
-    let before = c.snapshot_of-before.result in
-    let after = c.snapshot_of-after.result in
-    answered_by_call (plain_line c.args.line.now) c.args.stack.now c.call-reply.new.stack
-    c.set_reply.new.self.reply_line c.set_reply.new.self.below
-    (event_of c.in-Call.request) (reply_of c.call-reply.result) before after asked c.call-reply.ensures.step
-    (c.snapshot_of-before.ensures, c.snapshot_of-after.ensures) c.set_reply.ensures.reply_line
+    answered_by_call (plain_line c.args.line.now) c.args.stack.now c.act.new.stack c.act.new.report.reply_line
+    c.act.new.report.below (event_of c.in-Call.request) (reply_of c.act.result) asked c.act.ensures.does
+    c.act.ensures.reply_line
 
 pub returns-in-Limit : goal.returns-in-Limit
 unfolding StackSteps
@@ -30,13 +27,9 @@ returns-in-Limit c =
     let event = Set_limit c.in-Limit.fd c.in-Limit.limit in
     let asked : AsksFor (plain_line c.args.line.now) (Some (asks.Call event)) =
     subst (λ (a : Ask). AsksFor (plain_line c.args.line.now) (Some (ask_of a))) c.in-Limit.is c.in-Some.ensures.asks in
-    let before = c.snapshot_of-before-in-Limit.result in
-    let after = c.snapshot_of-after-in-Limit.result in
-    answered_by_call (plain_line c.args.line.now) c.args.stack.now c.set_limit-reply.new.stack
-    c.set_reply-in-Limit.new.self.reply_line c.set_reply-in-Limit.new.self.below event
-    (reply_of c.set_limit-reply.result) before after asked c.set_limit-reply.ensures.step
-    (c.snapshot_of-before-in-Limit.ensures, c.snapshot_of-after-in-Limit.ensures)
-    c.set_reply-in-Limit.ensures.reply_line
+    answered_by_call (plain_line c.args.line.now) c.args.stack.now c.act-in-Limit.new.stack
+    c.act-in-Limit.new.report.reply_line c.act-in-Limit.new.report.below event (reply_of c.act-in-Limit.result) asked
+    c.act-in-Limit.ensures.does c.act-in-Limit.ensures.reply_line
 
 pub returns-in-Ticks : goal.returns-in-Ticks
 unfolding StackSteps
