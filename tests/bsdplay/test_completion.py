@@ -31,6 +31,15 @@ def test_bsdplay(bsdplay):
     assert "README.md" in completed(bsdplay, "why", "READ")
 
 
+def test_the_manual_page_has_the_options(bsdplay, tmp_path):
+    subprocess.run([TOP / "dist/man", tmp_path], check=True)
+    text = re.sub(r"\\f.|\\", "", (tmp_path / "bsdplay.1").read_text(encoding="utf-8"))
+    page = set(re.findall(r"--[a-z-]+", text))
+    for words in ([], ["why"]):
+        listed = set(re.findall(r"--[a-z-]+", run(bsdplay, *words, "--help").stdout.decode()))
+        assert len(listed) >= 6 and listed <= page, listed - page
+
+
 def test_values_have_the_names_of_the_page(bsdplay):
     page = (TOP / "docs/scripts.md").read_text(encoding="utf-8")
     usage = re.search(r"(?m)^    bsdplay \[--quiet\](?:.*\n)+?\n", page)[0]
