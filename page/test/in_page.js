@@ -367,10 +367,10 @@ function tryForms() {
     fault(`the forms of lines are ${forms.join("; ")}`);
   }
   open("run", { text: "sokcet\nbind 3 localhost 7\n" });
-  const row = byId("rows").children[1].textContent, advice = "localhost is no ADDR (such as 10.0.0.2): bind FD ADDR PORT";
+  const advice = "expected ADDR (such as 10.0.0.2), got localhost: bind FD ADDR PORT";
+  const row = byId("rows").children[1].textContent;
   select(1);
-  const says = byId("look").textContent;
-  const isSaid = row.replaceAll("`", "").includes(advice) && says.includes(advice);
+  const isSaid = [row, byId("look").textContent].every((it) => it.replaceAll("`", "").includes(advice));
   if (!isSaid) fault(`of a wrong line it's said: ${row}`);
   select(0);
   byId("look").querySelector(".mend .main").click();

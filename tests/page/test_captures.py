@@ -266,4 +266,7 @@ def test_the_page_says_what_why_says(name, bsdplay, stories):
     if not objects or objects[-1]["summary"]["host"] is None:
         assert script["fault"] == "no UDP datagram goes to a host"
         return
-    assert told_by_page(script) == told_by_why(objects)
+    by_page, by_why = told_by_page(script), told_by_why(objects)
+    if objects[-1]["summary"]["other_vlans"]:  # the page plays the packets of all VLANs
+        by_page = {it: by_page[it] for it in by_why}
+    assert by_page == by_why
